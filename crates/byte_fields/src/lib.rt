@@ -1,0 +1,7 @@
+//! Bytes and their fields, read from left to right: the definitions, and one reader for each kind of field.
+#![tactic(auto)]
+
+pub mod bad_field;
+pub mod fields;
+
+pub use bad_field::BadField;

@@ -1,0 +1,5 @@
+pub mod Paths
+pub mod Rising
+pub mod Texts
+pub mod Spelling
+pub mod Accepting

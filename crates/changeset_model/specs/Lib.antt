@@ -1,0 +1,4 @@
+pub mod Path
+pub mod Changeset
+pub mod Decoding
+pub mod Codes

@@ -1,0 +1,4 @@
+pub mod Cores
+pub mod Tables
+pub mod Rows
+pub mod Runs

@@ -1,0 +1,5 @@
+pub mod Clashes
+pub mod Trees
+pub mod Touched
+pub mod Chains
+pub mod Landings

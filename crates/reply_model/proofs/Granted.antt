@@ -1,0 +1,96 @@
+-- What a change makes is a stored entry, which may follow.
+use Rattle.std.proofs.Common.{◌<◌, ◌+◌, ◌≤◌, length-append, arith, ◌≡◌, ℕ, zero, suc, Bool, true, false, cond, List, [], ◌∷◌, ◌++◌, map, length, refl, sym, ap, subst, ◌∙◌}
+use Rattle.std.specs.Prelude.{◌&&◌, is_none, Option, None, Some, Result, Ok, Err, slice_get, is_some, find, bytes_eq, nat_lt, ok_or, ◌==◌, not, option_map, unwrap_or, if◌then◌else◌}
+use mathlib.Core.Bool.{true≢false}
+use Rattle.std.specs.List.{AllByRecursion}
+use Rattle.std.specs.Option.{option_and_then, option_map_or, option_eq, option_to_list}
+use Rattle.std.proofs.lemmas.List.{append-nil}
+use Rattle.std.proofs.lemmas.Bool.{and_parts, eqb-true, eqb-false}
+use Rattle.sha2.specs.Sha256.{sha256}
+use Rattle.byte_fields.specs.Bytes.{Id, first_some}
+use Rattle.changeset_model.specs.Changeset.{Changeset, id_of, sets_of, touched_paths}
+use Rattle.changeset_model.specs.Decoding.{decoded}
+use Rattle.history_model.specs.History.{Body, Content, Change, Book, Land, Fault, Entry, is_stored, unnumbered, bodies, stored, is_down, known, is_known, content_len}
+use Rattle.history_model.specs.Bookmark.{head}
+use Rattle.history_model.specs.Pushrebase.{fork, clash, rewrite}
+use Rattle.history_model.specs.Journal.{Header, payload_len, most_payload, size, is_full}
+use Rattle.reply_model.specs.Reply.{is_ask, Down, Merge, NoParent, content_refusal, collides, Collision, NoChangeset, Moved, TooLarge, first_collision, NoBookmark, NoRoot, TooFarBehind, AlreadyIn, StackTooLong, Clash, most_range, most_stack, Ask, PutContent, PutChangeset, SetBookmark, LandDraft, Refusal, Granted, ContentPut, ChangesetPut, BookmarkSet, Landed, Judged, ◌>>=◌, Full, refuse_if, refuse_some, unchanged, entered, put_content, accepted, put_changeset, set_bookmark, enter_landing, land, by_ask, judge}
+use Rattle.reply_model.specs.Legal.{MayFollow, IsLegal}
+use Rattle.manifest_model.specs.Manifests.{Job, derive}
+
+abbrev pub MakesStored : Result Judged Refusal → Type 0
+MakesStored (Ok judged) = (body : Body) → judged.made ≡ Some body → is_stored body ≡ true
+MakesStored (Err refusal) = Unit {0}
+
+record Stores (r : Result Judged Refusal) : Type 0 where
+  each : MakesStored r
+
+through : {A : Type 0} (r : Result A Refusal) (f : A → Result Judged Refusal) → ((x : A) → Stores (f x)) → Stores (r >>= f)
+through (Ok x) f all = all x
+through (Err e) f all = record { each = tt }
+
+none_made : (granted : Granted) → Stores (unchanged granted)
+none_made granted = record { each = λ body e. absurd cc }
+
+entered_stored : (header : Header) (h : List Entry) (granted : Granted) (body : Body) → is_stored body ≡ true → Stores (entered header h granted body)
+entered_stored header h granted body s =
+    through (refuse_if (is_full header h (payload_len body)) (Full (size h) (payload_len body))) (λ _. Ok (record { granted = granted; made = Some body }))
+    (λ _. record { each = λ other e. subst (λ b. is_stored b ≡ true) (ap (λ o. unwrap_or o body) e) s })
+
+either : (b : Bool) (x y : Result Judged Refusal) → Stores x → Stores y → Stores (cond b x y)
+either true x y p q = p
+either false x y p q = q
+
+put_content_stored : (header : Header) (h : List Entry) (bytes : List ℕ) → Stores (put_content header h bytes)
+put_content_stored header h bytes =
+    through _ (λ _. cond (is_some (content_len h (sha256 bytes))) (unchanged (ContentPut (sha256 bytes))) (entered header h (ContentPut (sha256 bytes)) (Content (sha256 bytes) (length bytes))))
+    (λ _. either (is_some (content_len h (sha256 bytes))) _ _ (none_made (ContentPut (sha256 bytes))) (entered_stored header h (ContentPut (sha256 bytes)) (Content (sha256 bytes) (length bytes)) refl))
+
+put_changeset_stored : (header : Header) (h : List Entry) (bytes : List ℕ) → Stores (put_changeset header h bytes)
+put_changeset_stored header h bytes =
+    through (accepted (decoded bytes)) _ (λ c.
+    through (refuse_if (nat_lt 1 (length c.parents)) Merge) _ (λ _.
+    through (refuse_some (find (λ p. not (is_known (known h) p)) c.parents) NoParent) _ (λ _.
+    through (refuse_some (first_some (λ e. content_refusal e (content_len h e.1.content)) (sets_of c)) (λ refusal. refusal)) _ (λ _.
+    through (refuse_if (collides (known h) c) (Collision (id_of c))) _ (λ _.
+    either (is_known (known h) (id_of c)) _ _ (none_made (ChangesetPut (id_of c))) (entered_stored header h (ChangesetPut (id_of c)) (Change c) refl))))))
+
+set_bookmark_stored : (header : Header) (h : List Entry) (name : List ℕ) (from to : Option Id) → Stores (set_bookmark header h name from to)
+set_bookmark_stored header h name from to =
+    through (refuse_some (find (λ x. not (is_known (known h) x)) (option_to_list to)) NoChangeset) _ (λ _.
+    through (refuse_if (not (option_eq bytes_eq (head h name) from)) (Moved (head h name))) _ (λ _.
+    either (option_eq bytes_eq from to) _ _ (none_made BookmarkSet) (entered_stored header h BookmarkSet (Book (record { name = name; from = from; to = to })) refl)))
+
+enter_landing_stored : (header : Header) (h : List Entry) (name : List ℕ) (old draft : Id) (new : List Changeset) → Stores (enter_landing header h name old draft new)
+enter_landing_stored header h name old draft new =
+    let body : Body = Land (record { name = name; old = old; draft = draft; new = new }) in
+    through (refuse_if (nat_lt most_payload (payload_len body)) (TooLarge (payload_len body))) _ (λ _.
+    through (refuse_some (first_collision (known h) new) Collision) _ (λ _.
+    entered_stored header h (Landed old (map id_of new)) body refl))
+
+land_stored : (header : Header) (h : List Entry) (name : List ℕ) (draft : Id) → Stores (land header h name draft)
+land_stored header h name draft =
+    through (ok_or (head h name) NoBookmark) _ (λ old.
+    through (refuse_if (not (is_known (known h) draft)) (NoChangeset draft)) _ (λ _.
+    through (ok_or (fork (known h) old draft) NoRoot) _ (λ f.
+    through (refuse_if (nat_lt most_range (length f.range)) (TooFarBehind (length f.range))) _ (λ _.
+    through (refuse_if (length f.stack == 0) AlreadyIn) _ (λ _.
+    through (refuse_if (nat_lt most_stack (length f.stack)) (StackTooLong (length f.stack))) _ (λ _.
+    through (refuse_some (clash (touched_paths f.stack) (touched_paths f.range)) (λ pair. Clash pair.0 pair.1)) _ (λ _.
+    enter_landing_stored header h name old draft (rewrite f.stack old))))))))
+
+by_ask_stored : (header : Header) (h : List Entry) (ask : Ask) → Stores (by_ask header h ask)
+by_ask_stored header h (PutContent bytes) = put_content_stored header h bytes
+by_ask_stored header h (PutChangeset bytes) = put_changeset_stored header h bytes
+by_ask_stored header h (SetBookmark name from to) = set_bookmark_stored header h name from to
+by_ask_stored header h (LandDraft name draft) = land_stored header h name draft
+
+pub judge_stored : (header : Header) (h : List Entry) (ask : Ask) → MakesStored (judge header h ask)
+judge_stored header h ask = (through (refuse_if (is_down h) Down) _ (λ _. by_ask_stored header h ask)).each
+
+pub follows_granted : (header : Header) (h : List Entry) (ask : Ask) (granted : Granted) (body : Body) → is_ask ask ≡ true → is_stored body ≡ true → judge header h ask ≡ Ok (record { granted = granted; made = Some body }) → MayFollow header h body
+follows_granted header h ask granted (Fault breaking) a s e = absurd (true≢false (sym s))
+follows_granted header h ask granted (Content x n) a s e = (ask, granted, a, e)
+follows_granted header h ask granted (Change c) a s e = (ask, granted, a, e)
+follows_granted header h ask granted (Book move) a s e = (ask, granted, a, e)
+follows_granted header h ask granted (Land landing) a s e = (ask, granted, a, e)

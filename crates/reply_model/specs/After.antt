@@ -1,0 +1,113 @@
+-- What a seat knows after a call. A seat's front is the history that it has seen.
+--     Made      what a call made: an entry, or a fault, or nothing
+--     Answers header h call answer made      the call may be answered so at h, if it makes this there
+--     Grows old who before made new      the front before a call and after it, and the history between at which the call is answered
+--     After header old who call answer new      the front before a call that is answered so, and after it
+use Rattle.std.specs.Prelude.{Contains, ◌≡◌, ◌≢◌, ℕ, ◌==◌, Bool, true, false, IsTrue, IsSome, List, [], ◌++◌, map, filter, Option, None, Some, option_map, option_to_list, Ok, Err}
+use mathlib.Core.List.{IsPrefix}
+use Rattle.sha2.specs.Sha256.{sha256}
+use Rattle.byte_fields.specs.Bytes.{Id}
+use Rattle.history_model.specs.History.{Body, Fault, Entry, entries_by, known, is_known, content_len}
+use Rattle.history_model.specs.Chain.{line}
+use Rattle.history_model.specs.Journal.{Header}
+use Rattle.reply_model.specs.Reply.{Ask, Refusal, Granted, judge, Question, HeadOf, ContentOf, ChangesetOf, LogFrom, FsnodeOf, UnodeOf, HistoryOf, Seen, Absent, AbsentChangeset, Sees}
+use Rattle.history_model.specs.Tree.{files_of}
+use Rattle.manifest_model.specs.Fsnode.{fsnode, fsnode_id}
+use Rattle.manifest_model.specs.Unode.{unode, unode_id}
+use Rattle.manifest_model.specs.Manifests.{nodes_of}
+
+pub data Call : Type 0 where
+  -- a change, a read, and a request to derive a changeset's manifests
+  Asks : Ask → Call
+  Looks : Question → Call
+  Derives : (id : Id) → Call
+
+pub data Answer : Type 0 where
+  Grants : Granted → Answer
+  Refuses : Refusal → Answer
+  Shows : Seen → Answer
+  Lacks : Absent → Answer
+  -- the ids of a changeset's root fsnode and root unode
+  Roots : (fsnode unode : Id) → Answer
+  DiskFault : Answer
+  ReadFault : Answer
+  -- a content's bytes on the disk have another id than is wanted
+  BadBytes : (wanted found : Id) → Answer
+  -- two different nodes have this id
+  NodeCollision : (id : Id) → Answer
+  Memory : Answer
+
+-- a node of a known changeset
+abbrev pub IsNode : List Entry → List ℕ → Type 0
+IsNode h bytes = (x : Id) × IsTrue (is_known (known h) x) × Contains (nodes_of (known h) x) bytes
+
+abbrev pub NodesCollide : List Entry → Id → Type 0
+NodesCollide h x = (a b : List ℕ) × IsNode h a × IsNode h b × (a ≢ b) × (sha256 a ≡ x) × (sha256 b ≡ x)
+
+abbrev pub AsksManifest : Question → Type 0
+AsksManifest (HeadOf name) = ⊥
+AsksManifest (ContentOf x) = ⊥
+AsksManifest (ChangesetOf x) = ⊥
+AsksManifest (LogFrom n) = ⊥
+AsksManifest (FsnodeOf x d) = Unit {0}
+AsksManifest (UnodeOf x p) = Unit {0}
+AsksManifest (HistoryOf x p) = Unit {0}
+
+abbrev pub ReadsManifest : Call → Type 0
+ReadsManifest (Asks ask) = ⊥
+ReadsManifest (Looks question) = AsksManifest question
+ReadsManifest (Derives x) = Unit {0}
+
+-- the entry that a call made, and the fault that it met, breaking or not
+pub record Made : Type 0 where
+  pub entry : Option Body
+  pub fault : Option Bool
+
+abbrev pub nothing : Made
+nothing = record { entry = None; fault = None }
+
+abbrev pub only_fault : Bool → Made
+only_fault breaking = record { entry = None; fault = Some breaking }
+
+abbrev pub Answers : Header → List Entry → Call → Answer → Made → Type 0
+-- the answers of the repository of one thread
+Answers header h (Asks ask) (Grants granted) made = (made.fault ≡ None) × (judge header h ask ≡ Ok (record { granted = granted; made = made.entry }))
+Answers header h (Asks ask) (Refuses refusal) made = (made ≡ nothing) × (judge header h ask ≡ Err refusal)
+Answers header h (Looks question) (Shows seen) made = (made ≡ nothing) × Sees h question (Ok seen)
+Answers header h (Looks question) (Lacks absent) made = (made ≡ nothing) × Sees h question (Err absent)
+Answers header h (Derives x) (Roots fs un) made =
+    (made ≡ nothing) × IsTrue (is_known (known h) x) × (fs ≡ fsnode_id (fsnode (files_of (known h) x) [])) × (un ≡ unode_id (unode (line (known h) x) []))
+Answers header h (Derives x) (Lacks absent) made = (made ≡ nothing) × (absent ≡ AbsentChangeset x) × (is_known (known h) x ≡ false)
+-- the disk failed: a change that would have made an entry met a breaking fault, and the read of a known content another fault
+Answers header h (Asks ask) DiskFault made = (made ≡ only_fault true) × (granted : Granted) × (body : Body) × (judge header h ask ≡ Ok (record { granted = granted; made = Some body }))
+Answers header h (Looks (ContentOf x)) ReadFault made = (made ≡ only_fault false) × IsSome (content_len h x)
+-- the disk gave other bytes
+Answers header h (Looks (ContentOf x)) (BadBytes wanted found) made = (made ≡ nothing) × IsSome (content_len h x) × (wanted ≡ x) × (found ≢ x)
+-- want of memory
+Answers header h call Memory made = made ≡ nothing
+-- manifests whose nodes can't be told apart
+Answers header h call (NodeCollision x) made = (made ≡ nothing) × ReadsManifest call × NodesCollide h x
+-- no other answer is given
+Answers _ _ _ _ _ = ⊥
+
+-- ---- fronts
+
+abbrev pub entry_by : ℕ → Body → Entry
+entry_by who body = record { who = who; body = body }
+
+-- the call's entry and then its fault
+abbrev pub entries_of : ℕ → Made → List Entry
+entries_of who made = map (entry_by who) (option_to_list made.entry ++ option_to_list (option_map Fault made.fault))
+
+-- The new front is a history that the old front begins, in which the seat made at most one entry more: first the history before it, in which the seat made no other, and then the entry, or the fault.
+pub record Grows (old : List Entry) (who : ℕ) (before : List Entry) (made : Made) (new : List Entry) : Type 0 where
+  pub begins : IsPrefix old before
+  pub own : entries_by who before ≡ entries_by who old
+  pub new_is : new ≡ before ++ entries_of who made
+
+-- the answer is one at some history on the way from the old front to the new one
+pub record After (header : Header) (old : List Entry) (who : ℕ) (call : Call) (answer : Answer) (new : List Entry) : Type 0 where
+  pub before : List Entry
+  pub made : Made
+  pub grows : Grows old who before made new
+  pub answers : Answers header before call answer made

@@ -1,0 +1,4 @@
+pub mod Reply
+pub mod Legal
+pub mod Opening
+pub mod After
