@@ -1,0 +1,6 @@
+//! Ids of contents and changesets: the SHA-256 of their bytes, and its hex text.
+#![tactic(auto)]
+
+pub mod id;
+
+pub use id::{BadHex, Id};
