@@ -1,0 +1,5 @@
+//! A call that the outside world let down.
+
+/// The call failed, and its object's count of faults rose.
+#[derive(Clone, Copy, Debug, PartialEq, Eq)]
+pub struct Failed;
