@@ -1,6 +1,8 @@
 -- Facts about the elements of any list.
-use Rattle.std.proofs.Common.{◌≡◌, ℕ, ◌<◌, ◌≤◌, suc, List, [], ◌∷◌, ◌++◌, arith, refl}
-use Rattle.std.specs.Prelude.{Contains}
+use Rattle.std.proofs.Common.{◌≡◌, ℕ, ◌<◌, ◌≤◌, suc, List, [], ◌∷◌, ◌++◌, arith, refl, sym, ap, ◌∙◌}
+use Rattle.std.specs.Prelude.{Contains, Option, None, Some}
+use Rattle.std.specs.Option.{option_or}
+use Rattle.byte_fields.specs.Bytes.{first_some}
 use Rattle.std.specs.List.{AllByRecursion}
 use Rattle.std.proofs.lemmas.List.Elements.{All-from_recursion, All-contains}
 
@@ -24,3 +26,15 @@ all_push P (y ∷ xs) x all h = (all.0, all_push P xs x all.1 h)
 pub both_parts : {X : Type 0} (P : X → Type 0) (xs ys : List X) → AllByRecursion P (xs ++ ys) → AllByRecursion P xs × AllByRecursion P ys
 both_parts P [] ys all = (tt, all)
 both_parts P (x ∷ xs) ys all = let rest = both_parts P xs ys all.1 in ((all.0, rest.0), rest.1)
+
+pub option_or-assoc : {X : Type 0} (a b c : Option X) → option_or (option_or a b) c ≡ option_or a (option_or b c)
+option_or-assoc None b c = refl
+option_or-assoc (Some x) b c = refl
+
+pub option_or-None : {X : Type 0} (a : Option X) → option_or a None ≡ a
+option_or-None None = refl
+option_or-None (Some x) = refl
+
+pub first_some-append : {X Y : Type 0} (f : X → Option Y) (xs ys : List X) → first_some f (xs ++ ys) ≡ option_or (first_some f xs) (first_some f ys)
+first_some-append f [] ys = refl
+first_some-append f (x ∷ xs) ys = ap (option_or (f x)) (first_some-append f xs ys) ∙ sym (option_or-assoc (f x) (first_some f xs) (first_some f ys))

@@ -6,3 +6,4 @@ pub mod Pushrebase
 pub mod Journal
 pub mod Codes
 pub mod Payload
+pub mod Repository

@@ -1,6 +1,7 @@
 -- What a seat knows after a call. A seat's front is the history that it has seen.
 --     Made      what a call made: an entry, or a fault, or nothing
 --     Answers header h call answer made      the call may be answered so at h, if it makes this there
+--     Replies header h who call answer new      the repository of one thread answers the call so at h, and then has the history new
 --     Grows old who before made new      the front before a call and after it, and the history between at which the call is answered
 --     After header old who call answer new      the front before a call that is answered so, and after it
 use Rattle.std.specs.Prelude.{Contains, ◌≡◌, ◌≢◌, ℕ, ◌==◌, Bool, true, false, IsTrue, IsSome, List, [], ◌++◌, map, filter, Option, None, Some, option_map, option_to_list, Ok, Err}
@@ -98,6 +99,12 @@ entry_by who body = record { who = who; body = body }
 -- the call's entry and then its fault
 abbrev pub entries_of : ℕ → Made → List Entry
 entries_of who made = map (entry_by who) (option_to_list made.entry ++ option_to_list (option_map Fault made.fault))
+
+-- at h itself
+pub record Replies (header : Header) (h : List Entry) (who : ℕ) (call : Call) (answer : Answer) (new : List Entry) : Type 0 where
+  pub made : Made
+  pub answers : Answers header h call answer made
+  pub new_is : new ≡ h ++ entries_of who made
 
 -- The new front is a history that the old front begins, in which the seat made at most one entry more: first the history before it, in which the seat made no other, and then the entry, or the fault.
 pub record Grows (old : List Entry) (who : ℕ) (before : List Entry) (made : Made) (new : List Entry) : Type 0 where

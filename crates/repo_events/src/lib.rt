@@ -1,0 +1,7 @@
+//! The entries of a history, and the records of a journal that stand for them.
+//! A record holds an entry's payload: one payload for each entry that is stored.
+#![tactic(auto)]
+
+pub mod body;
+
+pub use body::{Body, Entry};
