@@ -1,7 +1,7 @@
 -- The requests of a stream, and how its session ends.
 --     Takes bytes requests rest      the bytes are these requests, none of which ends the session, and then the rest, but for empty lines before it
 --     Requests bytes requests end      the requests that a session takes from these bytes, and how it ends
-use Rattle.std.specs.Prelude.{◌≡◌, ℕ, ◌<◌, ◌≤◌, Bool, true, false, List, [], ◌∷◌, ◌++◌, length}
+use Rattle.std.specs.Prelude.{◌≡◌, ℕ, ◌<◌, ◌≤◌, true, false, List, [], ◌∷◌, ◌++◌, length}
 use Rattle.http_model.specs.declared.refusal.Refusal.{Refusal}
 use Rattle.http_model.specs.Refusals.{status_of}
 use Rattle.http_model.specs.Stream.{Request, Next, Whole, Partial, Refuses, skip_blank, Begins}
