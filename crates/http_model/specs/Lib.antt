@@ -1,0 +1,4 @@
+pub mod Refusals
+pub mod Head
+pub mod Stream
+pub mod Session
