@@ -12,3 +12,6 @@ pub use book_name::{BookName, NameFault};
 pub use element::is_element;
 pub use path::RepoPath;
 pub use path_fault::PathFault;
+
+#[cfg(test)]
+mod tests;
