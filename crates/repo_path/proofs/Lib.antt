@@ -1,0 +1,7 @@
+pub mod Elements
+pub mod Faults
+pub mod Fronts
+pub mod Names
+pub mod Order
+pub mod Under
+pub mod Utf8

@@ -1,0 +1,17 @@
+//! Paths of a repository and names of bookmarks: texts that keep their rules from the moment they are parsed, compared
+//! where they lie.
+#![tactic(auto)]
+
+pub mod book_name;
+pub mod element;
+pub mod path;
+pub mod path_fault;
+mod path_text;
+
+pub use book_name::{BookName, NameFault};
+pub use element::is_element;
+pub use path::RepoPath;
+pub use path_fault::PathFault;
+
+#[cfg(test)]
+mod tests;

@@ -1,0 +1,25 @@
+//! What is wrong with a text that is no path.
+ghost use Rattle.std.specs.Prelude.{◌≡◌};
+ghost use Rattle.repo_path.specs.declared.path_fault.PathFault.TheVariants.{Memory};
+
+use std::alloc::AllocError;
+
+/// Why a text gave no path.
+#[derive(Clone, Copy, Debug, PartialEq, Eq)]
+pub enum PathFault {
+    /// The text is no path.
+    BadPath {
+        /// 4,096 where the text is longer than that, else the place of the first element that breaks the rules of one.
+        at: usize,
+    },
+    /// Memory ran out.
+    Memory,
+}
+
+impl From<AllocError> for PathFault {
+    ghost from_gives = { λ _ e. e ≡ Memory };
+
+    fn from(_e: AllocError) -> PathFault {
+        PathFault::Memory
+    }
+}
