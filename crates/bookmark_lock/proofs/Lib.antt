@@ -1,0 +1,8 @@
+pub mod Entries
+pub mod Fronts
+pub mod Members
+pub mod Rosters
+pub mod Leads
+pub mod Moves
+pub mod Entering
+pub mod Leading

@@ -1,0 +1,54 @@
+-- A seat among all those of its lock, and what each step makes of it.
+use Rattle.std.specs.Prelude.{ℕ, ◌+◌, ◌-◌, Bool, true, false, List, [], ◌∷◌, Option, None, Some}
+use Rattle.history_model.specs.History.{Entry}
+use Rattle.turn_history.specs.Opening.{Opening}
+use Rattle.bookmark_lock.specs.Place.{Post, longer}
+
+-- what the lead and another seat knew when the lead joined that one
+pub record Meeting : Type 0 where
+  pub lead : Post
+  pub other : Post
+
+-- spent: the lead has joined it. drawn: how many numbers it has drawn. met: the join whose facts it has still to learn
+pub record Member : Type 0 where
+  pub spent : Bool
+  pub post : Post
+  pub drawn : ℕ
+  pub met : Option Meeting
+
+abbrev pub lead_member : List Entry → Opening → Member
+lead_member history opening = record { spent = false; post = record { number = 0; front = history; opening = opening; split = 0; out = 0; joined = [] }; drawn = 0; met = None }
+
+abbrev pub seen : Member → List Entry → Member
+seen m front = record m { post = record m.post { front = front }; met = None }
+
+-- the lead draws a number
+abbrev pub drawing : Member → Member
+drawing m = record m { drawn = m.drawn + 1 }
+
+-- the lead gives it to a new seat
+abbrev pub forking : Member → Member
+forking m = record m { post = record m.post { split = m.post.split + 1; out = m.post.out + 1 } }
+
+abbrev pub fork_of : Member → Member
+fork_of m =
+    record { spent = false; post = record { number = m.post.split + 1; front = m.post.front; opening = m.post.opening; split = 0; out = 0; joined = [] }; drawn = 0; met = None }
+
+-- the lead takes in another seat
+abbrev pub merge_post : Post → Post → Post
+merge_post p q = record p { front = longer p.front q.front; out = p.out - 1; joined = q.number ∷ p.joined }
+
+abbrev pub merging : Member → Member → Member
+merging m n = record m { post = merge_post m.post n.post; met = Some record { lead = m.post; other = n.post } }
+
+-- the lead has learned what the join tells
+abbrev pub settling : Member → Member
+settling m = record m { met = None }
+
+abbrev pub spent_member : Member
+spent_member = record {
+  spent = true;
+  post = record { number = 0; front = []; opening = record { header = record { capacity = 0 }; moment = 0; length = 0; faults = 0; quiet = None; honest = false }; split = 0; out = 0; joined = [] };
+  drawn = 0;
+  met = None;
+}

@@ -1,0 +1,139 @@
+//! The steps of a turn, and those of the lead.
+ghost use Rattle.std.specs.Prelude.{◌≡◌, ◌+◌, ◌<◌, ◌^◌, ◌≤◌, false, true, None, Some, [], ◌∷◌, All, MatchBool, MatchOption, if◌then◌else◌};
+ghost use Rattle.history_model.specs.History.{Entry};
+ghost use Rattle.bookmark_lock.specs.Fronts.{HasJoined};
+ghost use Rattle.bookmark_lock.specs.Members.{Meeting, seen, drawing, forking, fork_of, merging, settling};
+ghost use Rattle.bookmark_lock.specs.Turns.{Finds, Took, Gives, Ended, view_of};
+ghost use Rattle.bookmark_lock.specs.Seated.{IsIdle, IsBoard};
+
+use crate::plays::{Count, Draw, Fork, Free, Merge, Settle, Take, Turns};
+use crate::seat::Inner;
+use crate::view::View;
+use atomic_table::{Shared, Table};
+use std::alloc::Global;
+use std::snapshot::Snapshot;
+use std::sync::Wait;
+use turn_history::Recorded;
+
+pub(crate) type Home<T> = Table<Option<T>, View, Snapshot<T>, Turns<T>, Global>;
+
+pub(crate) type Board<T> = Shared<Option<T>, View, Snapshot<T>, Turns<T>>;
+
+const TURN: usize = 0;
+
+const COUNT: usize = 1;
+
+const NEXT: usize = 2;
+
+// One try for the turn.
+fn try_take<T: Recorded>(board: &Board<T>, seat: &mut Inner<T>) -> bool
+    requires place { (seat.old.table_id ≡ board.now.table_id) × IsBoard board.now.table_id }
+    requires idle { IsIdle seat.old.me }
+    ensures place { seat.new.table_id ≡ seat.old.table_id }
+    ensures seat { MatchBool result (Took T.history T.opening seat.old.me seat.new.me) (seat.new.me ≡ seat.old.me) }
+{
+    board.compare_exchange::<Take<T>>(seat, TURN, 0, 1) == 0
+}
+
+// Waits for the turn, and takes the value out of its slot.
+pub(crate) fn take<T: Recorded, R: Wait>(rt: &R, board: &Board<T>, seat: &mut Inner<T>) -> T
+    requires place { (seat.old.table_id ≡ board.now.table_id) × IsBoard board.now.table_id }
+    requires idle { IsIdle seat.old.me }
+    ensures place { seat.new.table_id ≡ seat.old.table_id }
+    ensures value { Finds T.history T.opening seat.old.me.0.member.post result }
+    ensures seat { seat.new.me ≡ (view_of seat.old.me.0.member (Some (T.history result)), (0, None) ∷ []) }
+{
+    for _ in rt.forever() {
+        if try_take(board, seat) {
+            return board.exchange(seat, 0, None).unwrap();
+        }
+        board.park(rt, TURN, 1);
+    }
+    unreachable!()
+}
+
+fn step_of(added: bool) -> u64
+    ensures { result ≡ (if added then 1 else 0) }
+{
+    if added { 1 } else { 0 }
+}
+
+// The value goes home, the entry is counted, and the turn is free.
+pub(crate) fn give<T: Recorded>(board: &Board<T>, seat: &mut Inner<T>, value: T, added: bool)
+    requires place { (seat.old.table_id ≡ board.now.table_id) × IsBoard board.now.table_id }
+    requires lives { seat.old.me.0.member.spent ≡ false }
+    requires turn { Gives T.history T.opening seat.old.me value added }
+    ensures place { seat.new.table_id ≡ seat.old.table_id }
+    ensures seat { seat.new.me ≡ (view_of (seen seat.old.me.0.member (T.history value)) None, []) }
+{
+    let slot = board.exchange(seat, 0, Some(value));
+    let None = slot else { unreachable!() };
+    board.fetch_add::<Count<T>>(seat, COUNT, step_of(added));
+    board.store::<Free>(seat, TURN, 0);
+    board.wake_one(TURN);
+}
+
+// The lead draws the next number, which no entry that it has seen has.
+pub(crate) fn draw<T: Recorded>(board: &Board<T>, seat: &mut Inner<T>) -> u64
+    requires place { (seat.old.table_id ≡ board.now.table_id) × IsBoard board.now.table_id }
+    requires idle { IsIdle seat.old.me }
+    requires leads { seat.old.me.0.member.post.number ≡ 0 }
+    requires even { seat.old.me.0.member.drawn ≡ seat.old.me.0.member.post.split }
+    requires room { seat.old.me.0.member.post.split < 2 ^ 63 }
+    ensures place { seat.new.table_id ≡ seat.old.table_id }
+    ensures seat { seat.new.me ≡ (view_of (drawing seat.old.me.0.member) None, []) }
+    ensures number { result ≡ seat.old.me.0.member.post.split + 1 }
+    ensures unused { All (λ (e : Entry). e.who < result) seat.old.me.0.member.post.front }
+{
+    board.fetch_add::<Draw>(seat, NEXT, 1)
+}
+
+// A new seat has the number that was drawn.
+pub(crate) fn fork<T: Recorded>(board: &Board<T>, seat: &mut Inner<T>) -> Inner<T>
+    requires place { (seat.old.table_id ≡ board.now.table_id) × IsBoard board.now.table_id }
+    requires idle { IsIdle seat.old.me }
+    requires leads { seat.old.me.0.member.post.number ≡ 0 }
+    requires drawn { seat.old.me.0.member.drawn ≡ seat.old.me.0.member.post.split + 1 }
+    ensures place { (seat.new.table_id ≡ seat.old.table_id) × (result.table_id ≡ seat.old.table_id) }
+    ensures seat { seat.new.me ≡ (view_of (forking seat.old.me.0.member) None, []) }
+    ensures new { result.me ≡ (view_of (fork_of seat.old.me.0.member) None, []) }
+{
+    board.split_seat::<Fork>(seat)
+}
+
+// The lead takes in another seat.
+pub(crate) fn merge<T: Recorded>(board: &Board<T>, seat: &mut Inner<T>, other: Inner<T>)
+    requires place { (seat.old.table_id ≡ board.now.table_id) × (other.table_id ≡ board.now.table_id) × IsBoard board.now.table_id }
+    requires idle { IsIdle seat.old.me × IsIdle other.me }
+    requires leads { seat.old.me.0.member.post.number ≡ 0 }
+    ensures place { seat.new.table_id ≡ seat.old.table_id }
+    ensures seat { seat.new.me ≡ (view_of (merging seat.old.me.0.member other.me.0.member) None, []) }
+{
+    board.join_seat::<Merge>(seat, other);
+}
+
+// The lead learns what its last join tells.
+pub(crate) fn settle<T: Recorded>(board: &Board<T>, seat: &mut Inner<T>)
+    requires place { (seat.old.table_id ≡ board.now.table_id) × IsBoard board.now.table_id }
+    requires idle { IsIdle seat.old.me }
+    requires leads { seat.old.me.0.member.post.number ≡ 0 }
+    ensures place { seat.new.table_id ≡ seat.old.table_id }
+    ensures seat { seat.new.me ≡ (view_of (settling seat.old.me.0.member) None, []) }
+    ensures joined { MatchOption seat.old.me.0.member.met (Unit {0}) (λ (x : Meeting). HasJoined x.lead x.other seat.old.me.0.member.post.front) }
+{
+    board.load::<Settle>(seat, TURN);
+}
+
+// The value, once the lead has taken in every seat.
+pub(crate) fn shut<T: Recorded>(table: Home<T>, seat: Inner<T>) -> T
+    requires place { (seat.table_id ≡ table.shared.table_id) × IsBoard table.shared.table_id }
+    requires idle { IsIdle seat.me }
+    requires leads { seat.me.0.member.post.number ≡ 0 }
+    requires alone { seat.me.0.member.post.out ≡ 0 }
+    ensures { Ended T.history T.opening seat.me.0.member.post (T.opening table.shared.key.value) result }
+{
+    let mut closed = table.close_with(seat);
+    let slot = closed.take(0);
+    closed.free();
+    slot.unwrap()
+}
