@@ -1,0 +1,7 @@
+//! The definitions of a session: what a request asks the repository for, the text of each response,
+//! and what bytes go out for the bytes that came in.
+#![tactic(auto)]
+
+pub mod status;
+
+pub use status::Status;
