@@ -1,0 +1,8 @@
+//! Cuts a stream of HTTP/1.1 into its requests: bytes go in, in pieces of any size, and whole requests come out.
+//! The requests are those that `http_model` defines, however the stream was cut.
+#![tactic(auto)]
+
+
+
+
+mod texts;
