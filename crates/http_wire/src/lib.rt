@@ -2,7 +2,6 @@
 //! The requests are those that `http_model` defines, however the stream was cut.
 #![tactic(auto)]
 
-
-
-
+mod connection;
+mod header_fields;
 mod texts;
