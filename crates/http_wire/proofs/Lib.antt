@@ -1,3 +1,4 @@
 pub mod TextLemmas
 pub mod ElementLemmas
 pub mod HeaderLemmas
+pub mod HeadLemmas

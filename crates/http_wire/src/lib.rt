@@ -3,5 +3,6 @@
 #![tactic(auto)]
 
 mod connection;
+mod head;
 mod header_fields;
 mod texts;
