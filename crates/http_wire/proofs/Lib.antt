@@ -2,3 +2,4 @@ pub mod TextLemmas
 pub mod ElementLemmas
 pub mod HeaderLemmas
 pub mod HeadLemmas
+pub mod StandingLemmas

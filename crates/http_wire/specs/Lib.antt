@@ -1,2 +1,4 @@
 pub mod Lengths
 pub mod Judging
+pub mod FirstThing
+pub mod Seen

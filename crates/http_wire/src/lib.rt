@@ -3,6 +3,12 @@
 #![tactic(auto)]
 
 mod connection;
+mod cutting;
 mod head;
 mod header_fields;
+mod request;
+mod standing;
 mod texts;
+
+pub use http_model::Refusal;
+pub use request::{Request, Version};
