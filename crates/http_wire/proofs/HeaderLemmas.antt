@@ -1,8 +1,7 @@
 -- Headers one after another.
-use Rattle.std.proofs.Common.{◌≡◌, ℕ, zero, suc, ◌+◌, ◌<◌, ◌≤◌, Bool, true, false, cond, refl, List, [], ◌∷◌, ◌++◌, length, get_or, take, drop, map, sym, ap, ◌∙◌, arith, Option, None, Some, Bor}
+use Rattle.std.proofs.Common.{◌≡◌, ℕ, zero, suc, ◌+◌, ◌<◌, Bool, true, false, refl, List, [], ◌∷◌, ◌++◌, length, get_or, take, drop, map, sym, ap, ◌∙◌, arith}
 use Rattle.std.specs.Prelude.{filter, ◌||◌}
 use Rattle.std.specs.List.{list_any}
-use Rattle.std.specs.Option.{is_some}
 use Rattle.std.proofs.lemmas.Bool.{cond-true, cond-false}
 use Rattle.std.proofs.lemmas.List.{take_more, take-append-drop, map-append}
 use Rattle.std.proofs.lemmas.List.Elements.{filter-append}
@@ -34,7 +33,7 @@ pub values_more : {X : Type 0} (name : List ℕ) (f : X → Header) (xs : List X
     → values_of name (map f (take (i + 1) xs)) ≡ values_of name (map f (take i xs)) ++ (f (get_or xs i d)).1 ∷ []
 values_more name f xs i d inside named =
     ap (values_of name) (next_one f xs i d inside) ∙ values-append name (map f (take i xs)) (f (get_or xs i d) ∷ [])
-        ∙ ap (λ vs. values_of name (map f (take i xs)) ++ vs) (one_named name (f (get_or xs i d)) named)
+    ∙ ap (λ vs. values_of name (map f (take i xs)) ++ vs) (one_named name (f (get_or xs i d)) named)
 
 pub values_first : {X : Type 0} (name : List ℕ) (f : X → Header) (xs : List X) (i : ℕ) (d : X) → i < length xs → is_named name (f (get_or xs i d)) ≡ true
     → values_of name (map f (take i xs)) ≡ [] → values_of name (map f (take (i + 1) xs)) ≡ (f (get_or xs i d)).1 ∷ []
@@ -48,7 +47,7 @@ pub values_same : {X : Type 0} (name : List ℕ) (f : X → Header) (xs : List X
     → values_of name (map f (take (i + 1) xs)) ≡ values_of name (map f (take i xs))
 values_same name f xs i d inside other =
     ap (values_of name) (next_one f xs i d inside) ∙ values-append name (map f (take i xs)) (f (get_or xs i d) ∷ [])
-        ∙ ap (λ vs. values_of name (map f (take i xs)) ++ vs) (one_other name (f (get_or xs i d)) other) ∙ append_none _
+    ∙ ap (λ vs. values_of name (map f (take i xs)) ++ vs) (one_other name (f (get_or xs i d)) other) ∙ append_none _
 
 -- a value that passes, of a header of this name
 pub any_value_at : {X : Type 0} (p : List ℕ → Bool) (name : List ℕ) (f : X → Header) (xs : List X) (i : ℕ) (d : X) → i < length xs → is_named name (f (get_or xs i d)) ≡ true
@@ -56,13 +55,13 @@ pub any_value_at : {X : Type 0} (p : List ℕ → Bool) (name : List ℕ) (f : X
 any_value_at p name f [] i d inside named passes = absurd (omega arith)
 any_value_at p name f (x ∷ xs) zero d inside named passes =
     ap (list_any p) (values-append name (f x ∷ []) (map f xs)) ∙ ap (λ vs. list_any p (vs ++ values_of name (map f xs))) (one_named name (f x) named)
-        ∙ ap (λ b. b || list_any p (values_of name (map f xs))) passes
+    ∙ ap (λ b. b || list_any p (values_of name (map f xs))) passes
 any_value_at p name f (x ∷ xs) (suc i) d inside named passes = by_test (is_named name (f x)) refl (any_value_at p name f xs i d (omega arith) named passes)
   where
     by_test : (t : Bool) → is_named name (f x) ≡ t → list_any p (values_of name (map f xs)) ≡ true → list_any p (values_of name (f x ∷ map f xs)) ≡ true
     by_test true is later =
         ap (list_any p) (values-append name (f x ∷ []) (map f xs)) ∙ ap (λ vs. list_any p (vs ++ values_of name (map f xs))) (one_named name (f x) is)
-            ∙ ap (λ b. p (f x).1 || b) later ∙ or_true (p (f x).1)
+        ∙ ap (λ b. p (f x).1 || b) later ∙ or_true (p (f x).1)
     by_test false other later =
         ap (list_any p) (values-append name (f x ∷ []) (map f xs)) ∙ ap (λ vs. list_any p (vs ++ values_of name (map f xs))) (one_other name (f x) other) ∙ later
 
@@ -71,7 +70,7 @@ pub second_value : {X : Type 0} (name : List ℕ) (f : X → Header) (xs : List 
     → values_of name (map f (take i xs)) ≡ text ∷ [] → are_one_length (values_of name (map f xs)) ≡ false
 second_value name f xs i d text inside named before =
     let all : values_of name (map f xs) ≡ values_of name (map f (take (i + 1) xs)) ++ values_of name (map f (drop (i + 1) xs)) =
-        ap (λ ys. values_of name (map f ys)) (sym (take-append-drop (i + 1) xs)) ∙ ap (values_of name) (map-append f (take (i + 1) xs) (drop (i + 1) xs))
-            ∙ values-append name (map f (take (i + 1) xs)) (map f (drop (i + 1) xs)) in
+    ap (λ ys. values_of name (map f ys)) (sym (take-append-drop (i + 1) xs)) ∙ ap (values_of name) (map-append f (take (i + 1) xs) (drop (i + 1) xs))
+    ∙ values-append name (map f (take (i + 1) xs)) (map f (drop (i + 1) xs)) in
     let two = values_more name f xs i d inside named ∙ ap (λ vs. vs ++ (f (get_or xs i d)).1 ∷ []) before in
     ap are_one_length (all ∙ ap (λ vs. vs ++ values_of name (map f (drop (i + 1) xs))) two)

@@ -3,3 +3,4 @@ pub mod ElementLemmas
 pub mod HeaderLemmas
 pub mod HeadLemmas
 pub mod StandingLemmas
+pub mod CutterLemmas

@@ -1,15 +1,15 @@
 -- What stands first, from the fronts that were looked at and the parse of a head.
-use Rattle.std.proofs.Common.{◌≡◌, ℕ, ◌+◌, ◌<◌, ◌≤◌, min, Bool, true, false, refl, List, [], ◌∷◌, ◌++◌, length, take, drop, map, sym, ap, ◌∙◌, subst, arith, ◌⊎◌, inl, inr, Option, None, Some, length-drop}
+use Rattle.std.proofs.Common.{◌≡◌, ℕ, ◌+◌, ◌≤◌, min, Bool, true, false, refl, List, [], length, take, drop, sym, ap, ◌∙◌, subst, arith, inr, Some, length-drop}
 use Rattle.std.specs.Prelude.{nat_le}
-use Rattle.std.proofs.lemmas.Bool.{leb-true, leb-false, cond-true, cond-false, le-leb, lt-leb}
+use Rattle.std.proofs.lemmas.Bool.{leb-true, leb-false}
 use Rattle.std.proofs.lemmas.List.{take_all, nil_from_length}
 use Rattle.httparse.specs.declared.spans.HeaderSpan.{HeaderSpan}
 use Rattle.httparse.specs.declared.spans.RequestSpans.{RequestSpans}
-use Rattle.httparse.specs.Spans.{IsRequestOf, name_and_value, header_bytes}
-use Rattle.httparse.specs.Grammar.{RequestHead, ReadsRequest}
+use Rattle.httparse.specs.Spans.{IsRequestOf}
+use Rattle.httparse.specs.Grammar.{ReadsRequest}
 use Rattle.http_model.specs.declared.refusal.Refusal.{Refusal}
-use Rattle.http_model.specs.Head.{Head, Header, IsHead, head_of, lengths_of, body_length, refusal_of}
-use Rattle.http_model.specs.Stream.{Next, Whole, Partial, Refuses, ends_head, IsHeadEnd, most_head, with_body, unless_refused, Stands}
+use Rattle.http_model.specs.Head.{Head, IsHead, lengths_of, body_length, refusal_of}
+use Rattle.http_model.specs.Stream.{Refuses, ends_head, IsHeadEnd, most_head, with_body, unless_refused, Stands}
 use Rattle.http_wire.specs.Judging.{seen_head}
 
 -- ---- the fronts

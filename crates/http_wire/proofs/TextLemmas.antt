@@ -1,6 +1,6 @@
 -- Texts of a head: blanks at their ends, decimal digits, the path of a target.
-use Rattle.std.proofs.Common.{◌≡◌, ◌≢◌, ℕ, zero, suc, ◌+◌, ◌-◌, ◌*◌, ◌<◌, ◌≤◌, min, Bool, true, false, cond, refl, List, [], ◌∷◌, ◌++◌, length, get_or, take, drop, reverse, sym, ap, ◌∙◌, subst, arith, length-take, length-append}
-use Rattle.std.specs.Prelude.{◌==◌, ◌&&◌, not, take_while}
+use Rattle.std.proofs.Common.{◌≡◌, ◌≢◌, ℕ, zero, suc, ◌+◌, ◌-◌, ◌*◌, ◌<◌, ◌≤◌, min, Bool, true, false, refl, List, [], ◌∷◌, ◌++◌, length, get_or, take, drop, reverse, sym, ap, ◌∙◌, arith}
+use Rattle.std.specs.Prelude.{◌==◌, not}
 use Rattle.std.specs.List.{list_all}
 use Rattle.std.specs.Char.{is_ascii_digit, digit_value}
 use Rattle.std.specs.Str.Parse.{digits_value}
@@ -54,7 +54,7 @@ decimal_step text i value more cap inside some low high before step =
     let is : digit - 48 ≡ digit_value digit = omega arith in
     let all = digits_more text i inside in
     step ∙ ap (λ v. min (v * 10 + (digit - 48)) cap) before ∙ capped (digits_value 10 (take i text)) (digit - 48) cap some
-        ∙ ap (λ d. min (digits_value 10 (take i text) * 10 + d) cap) is ∙ ap (λ n. min n cap) (sym all)
+    ∙ ap (λ d. min (digits_value 10 (take i text) * 10 + d) cap) is ∙ ap (λ n. min n cap) (sym all)
 
 -- ---- the path
 

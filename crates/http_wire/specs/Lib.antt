@@ -2,3 +2,5 @@ pub mod Lengths
 pub mod Judging
 pub mod FirstThing
 pub mod Seen
+pub mod Answers
+pub mod Holding

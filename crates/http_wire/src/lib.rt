@@ -3,12 +3,16 @@
 #![tactic(auto)]
 
 mod connection;
+mod cutter;
 mod cutting;
 mod head;
 mod header_fields;
+mod next;
 mod request;
 mod standing;
 mod texts;
 
+pub use cutter::{Cutter, MOST_PIECE};
 pub use http_model::Refusal;
+pub use next::Next;
 pub use request::{Request, Version};

@@ -1,6 +1,11 @@
 //! A whole request.
-ghost use Rattle.std.specs.Prelude.{◌≡◌, bytes_eq, codes};
+ghost use Rattle.std.specs.Prelude.{◌≡◌, ◌≤◌, length, bytes_eq, codes, IsUtf8};
+ghost use Rattle.httparse.specs.Grammar.{IsToken};
+ghost use Rattle.httparse.specs.Spans.{IsWithin, span_bytes};
+ghost use Rattle.http_wire.specs.Answers.{Answers};
+ghost use Rattle.http_wire.specs.Seen.{request_at};
 
+use crate::next::Next;
 use http::Method;
 use httparse::spans::RequestSpans;
 use std::alloc::{AllocError, Global};
@@ -33,10 +38,10 @@ impl Request {
     ghost use Rattle.httparse.specs.Grammar.{IsToken};
     ghost use Rattle.httparse.specs.Spans.{IsWithin, span_bytes};
     ghost use Rattle.http_model.specs.Stream.{is_head_only};
-    ghost use Rattle.http_wire.specs.Seen.{seen};
+    ghost use Rattle.http_wire.specs.Seen.{seen, request_at};
 
     /// Copies a request out of its head and its body.
-    pub(crate) fn copied(
+    fn copied(
         alloc: Global,
         head: &[u8],
         spans: &RequestSpans,
@@ -48,13 +53,7 @@ impl Request {
         requires target_within { IsWithin (length head.now) spans.now.path }
         requires target { IsUtf8 (span_bytes head.now spans.now.path) }
         requires version { spans.now.version ≤ 1 }
-        ensures seen { IfOk result (λ request. seen request ≡ record {
-            method = span_bytes head.now spans.now.method;
-            target = span_bytes head.now spans.now.path;
-            minor = spans.now.version;
-            close = close;
-            body = body.now;
-        }) }
+        ensures seen { IfOk result (λ request. seen request ≡ request_at head.now spans.now close body.now) }
         ensures head_only { IfOk result (λ request. request.head_only ≡ is_head_only (seen request)) }
     {
         let method_text = spans.method.of(head);
@@ -79,8 +78,32 @@ impl Request {
     }
 }
 
+/// The answer to a whole request: its copy, or what is told of it without memory.
+pub(crate) fn message(
+    alloc: Global,
+    head: &[u8],
+    spans: &RequestSpans,
+    close: bool,
+    body: &[u8],
+) -> Next
+    requires method_within { IsWithin (length head.now) spans.now.method }
+    requires method { IsToken (span_bytes head.now spans.now.method) }
+    requires target_within { IsWithin (length head.now) spans.now.path }
+    requires target { IsUtf8 (span_bytes head.now spans.now.path) }
+    requires version { spans.now.version ≤ 1 }
+    ensures { Answers (request_at head.now spans.now close body.now) result }
+{
+    match Request::copied(alloc, head, spans, close, body) {
+        Ok(request) => Next::Message(request),
+        Err(AllocError) => Next::Memory {
+            close,
+            head_only: is_head(spans.method.of(head)),
+        },
+    }
+}
+
 /// Whether the method is HEAD.
-pub(crate) fn is_head(method: &[u8]) -> bool
+fn is_head(method: &[u8]) -> bool
     ensures { result ≡ bytes_eq method.now (codes "HEAD") }
 {
     method == b"HEAD".as_slice()

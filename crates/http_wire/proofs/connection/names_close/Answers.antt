@@ -1,6 +1,6 @@
 use Rattle.std.proofs.Common.{◌+◌, rules, sym, ap, ◌∙◌}
 use Rattle.std.proofs.lemmas.List.{take_rest}
-use Rattle.http_model.specs.Head.{is_close, names_close}
+use Rattle.http_model.specs.Head.{names_close}
 use Rattle.http_wire.proofs.ElementLemmas.{close_found, close_later, names_close_whole}
 use Rattle.http_wire.proofs.connection.names_close.Goals as goal
 

@@ -1,4 +1,4 @@
-use Rattle.std.proofs.Common.{arith, sym, ap, ◌∙◌}
+use Rattle.std.proofs.Common.{arith, sym, ◌∙◌}
 use Rattle.http_wire.proofs.StandingLemmas.{fronts_more, fronts_all}
 use Rattle.http_wire.proofs.cutting.head_len.Goals as goal
 

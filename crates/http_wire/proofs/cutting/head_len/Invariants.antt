@@ -1,4 +1,4 @@
-use Rattle.std.proofs.Common.{◌≡◌, ◌≤◌, ◌<◌, ℕ, length, take, false}
+use Rattle.std.proofs.Common.{◌≡◌, ◌≤◌, ℕ, take, false}
 use Rattle.http_model.specs.Stream.{ends_head}
 use Rattle.http_wire.proofs.cutting.head_len.Given as goal
 

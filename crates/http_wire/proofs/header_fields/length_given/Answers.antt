@@ -1,8 +1,7 @@
-use Rattle.std.proofs.Common.{◌≡◌, true, false, sym, ap, ◌∙◌, codes, List, ℕ, [], ◌∷◌, Option, None, Some, Bor, map, take, refl}
+use Rattle.std.proofs.Common.{◌≡◌, true, false, sym, ap, ◌∙◌, codes, List, ℕ, [], ◌∷◌, Option, None, Some, Bor, refl}
 use Rattle.std.specs.Str.{str_eq_ignore_ascii_case}
 use Rattle.std.specs.Option.{is_some}
 use Rattle.httparse.specs.Spans.{header_bytes}
-use Rattle.http_model.specs.Head.{values_of, are_one_length}
 use Rattle.http_wire.proofs.HeaderLemmas.{values_first, values_same, second_value}
 use Rattle.http_wire.proofs.header_fields.length_given.Invariants.{texts_found}
 use Rattle.http_wire.proofs.header_fields.length_given.Goals.{then-is_word+else-is_some, else-is_word}
@@ -24,13 +23,13 @@ returns-then-is_some c =
 
 pub headers-preserved : goal.headers-preserved
 headers-preserved c = elim c.if-is_word.branch [
-      then-is_word+else-is_some w ↦
-        let named = ap (λ text. str_eq_ignore_ascii_case text (codes "content-length")) (sym c.of.ensures) ∙ sym c.is_word.ensures ∙ w.if-is_word.true in
-        let before = c.headers.invariant ∙ none_found c.headers.found (sym w.is_some.ensures ∙ w.if-is_some.false) in
-        values_first (codes "content-length") (header_bytes c.args.bytes.now) c.args.headers.now c.headers.header-index _ c.headers-test.true named before
-            ∙ ap (λ text. text ∷ []) (sym w.of-then-is_word.ensures) ∙ ap texts_found (sym w.found-is)
-    | else-is_word w ↦
-        let other = ap (λ text. str_eq_ignore_ascii_case text (codes "content-length")) (sym c.of.ensures) ∙ sym c.is_word.ensures ∙ w.if-is_word.false in
-        values_same (codes "content-length") (header_bytes c.args.bytes.now) c.args.headers.now c.headers.header-index _ c.headers-test.true other
-            ∙ c.headers.invariant ∙ ap texts_found (sym w.found-is)
-  ]
+  | then-is_word+else-is_some w ↦
+      let named = ap (λ text. str_eq_ignore_ascii_case text (codes "content-length")) (sym c.of.ensures) ∙ sym c.is_word.ensures ∙ w.if-is_word.true in
+      let before = c.headers.invariant ∙ none_found c.headers.found (sym w.is_some.ensures ∙ w.if-is_some.false) in
+      values_first (codes "content-length") (header_bytes c.args.bytes.now) c.args.headers.now c.headers.header-index _ c.headers-test.true named before
+      ∙ ap (λ text. text ∷ []) (sym w.of-then-is_word.ensures) ∙ ap texts_found (sym w.found-is)
+  | else-is_word w ↦
+      let other = ap (λ text. str_eq_ignore_ascii_case text (codes "content-length")) (sym c.of.ensures) ∙ sym c.is_word.ensures ∙ w.if-is_word.false in
+      values_same (codes "content-length") (header_bytes c.args.bytes.now) c.args.headers.now c.headers.header-index _ c.headers-test.true other
+      ∙ c.headers.invariant ∙ ap texts_found (sym w.found-is)
+]
