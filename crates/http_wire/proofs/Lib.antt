@@ -1,0 +1,6 @@
+pub mod TextLemmas
+pub mod ElementLemmas
+pub mod HeaderLemmas
+pub mod HeadLemmas
+pub mod StandingLemmas
+pub mod CutterLemmas

@@ -1,0 +1,28 @@
+-- What the tests of a head say, seen at the spans of its parts.
+use Rattle.std.specs.Prelude.{◌≡◌, ◌≤◌, ℕ, List, map, None, Some, Result, Ok, Err}
+use Rattle.httparse.specs.declared.spans.HeaderSpan.{HeaderSpan}
+use Rattle.httparse.specs.declared.spans.RequestSpans.{RequestSpans}
+use Rattle.httparse.specs.Spans.{span_bytes, header_bytes}
+use Rattle.http_model.specs.declared.refusal.Refusal.{Refusal}
+use Rattle.http_model.specs.Head.{Head, closes, lengths_of, body_length, most_body, refusal_of}
+use Rattle.http_wire.specs.declared.head.Demand.{Demand}
+
+-- the head whose parts stand at these places
+abbrev pub seen_head : List ℕ → RequestSpans → List HeaderSpan → Head
+seen_head bytes spans headers = record {
+  method = span_bytes bytes spans.method;
+  target = span_bytes bytes spans.path;
+  minor = spans.version;
+  headers = map (header_bytes bytes) headers;
+}
+
+-- the head passes its tests, and asks for this
+pub record Demands (head : Head) (demand : Demand) : Type 0 where
+  pub passes : refusal_of head ≡ None
+  pub body : demand.body ≡ body_length (lengths_of head)
+  pub most : demand.body ≤ most_body
+  pub close : demand.close ≡ closes head
+
+abbrev pub Judges : Head → Result Demand Refusal → Type 0
+Judges head (Ok demand) = Demands head demand
+Judges head (Err refusal) = refusal_of head ≡ Some refusal

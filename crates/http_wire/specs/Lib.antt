@@ -1,0 +1,6 @@
+pub mod Lengths
+pub mod Judging
+pub mod FirstThing
+pub mod Seen
+pub mod Answers
+pub mod Holding

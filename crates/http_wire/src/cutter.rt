@@ -1,0 +1,163 @@
+//! The stream so far, and the next request on it.
+ghost use Rattle.std.specs.Prelude.{◌≡◌, ◌≤◌, length, drop, vec_capacity};
+
+use crate::cutting::blank_len;
+use crate::head::{HEADER_ROOM, MOST_HEAD};
+use crate::next::Next;
+use crate::request::message;
+use crate::standing::{Standing, look};
+use crate::texts::MOST_BODY;
+use httparse::spans::{EMPTY_HEADER_SPAN, HeaderSpan};
+use std::alloc::{AllocError, Global};
+use std::marker::Model;
+
+/// The most bytes of one piece.
+pub const MOST_PIECE: usize = 65_536;
+
+/// The most bytes of a request, head and body.
+const MOST_REQUEST: usize = MOST_HEAD + MOST_BODY;
+
+/// Cuts a stream into its requests. Contracts see it as the bytes that were fed and are not consumed,
+/// but for empty lines before them.
+#[derive(Drop)]
+pub struct Cutter {
+    bytes: Vec<u8>,
+    /// Where the bytes begin that are not consumed.
+    start: usize,
+    /// How many of them were searched for the end of a head, without one.
+    scanned: usize,
+    /// How many of them there have to be before anything can be told of them.
+    wanted: usize,
+    headers: Vec<HeaderSpan>,
+}
+
+impl Model for Cutter {
+    ghost use Rattle.std.specs.Prelude.{ℕ, List};
+    ghost use Rattle.std.specs.Coded.{coded_ℕ, coded_list};
+
+    ghost Value = { List ℕ };
+
+    ghost use Rattle.http_wire.specs.Holding.{held, IsHolding};
+
+    ghost view = { held };
+
+    ghost invariant = { IsHolding };
+}
+
+impl Cutter {
+    ghost use Rattle.std.specs.Prelude.{◌≡◌, ◌<◌, ◌≤◌, ◌++◌, [], length, IfOk};
+    ghost use Rattle.http_model.specs.Refusals.{status_of};
+    ghost use Rattle.http_model.specs.Stream as model;
+    ghost use Rattle.http_wire.specs.Seen.{seen};
+    ghost use Rattle.http_wire.specs.Answers.{OnMessage, OnMemory, OnNeedMore, OnRefused};
+
+    /// A cutter of an empty stream, with all its room.
+    pub fn new(alloc: Global) -> Result<Cutter, AllocError>
+        ensures { IfOk result (λ cutter. cutter ≡ []) }
+    {
+        Ok(Cutter {
+            bytes: Vec::with_capacity(alloc, MOST_REQUEST + MOST_PIECE)?,
+            start: 0,
+            scanned: 0,
+            wanted: 0,
+            headers: vec![in alloc; EMPTY_HEADER_SPAN; HEADER_ROOM]?,
+        })
+    }
+
+    /// Adds the next piece of the stream. It takes no memory.
+    pub fn feed(&mut self, piece: &[u8])
+        requires waiting { length self.old < 1064960 }
+        requires piece { length piece.now ≤ 65536 }
+        ensures { self.new ≡ self.old ++ piece.now }
+    {
+        move_to_front(&mut self.bytes, self.start);
+        self.start = 0;
+        self.bytes.extend_from_slice(piece).unwrap();
+    }
+
+    /// What stands first. A request is consumed; after a refusal the same refusal comes again.
+    pub fn next(&mut self, alloc: Global) -> Next
+        ensures message { OnMessage result (λ request. model.Begins self.old (model.Whole (seen request) self.new)) }
+        ensures head_only { OnMessage result (λ request. request.head_only ≡ model.is_head_only (seen request)) }
+        ensures memory { OnMemory result (λ close head_only. (request : model.Request) × model.Begins self.old (model.Whole request self.new) × (close ≡ request.close) × (head_only ≡ model.is_head_only request)) }
+
+        // Only the empty lines are dropped.
+        ensures need_more { OnNeedMore result (model.Begins self.old (model.Partial (length self.new))) }
+        ensures waiting { OnNeedMore result (length self.new < 1064960) }
+        ensures kept { OnNeedMore result (self.new ≡ model.skip_blank self.old) }
+
+        ensures refused { OnRefused result (λ status code. model.Begins self.old (model.Refuses code)) }
+        ensures status { OnRefused result (λ status code. status ≡ status_of code) }
+        ensures stays { OnRefused result (λ status code. self.new ≡ model.skip_blank self.old) }
+    {
+        if self.bytes.len() - self.start < self.wanted {
+            return Next::NeedMore;
+        }
+        self.skip_empty_lines();
+        self.take_next(alloc)
+    }
+
+    fn skip_empty_lines(&mut self)
+        ensures { self.new ≡ model.skip_blank self.old }
+    {
+        let blank = blank_len(&self.bytes.as_slice()[self.start..]);
+        if blank > 0 {
+            self.start += blank;
+            self.scanned = 0;
+        }
+        self.wanted = 0;
+    }
+
+    /// What stands first in bytes that don't begin with an empty line.
+    fn take_next(&mut self, alloc: Global) -> Next
+        requires { model.skip_blank self.old ≡ self.old }
+        ensures message { OnMessage result (λ request. model.Stands self.old (model.Whole (seen request) self.new)) }
+        ensures head_only { OnMessage result (λ request. request.head_only ≡ model.is_head_only (seen request)) }
+        ensures memory { OnMemory result (λ close head_only. (request : model.Request) × model.Stands self.old (model.Whole request self.new) × (close ≡ request.close) × (head_only ≡ model.is_head_only request)) }
+        ensures need_more { OnNeedMore result (model.Stands self.old (model.Partial (length self.old))) }
+        ensures waiting { OnNeedMore result (length self.old < 1064960) }
+        ensures kept { OnNeedMore result (self.new ≡ self.old) }
+        ensures refused { OnRefused result (λ status code. model.Stands self.old (model.Refuses code)) }
+        ensures status { OnRefused result (λ status code. status ≡ status_of code) }
+        ensures stays { OnRefused result (λ status code. self.new ≡ self.old) }
+    {
+        let waiting = &self.bytes.as_slice()[self.start..];
+        match look(waiting, self.scanned, self.headers.as_mut_slice()) {
+            Standing::Unfinished => {
+                self.scanned = waiting.len();
+                Next::NeedMore
+            }
+            Standing::Refused(code) => Next::Refused {
+                status: code.status(),
+                code,
+            },
+            Standing::Head { len, spans, demand } => {
+                let end = len + demand.body;
+                if waiting.len() < end {
+                    self.wanted = end;
+                    return Next::NeedMore;
+                }
+                let (head, body) = (&waiting[..len], &waiting[len..end]);
+                let answer = message(alloc, head, &spans, demand.close, body);
+                self.start += end;
+                self.scanned = 0;
+                self.wanted = 0;
+                answer
+            }
+        }
+    }
+}
+
+/// Drops the bytes before `start`, and keeps the room.
+fn move_to_front(bytes: &mut Vec<u8>, start: usize)
+    requires { start ≤ length bytes.old.items }
+    ensures items { bytes.new.items ≡ drop start bytes.old.items }
+    ensures room { vec_capacity bytes.new ≡ vec_capacity bytes.old }
+{
+    if start == 0 {
+        return;
+    }
+    let len = bytes.len();
+    bytes.copy_within(start..len, 0);
+    bytes.truncate(len - start);
+}

@@ -1,0 +1,82 @@
+//! One whole request head: its parse, and the tests that it has to pass.
+ghost use Rattle.std.specs.Prelude.{◌≡◌, ◌≤◌, length, map, take, bytes_eq, codes, All, IfSome, IsNone, ◌||◌, ◌&&◌};
+ghost use Rattle.httparse.specs.Spans.{IsHeaderWithin, IsRequestOf, IsRequestWithin, IsWithin};
+ghost use Rattle.http_model.specs.Head.{IsNoHead, path_of};
+ghost use Rattle.http_wire.specs.Judging.{Judges, seen_head};
+
+use crate::header_fields::{Length, asks_to_close, has_header, length_given};
+use crate::texts::{MOST_BODY, path_of};
+use http_model::Refusal;
+use httparse::Status;
+use httparse::spans::{HeaderSpan, RequestSpans, parse_request};
+
+/// The most bytes of a head.
+pub(crate) const MOST_HEAD: usize = 16_384;
+
+/// Room for the headers of every head of that length: each takes at least three bytes.
+pub(crate) const HEADER_ROOM: usize = 5_462;
+
+/// The most headers of a head.
+const MOST_HEADERS: usize = 64;
+
+/// Where the parts of the head are, if the bytes are one whole head of the grammar.
+pub(crate) fn parse(bytes: &[u8], headers: &mut [HeaderSpan]) -> Option<RequestSpans>
+    requires room { length headers.old ≡ 5462 }
+    requires fits { length bytes.now ≤ 16384 }
+    ensures within { IfSome result (λ spans. IsRequestWithin bytes.now headers.new spans) }
+    ensures head { IfSome result (λ spans. IsRequestOf bytes.now headers.new spans) }
+    ensures whole { IfSome result (λ spans. spans.len ≡ length bytes.now) }
+    ensures none { IsNone result → IsNoHead bytes.now }
+{
+    match parse_request(bytes, headers) {
+        Ok(Status::Complete(spans)) if spans.len == bytes.len() => Some(spans),
+        _ => None,
+    }
+}
+
+/// What a head that passes the tests asks for.
+#[derive(Clone, Copy, Debug, PartialEq, Eq)]
+pub(crate) struct Demand {
+    /// The bytes of its body.
+    pub body: usize,
+    /// Whether the session ends after it.
+    pub close: bool,
+}
+
+fn stores_its_body(method: &[u8], target: &[u8]) -> bool
+    ensures { result ≡ (bytes_eq method.now (codes "PUT") && (bytes_eq (path_of target.now) (codes "/content") || bytes_eq (path_of target.now) (codes "/changeset"))) }
+{
+    let path = path_of(target);
+    method == b"PUT".as_slice()
+        && (path == b"/content".as_slice() || path == b"/changeset".as_slice())
+}
+
+/// The first test that the head fails, or what it asks for.
+pub(crate) fn judge(
+    bytes: &[u8],
+    spans: &RequestSpans,
+    headers: &[HeaderSpan],
+) -> Result<Demand, Refusal>
+    requires method { IsWithin (length bytes.now) spans.now.method }
+    requires target { IsWithin (length bytes.now) spans.now.path }
+    requires headers { All (IsHeaderWithin (length bytes.now)) headers.now }
+    ensures { Judges (seen_head bytes.now spans.now headers.now) result }
+{
+    if headers.len() > MOST_HEADERS {
+        return Err(Refusal::TooManyHeaders);
+    }
+    if has_header(bytes, headers, b"transfer-encoding") {
+        return Err(Refusal::TransferEncoding);
+    }
+    let body = match length_given(bytes, headers) {
+        Length::Bad => return Err(Refusal::BadLength),
+        Length::Absent if stores_its_body(spans.method.of(bytes), spans.path.of(bytes)) => {
+            return Err(Refusal::NoLength);
+        }
+        Length::Absent => 0,
+        Length::Given(n) if n > MOST_BODY => return Err(Refusal::BodyTooLarge),
+        Length::Given(n) => n,
+    };
+    let close = spans.version == 0 || asks_to_close(bytes, headers);
+    Ok(Demand { body, close })
+}

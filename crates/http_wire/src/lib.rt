@@ -1,0 +1,18 @@
+//! Cuts a stream of HTTP/1.1 into its requests: bytes go in, in pieces of any size, and whole requests come out.
+//! The requests are those that `http_model` defines, however the stream was cut.
+#![tactic(auto)]
+
+mod connection;
+mod cutter;
+mod cutting;
+mod head;
+mod header_fields;
+mod next;
+mod request;
+mod standing;
+mod texts;
+
+pub use cutter::{Cutter, MOST_PIECE};
+pub use http_model::Refusal;
+pub use next::Next;
+pub use request::{Request, Version};

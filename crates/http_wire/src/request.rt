@@ -1,0 +1,110 @@
+//! A whole request.
+ghost use Rattle.std.specs.Prelude.{◌≡◌, ◌≤◌, length, bytes_eq, codes, IsUtf8};
+ghost use Rattle.httparse.specs.Grammar.{IsToken};
+ghost use Rattle.httparse.specs.Spans.{IsWithin, span_bytes};
+ghost use Rattle.http_wire.specs.Answers.{Answers};
+ghost use Rattle.http_wire.specs.Seen.{request_at};
+
+use crate::next::Next;
+use http::Method;
+use httparse::spans::RequestSpans;
+use std::alloc::{AllocError, Global};
+
+/// The version of a request.
+#[derive(Clone, Copy, Debug, PartialEq, Eq)]
+pub enum Version {
+    /// HTTP/1.0
+    Http10,
+    /// HTTP/1.1
+    Http11,
+}
+
+/// A request with its whole body.
+#[derive(Debug, Drop)]
+pub struct Request {
+    pub method: Method,
+    /// The target, with what follows a `?`.
+    pub target: String,
+    pub version: Version,
+    /// Whether the session ends after the answer: HTTP/1.0, or `Connection: close`.
+    pub close: bool,
+    /// Whether the answer is a head alone: the method is HEAD.
+    pub head_only: bool,
+    pub body: Vec<u8>,
+}
+
+impl Request {
+    ghost use Rattle.std.specs.Prelude.{◌≡◌, ◌≤◌, length, bytes_eq, codes, IfOk, IsUtf8};
+    ghost use Rattle.httparse.specs.Grammar.{IsToken};
+    ghost use Rattle.httparse.specs.Spans.{IsWithin, span_bytes};
+    ghost use Rattle.http_model.specs.Stream.{is_head_only};
+    ghost use Rattle.http_wire.specs.Seen.{seen, request_at};
+
+    /// Copies a request out of its head and its body.
+    fn copied(
+        alloc: Global,
+        head: &[u8],
+        spans: &RequestSpans,
+        close: bool,
+        body: &[u8],
+    ) -> Result<Request, AllocError>
+        requires method_within { IsWithin (length head.now) spans.now.method }
+        requires method { IsToken (span_bytes head.now spans.now.method) }
+        requires target_within { IsWithin (length head.now) spans.now.path }
+        requires target { IsUtf8 (span_bytes head.now spans.now.path) }
+        requires version { spans.now.version ≤ 1 }
+        ensures seen { IfOk result (λ request. seen request ≡ request_at head.now spans.now close body.now) }
+        ensures head_only { IfOk result (λ request. request.head_only ≡ is_head_only (seen request)) }
+    {
+        let method_text = spans.method.of(head);
+        let method = match Method::from_bytes(alloc, method_text) {
+            Ok(method) => method,
+            // A token is refused for want of memory alone.
+            Err(_) => return Err(AllocError),
+        };
+        let target = String::from_utf8(Vec::from_slice(alloc, spans.path.of(head))?).unwrap();
+        Ok(Request {
+            method,
+            target,
+            version: if spans.version == 0 {
+                Version::Http10
+            } else {
+                Version::Http11
+            },
+            close,
+            head_only: is_head(method_text),
+            body: Vec::from_slice(alloc, body)?,
+        })
+    }
+}
+
+/// The answer to a whole request: its copy, or what is told of it without memory.
+pub(crate) fn message(
+    alloc: Global,
+    head: &[u8],
+    spans: &RequestSpans,
+    close: bool,
+    body: &[u8],
+) -> Next
+    requires method_within { IsWithin (length head.now) spans.now.method }
+    requires method { IsToken (span_bytes head.now spans.now.method) }
+    requires target_within { IsWithin (length head.now) spans.now.path }
+    requires target { IsUtf8 (span_bytes head.now spans.now.path) }
+    requires version { spans.now.version ≤ 1 }
+    ensures { Answers (request_at head.now spans.now close body.now) result }
+{
+    match Request::copied(alloc, head, spans, close, body) {
+        Ok(request) => Next::Message(request),
+        Err(AllocError) => Next::Memory {
+            close,
+            head_only: is_head(spans.method.of(head)),
+        },
+    }
+}
+
+/// Whether the method is HEAD.
+fn is_head(method: &[u8]) -> bool
+    ensures { result ≡ bytes_eq method.now (codes "HEAD") }
+{
+    method == b"HEAD".as_slice()
+}

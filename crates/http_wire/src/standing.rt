@@ -1,0 +1,47 @@
+//! What stands first in bytes that don't begin with an empty line.
+ghost use Rattle.std.specs.Prelude.{◌≡◌, ◌≤◌, ℕ, length, take, false};
+ghost use Rattle.http_model.specs.Stream.{ends_head};
+ghost use Rattle.http_wire.specs.FirstThing.{StandsFirst};
+
+use crate::cutting::head_len;
+use crate::head::{Demand, MOST_HEAD, judge, parse};
+use http_model::Refusal;
+use httparse::spans::{HeaderSpan, RequestSpans};
+
+/// What stands first, as far as the head goes.
+pub(crate) enum Standing {
+    /// No whole head, and it may still come.
+    Unfinished,
+    /// What ends the session.
+    Refused(Refusal),
+    /// A head of `len` bytes that passes its tests, and where its parts are.
+    Head {
+        len: usize,
+        spans: RequestSpans,
+        demand: Demand,
+    },
+}
+
+/// Looks at the bytes. No front of `scanned` bytes or fewer ends a head.
+pub(crate) fn look(bytes: &[u8], scanned: usize, headers: &mut [HeaderSpan]) -> Standing
+    requires room { length headers.old ≡ 5462 }
+    requires within { scanned ≤ length bytes.now }
+    requires none_before { (n : ℕ) → n ≤ scanned → ends_head (take n bytes.now) ≡ false }
+    ensures { StandsFirst bytes.now result }
+{
+    let Some(len) = head_len(bytes, scanned) else {
+        return if bytes.len() < MOST_HEAD {
+            Standing::Unfinished
+        } else {
+            Standing::Refused(Refusal::HeadTooLarge)
+        };
+    };
+    let head = &bytes[..len];
+    let Some(spans) = parse(head, headers) else {
+        return Standing::Refused(Refusal::BadHead);
+    };
+    match judge(head, &spans, &headers[..spans.headers]) {
+        Ok(demand) => Standing::Head { len, spans, demand },
+        Err(refusal) => Standing::Refused(refusal),
+    }
+}
