@@ -3,5 +3,7 @@
 
 pub mod bad_field;
 pub mod fields;
+pub mod texts;
 
 pub use bad_field::BadField;
+pub use texts::is_text;

@@ -1,6 +1,12 @@
 //! One connection over HTTP/1.1: requests in, responses out, each answered by the repository in its turn.
 #![tactic(auto)]
 
+mod answering;
+pub mod asking;
 mod bodies;
+mod refusing;
+pub mod ended;
+mod link;
+pub mod session;
 pub mod response;
 pub mod room;

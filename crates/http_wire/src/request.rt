@@ -6,6 +6,7 @@ ghost use Rattle.http_wire.specs.Answers.{Answers};
 ghost use Rattle.http_wire.specs.Seen.{request_at};
 
 use crate::next::Next;
+use crate::texts::path_of;
 use http::Method;
 use httparse::spans::RequestSpans;
 use std::alloc::{AllocError, Global};
@@ -34,11 +35,19 @@ pub struct Request {
 }
 
 impl Request {
-    ghost use Rattle.std.specs.Prelude.{◌≡◌, ◌≤◌, length, bytes_eq, codes, IfOk, IsUtf8};
+    ghost use Rattle.std.specs.Prelude.{◌≡◌, ◌≤◌, length, bytes_eq, codes, string_bytes, IfOk, IsUtf8};
     ghost use Rattle.httparse.specs.Grammar.{IsToken};
     ghost use Rattle.httparse.specs.Spans.{IsWithin, span_bytes};
+    ghost use Rattle.http_model.specs.Head.{path_of};
     ghost use Rattle.http_model.specs.Stream.{is_head_only};
     ghost use Rattle.http_wire.specs.Seen.{seen, request_at};
+
+    /// The target before any `?`.
+    pub fn path(&self) -> &[u8]
+        ensures { result.now ≡ path_of (string_bytes self.now.target) }
+    {
+        path_of(self.target.as_bytes())
+    }
 
     /// Copies a request out of its head and its body.
     fn copied(
