@@ -13,7 +13,8 @@ use std::alloc::Global;
 /// The capacity of the repository in bytes: a repository without a file, which the session begins.
 const CAPACITY: u64 = 65_536;
 
-const USAGE: &str = "usage: hg_cli init FILE CAP | session FILE | serve FILE ADDR LANES DERIVERS CONNECTIONS | fsck FILE | gen SEED STACKS CLIENTS\n";
+const USAGE: &str =
+    "usage: hg_cli init FILE CAP | session FILE | serve FILE ADDR LANES DERIVERS CONNECTIONS | fsck FILE | gen SEED STACKS CLIENTS\n";
 
 /// The exit status of the program.
 #[derive(Clone, Copy, Debug, PartialEq, Eq)]
@@ -78,12 +79,7 @@ fn status_of(end: Ended) -> Status
 /// Runs the program on its words, of which the first is its name. `session FILE` serves one connection from the
 /// source to the sink, on a repository that begins without an entry; no file is opened. Any other words are
 /// answered by the usage line.
-pub fn run<S: Source, K: Sink>(
-    alloc: Global,
-    words: &[String],
-    source: &mut S,
-    sink: &mut K,
-) -> Ran
+pub fn run<S: Source, K: Sink>(alloc: Global, words: &[String], source: &mut S, sink: &mut K) -> Ran
     ensures session { is_session (map string_bytes words.now) ≡ true → RunsSession (S.rest source.old) (K.written sink.old) (S.rest source.new) (K.written sink.new) result.status }
     ensures usage { is_session (map string_bytes words.now) ≡ false → (result.status ≡ Status.Usage) × WritesUsage (S.rest source.old) (K.written sink.old) (S.rest source.new) (K.written sink.new) }
     ensures fault { result.status ≡ Status.StreamFault → Rose (S.faults source.old) (S.faults source.new) ⊎ Rose (K.faults sink.old) (K.faults sink.new) }
