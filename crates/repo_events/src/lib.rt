@@ -3,5 +3,7 @@
 #![tactic(auto)]
 
 pub mod body;
+pub mod payload;
 
 pub use body::{Body, Entry};
+pub use payload::{BadPayload, MOST_PAYLOAD, decode_payload, encode_entry};
