@@ -64,6 +64,14 @@ impl Cutter {
         })
     }
 
+    /// How many bytes there are that are not consumed. After `NeedMore` these are of one request, and with none
+    /// of them the stream stands at a request's end.
+    pub fn waiting(&self) -> usize
+        ensures { result ≡ length self.now }
+    {
+        self.bytes.len() - self.start
+    }
+
     /// Adds the next piece of the stream. It takes no memory.
     pub fn feed(&mut self, piece: &[u8])
         requires waiting { length self.old < MOST_REQUEST }
