@@ -16,3 +16,6 @@ pub use cutter::{Cutter, MOST_PIECE, MOST_REQUEST};
 pub use http_model::Refusal;
 pub use next::Next;
 pub use request::{Request, Version};
+
+#[cfg(test)]
+mod tests;
