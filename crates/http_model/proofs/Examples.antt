@@ -1,17 +1,16 @@
 -- Small cases of the definitions, computed.
-use Rattle.std.proofs.Common.{◌≡◌, ℕ, ◌<◌, Bool, true, false, refl, List, [], ◌∷◌, ◌++◌, codes, Option, None, Some, take}
+use Rattle.std.proofs.Common.{◌≡◌, ℕ, ◌<◌, true, false, refl, List, [], ◌∷◌, ◌++◌, codes, None, Some, take}
 use Rattle.httparse.specs.Ascii.{crlf_bytes}
 use Rattle.httparse.proofs.OnLiterals.{httparse_on_literals}
 use Rattle.httparse.specs.Grammar.{crlf, Field, IsField, is_token_byte, is_value_byte, is_uri_byte, RequestHead, IsRequestHead}
-use Rattle.std.proofs.Common.{lit<, lit≤, inr}
+use Rattle.std.proofs.Common.{lit<, lit≤, inr, zero, suc, slice_index}
 use Rattle.std.proofs.lemmas.Bool.{agree_below_at}
 use Rattle.std.proofs.lemmas.List.Sums.{AllPass-from_list_all}
 use Rattle.std.proofs.lemmas.List.Elements.{All-cons, All-nil}
-use Rattle.std.proofs.lemmas.Str.{IsUtf8-from_is_utf8}
-use Rattle.http_model.specs.declared.refusal.Refusal.{Refusal}
-use Rattle.http_model.specs.declared.refusal.Refusal.TheVariants.{TooManyHeaders, TransferEncoding, BadLength, NoLength, BodyTooLarge}
-use Rattle.http_model.specs.Head.{Head, Header, elements, closes, path_of, lengths_of, body_length, refusal_of}
-use Rattle.http_model.specs.Stream.{Request, Whole, Partial, skip_blank, ends_head, IsHeadEnd, after_head, Begins}
+use Rattle.std.proofs.lemmas.Str.{IsUtf8-from_ascii}
+use Rattle.http_model.specs.declared.refusal.Refusal.TheVariants.{TransferEncoding, BadLength, NoLength, BodyTooLarge}
+use Rattle.http_model.specs.Head.{Head, Header, closes, path_of, lengths_of, body_length, refusal_of}
+use Rattle.http_model.specs.Stream.{Whole, Partial, skip_blank, ends_head, IsHeadEnd, after_head, Begins}
 
 -- ---- empty lines, and the end of a head
 
@@ -111,12 +110,17 @@ is_host : IsField host
 unfolding host httparse_on_literals
 is_host = record { name = (lit< tt, AllPass-from_list_all is_token_byte (codes "Host") refl); raw = AllPass-from_list_all is_value_byte (codes " x") refl }
 
+is_ascii : (i : ℕ) → slice_index (47 ∷ 97 ∷ []) i < 128
+is_ascii zero = lit< tt
+is_ascii (suc zero) = lit< tt
+is_ascii (suc (suc i)) = lit< tt
+
 is_tree : IsRequestHead tree
 unfolding tree host httparse_on_literals
 is_tree = record {
   method = (lit< tt, AllPass-from_list_all is_token_byte (codes "GET") refl);
   target = (lit< tt, AllPass-from_list_all is_uri_byte (codes "/a") refl);
-  target_text = IsUtf8-from_is_utf8 (codes "/a") refl;
+  target_text = IsUtf8-from_ascii (47 ∷ 97 ∷ []) is_ascii;
   minor = lit≤ tt;
   fields = All-cons IsField host [] is_host (All-nil IsField);
 }
