@@ -1,3 +1,4 @@
 pub mod Blank
 pub mod Streams
 pub mod Sessions
+pub mod Examples

@@ -1,6 +1,8 @@
 -- What a cutter holds.
-use Rattle.std.specs.Prelude.{◌≡◌, ℕ, ◌<◌, ◌≤◌, false, List, ◌++◌, length, take, drop, vec_capacity}
+use Rattle.std.specs.Prelude.{◌≡◌, ℕ, ◌+◌, ◌<◌, ◌≤◌, false, List, ◌++◌, length, take, drop, vec_capacity}
 use Rattle.http_model.specs.Stream.{Partial, ends_head, skip_blank, Stands}
+use Rattle.http_wire.specs.declared.cutter.TheConstants.{MOST_PIECE, MOST_REQUEST}
+use Rattle.http_wire.specs.declared.head.TheConstants.{HEADER_ROOM}
 use Rattle.http_wire.specs.declared.cutter.Cutter.TheInside.{Inside}
 
 -- the bytes that are not consumed
@@ -13,9 +15,9 @@ Awaits bytes wanted = (more : List ℕ) → length (bytes ++ more) < wanted → 
 
 pub record IsHolding (cutter : Inside) : Type 0 where
   pub start : cutter.start ≤ length cutter.bytes.items
-  pub room : 1130496 ≤ vec_capacity cutter.bytes
-  pub headers : length cutter.headers.items ≡ 5462
+  pub room : MOST_REQUEST + MOST_PIECE ≤ vec_capacity cutter.bytes
+  pub headers : length cutter.headers.items ≡ HEADER_ROOM
   pub scanned : cutter.scanned ≤ length (held cutter)
   pub none : (n : ℕ) → n ≤ cutter.scanned → ends_head (take n (held cutter)) ≡ false
   pub awaits : Awaits (held cutter) cutter.wanted
-  pub most : cutter.wanted ≤ 1064960
+  pub most : cutter.wanted ≤ MOST_REQUEST

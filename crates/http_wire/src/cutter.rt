@@ -15,7 +15,7 @@ use std::marker::Model;
 pub const MOST_PIECE: usize = 65_536;
 
 /// The most bytes of a request, head and body.
-const MOST_REQUEST: usize = MOST_HEAD + MOST_BODY;
+pub const MOST_REQUEST: usize = MOST_HEAD + MOST_BODY;
 
 /// Cuts a stream into its requests. Contracts see it as the bytes that were fed and are not consumed,
 /// but for empty lines before them.
@@ -64,10 +64,18 @@ impl Cutter {
         })
     }
 
+    /// How many bytes there are that are not consumed. After `NeedMore` these are of one request, and with none
+    /// of them the stream stands at a request's end.
+    pub fn waiting(&self) -> usize
+        ensures { result ≡ length self.now }
+    {
+        self.bytes.len() - self.start
+    }
+
     /// Adds the next piece of the stream. It takes no memory.
     pub fn feed(&mut self, piece: &[u8])
-        requires waiting { length self.old < 1064960 }
-        requires piece { length piece.now ≤ 65536 }
+        requires waiting { length self.old < MOST_REQUEST }
+        requires piece { length piece.now ≤ MOST_PIECE }
         ensures { self.new ≡ self.old ++ piece.now }
     {
         move_to_front(&mut self.bytes, self.start);
@@ -90,7 +98,7 @@ impl Cutter {
 
         // Only the empty lines are dropped.
         ensures need_more { OnNeedMore result (model.Begins self.old (model.Partial (length self.new))) }
-        ensures waiting { OnNeedMore result (length self.new < 1064960) }
+        ensures waiting { OnNeedMore result (length self.new < MOST_REQUEST) }
         ensures kept { OnNeedMore result (self.new ≡ model.skip_blank self.old) }
 
         ensures refused { OnRefused result (λ status code. model.Begins self.old (model.Refuses code)) }
@@ -122,7 +130,7 @@ impl Cutter {
         ensures head_only { OnMessage result (λ request. request.head_only ≡ model.is_head_only (seen request)) }
         ensures memory { OnMemory result (λ close head_only. (request : model.Request) × model.Stands self.old (model.Whole request self.new) × (close ≡ request.close) × (head_only ≡ model.is_head_only request)) }
         ensures need_more { OnNeedMore result (model.Stands self.old (model.Partial (length self.old))) }
-        ensures waiting { OnNeedMore result (length self.old < 1064960) }
+        ensures waiting { OnNeedMore result (length self.old < MOST_REQUEST) }
         ensures kept { OnNeedMore result (self.new ≡ self.old) }
         ensures refused { OnRefused result (λ status code. model.Stands self.old (model.Refuses code)) }
         ensures status { OnRefused result (λ status code. status ≡ status_of code) }

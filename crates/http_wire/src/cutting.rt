@@ -1,5 +1,5 @@
 //! Where a head begins, and where it ends.
-ghost use Rattle.std.specs.Prelude.{◌≡◌, ◌<◌, ◌≤◌, ℕ, length, take, drop, false, IfSome, IsNone};
+ghost use Rattle.std.specs.Prelude.{◌≡◌, ◌+◌, ◌<◌, ◌≤◌, ℕ, length, take, drop, false, IfSome, IsNone};
 ghost use Rattle.http_model.specs.Stream.{skip_blank, ends_head, IsHeadEnd, most_head};
 
 use crate::head::MOST_HEAD;
@@ -40,6 +40,16 @@ fn ends_head(bytes: &[u8]) -> bool
     bytes.ends_with(b"\n\n") || bytes.ends_with(b"\n\r\n")
 }
 
+/// Whether a head ends with the byte at this place.
+#[inline]
+fn ends_head_at(bytes: &[u8], at: usize) -> bool
+    requires { at < length bytes.now }
+    ensures { result ≡ ends_head (take (at + 1) bytes.now) }
+{
+    // Most bytes end no line.
+    bytes[at] == b'\n' && ends_head(&bytes[..at + 1])
+}
+
 /// The length of the head that the bytes begin with. No front of `scanned` bytes or fewer ends one.
 pub(crate) fn head_len(bytes: &[u8], scanned: usize) -> Option<usize>
     requires within { scanned ≤ length bytes.now }
@@ -50,7 +60,7 @@ pub(crate) fn head_len(bytes: &[u8], scanned: usize) -> Option<usize>
 {
     let limit = bytes.len().min(MOST_HEAD);
     'fronts: for len in scanned..limit {
-        if ends_head(&bytes[..len + 1]) {
+        if ends_head_at(bytes, len) {
             return Some(len + 1);
         }
     }

@@ -21,8 +21,8 @@ const MOST_HEADERS: usize = 64;
 
 /// Where the parts of the head are, if the bytes are one whole head of the grammar.
 pub(crate) fn parse(bytes: &[u8], headers: &mut [HeaderSpan]) -> Option<RequestSpans>
-    requires room { length headers.old ≡ 5462 }
-    requires fits { length bytes.now ≤ 16384 }
+    requires room { length headers.old ≡ HEADER_ROOM }
+    requires fits { length bytes.now ≤ MOST_HEAD }
     ensures within { IfSome result (λ spans. IsRequestWithin bytes.now headers.new spans) }
     ensures head { IfSome result (λ spans. IsRequestOf bytes.now headers.new spans) }
     ensures whole { IfSome result (λ spans. spans.len ≡ length bytes.now) }

@@ -12,7 +12,10 @@ mod request;
 mod standing;
 mod texts;
 
-pub use cutter::{Cutter, MOST_PIECE};
+pub use cutter::{Cutter, MOST_PIECE, MOST_REQUEST};
 pub use http_model::Refusal;
 pub use next::Next;
 pub use request::{Request, Version};
+
+#[cfg(test)]
+mod tests;

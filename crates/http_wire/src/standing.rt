@@ -4,7 +4,7 @@ ghost use Rattle.http_model.specs.Stream.{ends_head};
 ghost use Rattle.http_wire.specs.FirstThing.{StandsFirst};
 
 use crate::cutting::head_len;
-use crate::head::{Demand, MOST_HEAD, judge, parse};
+use crate::head::{Demand, HEADER_ROOM, MOST_HEAD, judge, parse};
 use http_model::Refusal;
 use httparse::spans::{HeaderSpan, RequestSpans};
 
@@ -24,7 +24,7 @@ pub(crate) enum Standing {
 
 /// Looks at the bytes. No front of `scanned` bytes or fewer ends a head.
 pub(crate) fn look(bytes: &[u8], scanned: usize, headers: &mut [HeaderSpan]) -> Standing
-    requires room { length headers.old ≡ 5462 }
+    requires room { length headers.old ≡ HEADER_ROOM }
     requires within { scanned ≤ length bytes.now }
     requires none_before { (n : ℕ) → n ≤ scanned → ends_head (take n bytes.now) ≡ false }
     ensures { StandsFirst bytes.now result }
