@@ -10,6 +10,7 @@ use crate::path_text::{comparable, compare, lies_under, path_fault_of};
 use std::alloc::{AllocError, Global};
 use std::cmp::Ordering;
 use std::marker::Model;
+use std::{fmt, str};
 
 /// A path: 1 to 4,096 bytes of UTF-8, in elements that a slash parts. Contracts see its elements.
 #[derive(Drop)]
@@ -36,13 +37,25 @@ impl RepoPath {
     pub fn parse(alloc: Global, text: &str) -> Result<RepoPath, PathFault>
         ensures path { IfOk result (λ p. p ≡ elements text.now) }
         ensures rules { IfOk result (λ p. IsTrue (is_path p)) }
-        ensures sound { IfOk result (λ p. path_fault text.now ≡ None) }
         ensures unruly { (at : ℕ) → IsErrOf result (PathFault.BadPath at) → is_path (elements text.now) ≡ false }
         ensures bad { (at : ℕ) → (IsErrOf result (PathFault.BadPath at) ↔ (path_fault text.now ≡ Some at)) }
     {
-        if let Some(at) = path_fault_of(text.as_bytes()) {
+        RepoPath::from_bytes(alloc, text.as_bytes())
+    }
+
+    /// Reads a path of bytes that may be no text.
+    pub fn from_bytes(alloc: Global, bytes: &[u8]) -> Result<RepoPath, PathFault>
+        ensures path { IfOk result (λ p. p ≡ elements bytes.now) }
+        ensures rules { IfOk result (λ p. IsTrue (is_path p)) }
+        ensures unruly { (at : ℕ) → IsErrOf result (PathFault.BadPath at) → is_path (elements bytes.now) ≡ false }
+        ensures bad { (at : ℕ) → (IsErrOf result (PathFault.BadPath at) ↔ (path_fault bytes.now ≡ Some at)) }
+    {
+        if let Some(at) = path_fault_of(bytes) {
             return Err(PathFault::BadPath { at });
         }
+        let Ok(text) = str::from_utf8(bytes) else {
+            unreachable!()
+        };
         let text = String::from_str(alloc, text)?;
         Ok(RepoPath { text })
     }
@@ -114,5 +127,11 @@ impl Ord for RepoPath {
 
     fn cmp(&self, other: &RepoPath) -> Ordering {
         compare(self.text.as_bytes(), other.text.as_bytes())
+    }
+}
+
+impl fmt::Debug for RepoPath {
+    fn fmt<W: fmt::Write>(&self, f: &mut fmt::Formatter<W>) -> fmt::Result {
+        f.write_str(self.as_str())
     }
 }
