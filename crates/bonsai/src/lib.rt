@@ -3,6 +3,7 @@
 
 pub mod change;
 pub mod edit;
+mod edits;
 mod field_fault;
 mod fields;
 mod parts;

@@ -42,8 +42,8 @@ fn short_len(bytes: &[u8], most: u16) -> Result<(usize, &[u8]), BadField>
     Ok((usize::from(len), rest))
 }
 
-// A number of 32 bits up to a bound.
-fn u32_up_to(bytes: &[u8], most: u32) -> Result<(u32, &[u8]), BadField>
+/// A number of 32 bits up to a bound.
+pub(crate) fn u32_up_to(bytes: &[u8], most: u32) -> Result<(u32, &[u8]), BadField>
     ensures { Gives (λ x. (x.0, x.1.now)) result (number w32 (λ n. nat_le n most) bytes.now) }
 {
     let (value, rest) = u32_at(bytes)?;
