@@ -1,1 +1,4 @@
+pub mod Between
+pub mod Conflicts
+pub mod Rules
 pub mod Run

@@ -1,3 +1,4 @@
+pub mod Conflict
 pub mod Parts
 pub mod Reads
 pub mod View

@@ -1,4 +1,8 @@
 //! What a changeset does at one path.
+ghost use Rattle.std.specs.Prelude.{◌≡◌};
+ghost use Rattle.changeset_model.specs.Changeset.{kind_byte};
+ghost use Rattle.bonsai.specs.View.{kind_view};
+
 use object_id::Id;
 
 /// The type of a file.
@@ -7,6 +11,19 @@ pub enum FileKind {
     Regular,
     Executable,
     Symlink,
+}
+
+impl FileKind {
+    /// The byte that stands for it: 0, 1 or 2.
+    pub(crate) fn code(self) -> u8
+        ensures { result ≡ kind_byte (kind_view self) }
+    {
+        match self {
+            FileKind::Regular => 0,
+            FileKind::Executable => 1,
+            FileKind::Symlink => 2,
+        }
+    }
 }
 
 /// What a changeset does at a path.

@@ -2,12 +2,17 @@
 #![tactic(auto)]
 
 pub mod change;
+pub mod changeset;
 pub mod edit;
 mod edits;
+pub mod encoding;
+mod conflict;
 mod field_fault;
 mod fields;
 mod parts;
 mod text;
 
 pub use change::{Change, FileKind};
+pub use changeset::Changeset;
 pub use edit::Edit;
+pub use encoding::encode;
