@@ -2,3 +2,4 @@ pub mod Between
 pub mod Conflicts
 pub mod Rules
 pub mod Run
+pub mod Written

@@ -1,7 +1,7 @@
 //! The spelling of a changeset. Numbers stand high byte first.
-ghost use Rattle.std.specs.Prelude.{◌≡◌, ◌≤◌, ◌++◌, length, flat_map, string_bytes, string_len, OnOk, IfOk, IsTrue};
+ghost use Rattle.std.specs.Prelude.{◌≡◌, ◌≤◌, ◌∷◌, ◌++◌, length, flat_map, OnOk, IfOk, IsTrue};
 ghost use Rattle.std.specs.List.{concat};
-ghost use Rattle.std.specs.Int.{w16, w32};
+ghost use Rattle.std.specs.Int.{w16, w32, w64, to_be_bytes, cast_unsigned};
 ghost use Rattle.byte_fields.specs.Bytes.{sized};
 ghost use Rattle.changeset_model.specs.Changeset as model;
 ghost use Rattle.bonsai.specs.View.{ids_view, change_view, edit_view, edits_view, fields_view};
@@ -26,15 +26,37 @@ fn put_fields(out: &mut Vec<u8>, fields: &Fields) -> Result<(), AllocError>
     requires { IsTrue (model.is_changeset (fields_view fields.now)) }
     ensures { OnOk result (out.new.items ≡ out.old.items ++ model.spelling (fields_view fields.now)) }
 {
-    out.extend_from_slice(&[b'C', 1])?;
-    out.push(fields.parents.len() as u8)?;
-    put_parents(out, fields.parents.as_slice())?;
+    put_head(out, fields.parents.as_slice())?;
     put_author(out, fields.author.as_str())?;
-    out.extend_from_slice(&fields.seconds.to_be_bytes())?;
-    out.extend_from_slice(&fields.offset.to_be_bytes())?;
+    put_date(out, fields.seconds, fields.offset)?;
     put_message(out, fields.message.as_str())?;
-    out.extend_from_slice(&(fields.edits.len() as u32).to_be_bytes())?;
-    put_edits(out, fields.edits.as_slice())
+    put_edit_list(out, fields.edits.as_slice())?;
+    Ok(())
+}
+
+// The mark, the version and the parents.
+fn put_head(out: &mut Vec<u8>, parents: &[Id]) -> Result<(), AllocError>
+    requires { length parents.now ≤ 2 }
+    ensures { OnOk result (out.new.items ≡ out.old.items ++ 0x43 ∷ 1 ∷ length parents.now ∷ concat (ids_view parents.now)) }
+{
+    out.extend_from_slice(&[b'C', 1, parents.len() as u8])?;
+    put_parents(out, parents)
+}
+
+fn put_date(out: &mut Vec<u8>, seconds: i64, offset: i32) -> Result<(), AllocError>
+    ensures { OnOk result (out.new.items ≡ out.old.items ++ to_be_bytes w64 (cast_unsigned w64 seconds) ++ to_be_bytes w32 (cast_unsigned w32 offset)) }
+{
+    out.extend_from_slice(&seconds.to_be_bytes())?;
+    out.extend_from_slice(&offset.to_be_bytes())
+}
+
+// How many edits there are, and then each.
+fn put_edit_list(out: &mut Vec<u8>, edits: &[Edit]) -> Result<(), AllocError>
+    requires { length edits.now ≤ 4096 }
+    ensures { OnOk result (out.new.items ≡ out.old.items ++ to_be_bytes w32 (length edits.now) ++ flat_map model.edit_bytes (edits_view edits.now)) }
+{
+    out.extend_from_slice(&(edits.len() as u32).to_be_bytes())?;
+    put_edits(out, edits)
 }
 
 fn put_parents(out: &mut Vec<u8>, parents: &[Id]) -> Result<(), AllocError>

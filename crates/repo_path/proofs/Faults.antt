@@ -129,3 +129,6 @@ elements_text (e ∷ p) some h = elements_are_text e p h
 -- a path's text is UTF-8
 pub path_is_text : (text : List ℕ) → is_path (elements text) ≡ true → IsUtf8 text
 path_is_text text h = subst IsUtf8 (text_of-elements text) (elements_text (elements text) (some_elements text) (second_of_two (nat_lt 0 (length (elements text))) (list_all is_element (elements text)) (first_of_two _ (nat_le (length (text_of (elements text))) 4096) h)))
+
+pub path_is_short : (p : Path) → is_path p ≡ true → length (text_of p) ≤ 4096
+path_is_short p h = leb-true (length (text_of p)) 4096 (second_of_two _ (nat_le (length (text_of p)) 4096) h)

@@ -1,5 +1,5 @@
 //! A path of the repository.
-ghost use Rattle.std.specs.Prelude.{◌≡◌, ◌↔◌, ℕ, false, None, Some, IfOk, IsErrOf, IsTrue, refl};
+ghost use Rattle.std.specs.Prelude.{◌≡◌, ◌≤◌, ◌↔◌, ℕ, length, false, None, Some, IfOk, IsErrOf, IsTrue, refl};
 ghost use Rattle.std.specs.Cmp.{partial_equiv_from_equiv, partial_order_from_agreeing_total};
 ghost use Rattle.changeset_model.specs.Path.{Path, elements, text_of, is_path, path_fault, path_eq, path_cmp, comparable as are_comparable, is_strict_prefix as is_strictly_above};
 ghost use Rattle.changeset_model.proofs.Paths.{path_cmp_total};
@@ -65,6 +65,7 @@ impl RepoPath {
         ensures text { result.now ≡ text_of self.now }
         ensures elements { elements result.now ≡ self.now }
         ensures path { IsTrue (is_path self.now) }
+        ensures length { length result.now ≤ 4096 }
     {
         self.text.as_str()
     }
