@@ -1,3 +1,4 @@
+pub mod AllRead
 pub mod Between
 pub mod Conflicts
 pub mod Rules

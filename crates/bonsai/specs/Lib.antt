@@ -1,3 +1,4 @@
+pub mod Decodes
 pub mod Conflict
 pub mod Parts
 pub mod Reads

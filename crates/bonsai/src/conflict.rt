@@ -8,6 +8,7 @@ use crate::edit::Edit;
 use repo_path::RepoPath;
 
 /// Two set paths of one changeset, of which the one lies under the other.
+#[derive(Clone, Copy)]
 pub(crate) struct Conflict<'a> {
     pub(crate) short: &'a RepoPath,
     pub(crate) long: &'a RepoPath,

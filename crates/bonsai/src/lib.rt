@@ -4,6 +4,8 @@
 pub mod change;
 pub mod changeset;
 pub mod edit;
+pub mod decode_fault;
+pub mod decoding;
 mod edits;
 pub mod encoding;
 mod conflict;
@@ -14,5 +16,7 @@ mod text;
 
 pub use change::{Change, FileKind};
 pub use changeset::Changeset;
+pub use decode_fault::DecodeFault;
+pub use decoding::decode;
 pub use edit::Edit;
 pub use encoding::encode;
