@@ -24,7 +24,7 @@ equal_of Less h = absurd (cc)
 equal_of Equal h = refl
 equal_of Greater h = absurd (cc)
 
-less_of : (o : Ordering) → is_lt o ≡ true → o ≡ Less
+pub less_of : (o : Ordering) → is_lt o ≡ true → o ≡ Less
 less_of Less h = refl
 less_of Equal h = absurd (cc)
 less_of Greater h = absurd (cc)

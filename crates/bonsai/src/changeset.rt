@@ -2,13 +2,17 @@
 ghost use Rattle.std.specs.Prelude.{◌≡◌, ◌∷◌, [], map, option_map, IfOk, IsTrue};
 ghost use Rattle.changeset_model.specs.Changeset as model;
 ghost use Rattle.history_model.specs.Pushrebase.{on_parent};
-ghost use Rattle.bonsai.specs.View.{ids_view, edits_view};
+ghost use Rattle.bonsai.specs.View.{ids_view, change_view, edits_view};
 
+use crate::change::Change;
 use crate::conflict::{Conflict, first_conflict};
 use crate::edit::Edit;
+use crate::edit_list::{change_among, paths_of};
+use crate::encoding::encode;
 use crate::fields::Fields;
 use object_id::Id;
 use repo_path::RepoPath;
+use std::alloc::{AllocError, Global};
 use std::marker::Model;
 
 /// A changeset: at most two parents, the author, when and with which message, and what it changes, by rising paths. It
@@ -49,6 +53,47 @@ impl Changeset {
         ensures rules { IsTrue (model.is_changeset self.now) }
     {
         self.fields.edits.as_slice()
+    }
+
+    /// What is done at a path.
+    pub fn change_at(&self, path: &RepoPath) -> Option<&Change>
+        ensures { option_map (λ c. change_view c.now) result ≡ model.change_at self.now path.now }
+    {
+        change_among(self.fields.edits.as_slice(), path)
+    }
+
+    /// The paths that are set or deleted, rising, in memory of their own.
+    pub fn touched_paths(&self, alloc: Global) -> Result<Vec<RepoPath>, AllocError>
+        ensures edits { IfOk result (λ paths. paths.items ≡ map (λ e. e.0) self.now.changes) }
+        ensures touched { IfOk result (λ paths. paths.items ≡ model.touched_paths (self.now ∷ [])) }
+    {
+        paths_of(alloc, self.fields.edits.as_slice())
+    }
+
+    /// The id: the SHA-256 of the spelling.
+    pub fn id(&self, alloc: Global) -> Result<Id, AllocError>
+        ensures { IfOk result (λ id. id.0 ≡ model.id_of self.now) }
+    {
+        let bytes = encode(alloc, self)?;
+        Ok(Id::of(bytes.as_slice()))
+    }
+
+    /// The same changeset, in memory of its own.
+    pub fn copy(&self, alloc: Global) -> Result<Changeset, AllocError>
+        ensures { IfOk result (λ c. c ≡ self.now) }
+    {
+        let parents = Vec::from_slice(alloc, self.fields.parents.as_slice())?;
+        let fields = self.fields.with_parents(alloc, parents)?;
+        Ok(Changeset { fields })
+    }
+
+    /// The same changeset with this one parent, in memory of its own.
+    pub fn with_parent(&self, alloc: Global, parent: Id) -> Result<Changeset, AllocError>
+        ensures { IfOk result (λ c. c ≡ on_parent parent.0 self.now) }
+    {
+        let parents = Vec::from_array(alloc, [parent])?;
+        let fields = self.fields.with_parents(alloc, parents)?;
+        Ok(Changeset { fields })
     }
 
     /// The first set path under another set path, with the shortest set path above it.

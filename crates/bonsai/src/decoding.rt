@@ -1,7 +1,7 @@
 //! Changesets, read of bytes.
-ghost use Rattle.std.specs.Prelude.{◌≡◌, ◌-◌, length, IfOk};
+ghost use Rattle.std.specs.Prelude.{◌≡◌, ◌≤◌, ◌-◌, length, None, Ok, IfOk};
 ghost use Rattle.byte_fields.specs.Reading.{read};
-ghost use Rattle.changeset_model.specs.Changeset.{Spells};
+ghost use Rattle.changeset_model.specs.Changeset.{Changeset as ModelChangeset, Spells, most_encoded, self_conflict};
 ghost use Rattle.changeset_model.specs.Decoding.{changeset as changeset_reader, decoded};
 ghost use Rattle.bonsai.specs.Decodes.{Decodes, placed};
 
@@ -17,7 +17,17 @@ pub const LONGEST_ENCODING: usize = 1_048_576;
 /// The changeset that bytes spell.
 pub fn decode(alloc: Global, bytes: &[u8]) -> Result<Changeset, DecodeFault>
     ensures exact { Decodes result (decoded bytes.now) }
-    ensures spelled { IfOk result (λ c. Spells c bytes.now) }
+    // What is read is spelled so, and has no self-conflict.
+    ensures accepted { IfOk result (λ c. (length bytes.now ≤ most_encoded) × Spells c bytes.now × (self_conflict c ≡ None)) }
+    // What is spelled so is read, unless memory runs out.
+    ensures again { (c : ModelChangeset) → length bytes.now ≤ most_encoded → Spells c bytes.now → self_conflict c ≡ None → Decodes result (Ok c) }
+{
+    without_conflict(alloc, bytes)
+}
+
+// The changeset that bytes spell, if it has no self-conflict.
+fn without_conflict(alloc: Global, bytes: &[u8]) -> Result<Changeset, DecodeFault>
+    ensures { Decodes result (decoded bytes.now) }
 {
     if bytes.len() > LONGEST_ENCODING {
         return Err(DecodeFault::TooLong {

@@ -1,8 +1,6 @@
 //! A path with what a changeset does there.
-ghost use Rattle.std.specs.Prelude.{◌≡◌, option_map, map, IfOk};
-ghost use Rattle.std.specs.FinMap.{find as find_key};
-ghost use Rattle.changeset_model.specs.Path.{path_cmp};
-ghost use Rattle.bonsai.specs.View.{change_view, edits_view};
+ghost use Rattle.std.specs.Prelude.{◌≡◌, IfOk};
+ghost use Rattle.bonsai.specs.View.{edit_view};
 
 use crate::change::Change;
 use repo_path::RepoPath;
@@ -13,4 +11,17 @@ use std::alloc::{AllocError, Global};
 pub struct Edit {
     pub path: RepoPath,
     pub change: Change,
+}
+
+impl Edit {
+    /// The same edit, in memory of its own.
+    pub fn copy(&self, alloc: Global) -> Result<Edit, AllocError>
+        ensures { IfOk result (λ e. edit_view e ≡ edit_view self.now) }
+    {
+        let path = self.path.copy(alloc)?;
+        Ok(Edit {
+            path,
+            change: self.change,
+        })
+    }
 }

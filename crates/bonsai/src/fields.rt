@@ -1,16 +1,17 @@
 //! A changeset's fields.
-ghost use Rattle.std.specs.Prelude.{◌≡◌};
+ghost use Rattle.std.specs.Prelude.{◌≡◌, IfOk};
 ghost use Rattle.changeset_model.specs.Decoding as decoding;
 ghost use Rattle.bonsai.specs.Reads.{Reads};
-ghost use Rattle.bonsai.specs.View.{fields_view};
+ghost use Rattle.bonsai.specs.View.{ids_view, fields_view};
 
 use crate::edit::Edit;
+use crate::edit_list::copy_of;
 use crate::edits::edit_list_at;
 use crate::field_fault::FieldFault;
 use crate::parts::{author_at, byte_at, message_at, parent_list_at};
 use byte_fields::fields::{i32_at, i64_at};
 use object_id::Id;
-use std::alloc::Global;
+use std::alloc::{AllocError, Global};
 
 /// The fields of a changeset as they stand in its bytes, before it is known that all of the bytes were read.
 #[derive(Debug, Drop)]
@@ -21,6 +22,25 @@ pub(crate) struct Fields {
     pub(crate) offset: i32,
     pub(crate) message: String,
     pub(crate) edits: Vec<Edit>,
+}
+
+impl Fields {
+    /// The same fields but for the parents, in memory of their own.
+    pub(crate) fn with_parents(&self, alloc: Global, parents: Vec<Id>) -> Result<Fields, AllocError>
+        ensures { IfOk result (λ f. fields_view f ≡ record (fields_view self.now) { parents = ids_view parents.items }) }
+    {
+        let author = String::from_str(alloc, self.author.as_str())?;
+        let message = String::from_str(alloc, self.message.as_str())?;
+        let edits = copy_of(alloc, self.edits.as_slice())?;
+        Ok(Fields {
+            parents,
+            author,
+            seconds: self.seconds,
+            offset: self.offset,
+            message,
+            edits,
+        })
+    }
 }
 
 /// The fields at the front of some bytes.

@@ -6,6 +6,7 @@ pub mod changeset;
 pub mod edit;
 pub mod decode_fault;
 pub mod decoding;
+mod edit_list;
 mod edits;
 pub mod encoding;
 mod conflict;
