@@ -1,5 +1,6 @@
 //! A changeset.
 ghost use Rattle.std.specs.Prelude.{◌≡◌, ◌∷◌, [], map, option_map, IfOk, IsTrue};
+ghost use Rattle.byte_fields.specs.Bytes.{are_bytes, is_bytes};
 ghost use Rattle.changeset_model.specs.Changeset as model;
 ghost use Rattle.history_model.specs.Pushrebase.{on_parent};
 ghost use Rattle.bonsai.specs.View.{ids_view, change_view, edits_view};
@@ -91,7 +92,7 @@ impl Changeset {
     pub fn with_parent(&self, alloc: Global, parent: Id) -> Result<Changeset, AllocError>
         ensures { IfOk result (λ c. c ≡ on_parent parent.0 self.now) }
     {
-        let parents = Vec::from_array(alloc, [parent])?;
+        let parents = sole_parent(alloc, &parent)?;
         let fields = self.fields.with_parents(alloc, parents)?;
         Ok(Changeset { fields })
     }
@@ -102,4 +103,25 @@ impl Changeset {
     {
         first_conflict(self.fields.edits.as_slice())
     }
+}
+
+// A list of one parent, which keeps the rule of parents.
+fn sole_parent(alloc: Global, parent: &Id) -> Result<Vec<Id>, AllocError>
+    ensures parents { IfOk result (λ ids. ids_view ids.items ≡ parent.now.0 ∷ []) }
+    ensures rule { IsTrue (model.are_parents (parent.now.0 ∷ [])) }
+{
+    id_has_bytes(&parent.0);
+    Ok(Vec::from_array(alloc, [*parent])?)
+}
+
+// An id is 32 bytes.
+fn id_has_bytes(id: &[u8; 32])
+    ensures { IsTrue (is_bytes 32 id.now) }
+{
+    bytes_are_bytes(id.as_slice());
+}
+
+fn bytes_are_bytes(bytes: &[u8])
+    ensures { IsTrue (are_bytes bytes.now) }
+{
 }
