@@ -29,7 +29,6 @@ less_of Less h = refl
 less_of Equal h = absurd (cc)
 less_of Greater h = absurd (cc)
 
-
 abbrev text_cmp : List ℕ → List ℕ → Ordering
 text_cmp = slice_cmp nat_cmp
 

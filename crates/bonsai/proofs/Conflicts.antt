@@ -96,7 +96,7 @@ seek x done (p ∷ rest) all e rises apart =
     let front = rising_front (x ∷ done) (p ∷ rest) rises' in
     let lower = front_lower (x ∷ done) p rest rises' in
     let found : find (λ s. is_strict_prefix s p) all ≡ cond (is_strict_prefix q p) (Some q) None =
-        ap (find (λ s. is_strict_prefix s p)) e ∙ find_append p (x ∷ done) (p ∷ rest) (none_after p rest (rising_back (x ∷ done) (p ∷ rest) rises')) ∙ only_last x done p front apart lower in
+    ap (find (λ s. is_strict_prefix s p)) e ∙ find_append p (x ∷ done) (p ∷ rest) (none_after p rest (rising_back (x ∷ done) (p ∷ rest) rises')) ∙ only_last x done p front apart lower in
     ap (λ o. option_or (option_map (λ short. (short, p)) o) (first_some (above_in all) rest)) found
     ∙ found_by q p (first_some (above_in all) rest) (is_strict_prefix q p)
     ∙ on (is_strict_prefix q p) refl (λ h. seek x (done ++ p ∷ []) rest all (e ∙ sym (append_assoc (x ∷ done) (p ∷ []) rest)) rises (apart_push (x ∷ done) p apart (all_apart x done p front apart lower h)) ∙ ap (λ r. next_to (Some r) rest) (last_push x done p))

@@ -29,7 +29,7 @@ less_one : (n k : ℕ) → k < n → n - k ≡ suc (n - (k + 1))
 less_one n k h = omega arith
 
 pub goes_on : (front : List (Path × FileChange)) (n k : ℕ) (before : Option Path) (rest after : List ℕ) (e : Path × FileChange) → k < n → edit before rest ≡ Ok (e, after)
-  → with_front front (edits (n - k) before rest) ≡ with_front (front ++ e ∷ []) (edits (n - (k + 1)) (Some e.0) after)
+    → with_front front (edits (n - k) before rest) ≡ with_front (front ++ e ∷ []) (edits (n - (k + 1)) (Some e.0) after)
 goes_on front n k before rest after e less read =
     ap (λ m. with_front front (edits m before rest)) (less_one n k less)
     ∙ ap (λ r. with_front front (and_then r (λ e. edits (n - (k + 1)) (Some e.0) >>= λ es. value (e ∷ es)))) read

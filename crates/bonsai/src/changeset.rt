@@ -123,5 +123,4 @@ fn id_has_bytes(id: &[u8; 32])
 
 fn bytes_are_bytes(bytes: &[u8])
     ensures { IsTrue (are_bytes bytes.now) }
-{
-}
+{}

@@ -3,13 +3,13 @@
 
 pub mod change;
 pub mod changeset;
-pub mod edit;
+mod conflict;
 pub mod decode_fault;
 pub mod decoding;
+pub mod edit;
 mod edit_list;
 mod edits;
 pub mod encoding;
-mod conflict;
 mod field_fault;
 mod fields;
 mod parts;
@@ -21,3 +21,6 @@ pub use decode_fault::DecodeFault;
 pub use decoding::decode;
 pub use edit::Edit;
 pub use encoding::encode;
+
+#[cfg(test)]
+mod tests;

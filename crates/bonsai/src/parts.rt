@@ -180,7 +180,11 @@ fn change_at(bytes: &[u8]) -> Result<(Change, &[u8]), BadField>
 }
 
 // The path that a text is, if it is one and comes after the path before.
-fn next_path(alloc: Global, before: Option<&RepoPath>, text: &[u8]) -> Result<Option<RepoPath>, FieldFault>
+fn next_path(
+    alloc: Global,
+    before: Option<&RepoPath>,
+    text: &[u8],
+) -> Result<Option<RepoPath>, FieldFault>
     ensures path { IfOk result (λ p. p ≡ keeping (λ p. is_path p && decoding.is_after (option_map (λ q. q.now) before.entry) p) (elements text.now)) }
     ensures memory { IfErr result (λ e. e ≡ Memory) }
 {
@@ -196,7 +200,11 @@ fn next_path(alloc: Global, before: Option<&RepoPath>, text: &[u8]) -> Result<Op
     Ok(if rises { Some(path) } else { None })
 }
 
-fn path_at<'a>(alloc: Global, before: Option<&RepoPath>, bytes: &'a [u8]) -> Result<(RepoPath, &'a [u8]), FieldFault>
+fn path_at<'a>(
+    alloc: Global,
+    before: Option<&RepoPath>,
+    bytes: &'a [u8],
+) -> Result<(RepoPath, &'a [u8]), FieldFault>
     ensures { Reads (λ x. (x.0, x.1.now)) result (decoding.path (option_map (λ q. q.now) before.entry) bytes.now) }
 {
     let (len, rest) = short_len(bytes, 4096)?;
@@ -208,7 +216,11 @@ fn path_at<'a>(alloc: Global, before: Option<&RepoPath>, bytes: &'a [u8]) -> Res
 }
 
 /// A path after the one before, with its change.
-pub(crate) fn edit_at<'a>(alloc: Global, before: Option<&RepoPath>, bytes: &'a [u8]) -> Result<(Edit, &'a [u8]), FieldFault>
+pub(crate) fn edit_at<'a>(
+    alloc: Global,
+    before: Option<&RepoPath>,
+    bytes: &'a [u8],
+) -> Result<(Edit, &'a [u8]), FieldFault>
     ensures { Reads (λ x. (edit_view x.0, x.1.now)) result (decoding.edit (option_map (λ q. q.now) before.entry) bytes.now) }
 {
     let (path, rest) = path_at(alloc, before, bytes)?;
