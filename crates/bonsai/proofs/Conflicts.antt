@@ -1,8 +1,7 @@
 -- The first self-conflict is one of neighbours.
-use Rattle.std.proofs.Common.{◌≡◌, ℕ, Bool, true, false, cond, List, [], ◌∷◌, ◌++◌, length, map, Option, Some, None, refl, sym, ap, subst, ◌∙◌, append_assoc}
+use Rattle.std.proofs.Common.{◌≡◌, Bool, true, false, cond, List, [], ◌∷◌, ◌++◌, map, Option, Some, None, refl, sym, ap, subst, ◌∙◌, append_assoc}
 use Rattle.std.specs.Prelude.{find, filter_map, option_map}
 use Rattle.std.specs.List.{AllByRecursion}
-use Rattle.std.specs.Ordering.{is_lt}
 use Rattle.std.specs.Option.{option_or}
 use Rattle.std.specs.FinMap.{is_sorted}
 use Rattle.std.specs.FinMap.Entries.{below_all}

@@ -1,13 +1,13 @@
 -- What follows from the rules of a changeset.
-use Rattle.std.proofs.Common.{◌≡◌, ℕ, ◌^◌, ◌<◌, ◌≤◌, ℤ, pos, negsuc, SFits, Bool, true, ◌&&◌, List, [], ◌∷◌, length, ap, ◌∙◌, arith}
+use Rattle.std.proofs.Common.{◌≡◌, ◌^◌, ◌≤◌, ℤ, pos, negsuc, SFits, Bool, true, ◌&&◌, List, [], ◌∷◌, length, arith}
 use Rattle.std.specs.Prelude.{nat_lt, nat_le}
 use Rattle.std.specs.List.{list_all}
 use Rattle.std.specs.Int.{w32, w64}
 use Rattle.std.specs.FinMap.{is_sorted}
 use Rattle.std.proofs.lemmas.Bool.{leb-true, ltb-true}
 use Rattle.byte_fields.specs.Bytes.{Id, is_text, is_line}
-use Rattle.changeset_model.specs.Path.{Path, path_cmp, is_path}
-use Rattle.changeset_model.specs.Changeset.{Changeset, FileChange, is_changeset, are_parents, is_author, is_signed, is_message, are_changes, is_change}
+use Rattle.changeset_model.specs.Path.{path_cmp, is_path}
+use Rattle.changeset_model.specs.Changeset.{Changeset, is_changeset, are_parents, is_author, is_signed, is_message, are_changes, is_change}
 use Rattle.bonsai.proofs.Between.{first_of, second_of}
 
 abbrev dated : Changeset → Bool

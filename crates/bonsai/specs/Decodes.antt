@@ -1,6 +1,5 @@
 -- What decoding returned is what the definitions read, unless memory ran out.
-use Rattle.std.specs.Prelude.{◌≡◌, ℕ, List, Result, Ok, Err}
-use Rattle.byte_fields.specs.Reading.{read}
+use Rattle.std.specs.Prelude.{◌≡◌, ℕ, Result, Ok, Err}
 use Rattle.changeset_model.specs.Changeset.{Changeset}
 use Rattle.changeset_model.specs.Decoding as decoding
 use Rattle.bonsai.specs.declared.decode_fault.DecodeFault.{DecodeFault}

@@ -2,7 +2,7 @@
 --     ids_view ids      ids as their bytes;  kind_view k      a type of files
 --     change_view c      what is done at a path;  edit_view e, edits_view es      with its path
 --     fields_view f      the fields of a changeset
-use Rattle.std.specs.Prelude.{ℕ, List, map, string_bytes}
+use Rattle.std.specs.Prelude.{List, map, string_bytes}
 use Rattle.byte_fields.specs.Bytes as bytes
 use Rattle.object_id.specs.declared.id.Id.{Id}
 use Rattle.changeset_model.specs.Path.{Path}

@@ -26,55 +26,81 @@ fn changeset_bytes(alloc: Global, count: u8, changes: &[u8]) -> Result<Vec<u8>, 
     Ok(bytes)
 }
 
-fn put_delete(out: &mut Vec<u8>, path: &str) -> Result<(), AllocError> {
+fn put_path(out: &mut Vec<u8>, path: &str) -> Result<(), AllocError> {
     out.extend_from_slice(&[0, path.len().min(255) as u8])?;
-    out.extend_from_slice(path.as_bytes())?;
-    out.push(0)?;
-    Ok(())
+    out.extend_from_slice(path.as_bytes())
 }
 
-fn put_set(
-    out: &mut Vec<u8>,
-    path: &str,
-    kind: u8,
-    size: u64,
-    content: &Id,
-) -> Result<(), AllocError> {
-    out.extend_from_slice(&[0, path.len().min(255) as u8])?;
-    out.extend_from_slice(path.as_bytes())?;
+fn put_set(out: &mut Vec<u8>, kind: u8, size: u64, content: &Id) -> Result<(), AllocError> {
     out.extend_from_slice(&[1, kind])?;
     out.extend_from_slice(&size.to_be_bytes())?;
-    out.extend_from_slice(&content.0)?;
-    Ok(())
+    out.extend_from_slice(&content.0)
 }
 
-fn set_p(alloc: Global) -> Result<Vec<u8>, Fail> {
+/// A set of some paths and a delete of the others, in the order given.
+fn edits_bytes(alloc: Global, edits: &[(&str, bool)]) -> Result<Vec<u8>, AllocError> {
+    let mut changes = Vec::new(alloc);
+    for (path, sets) in edits {
+        put_path(&mut changes, path)?;
+        if *sets {
+            put_set(&mut changes, 0, 0, &Id::of(&[]))?;
+        } else {
+            changes.push(0)?;
+        }
+    }
+    changeset_bytes(alloc, edits.len().min(255) as u8, changes.as_slice())
+}
+
+fn one_set(alloc: Global, kind: u8, size: u64, content: &Id) -> Result<Vec<u8>, AllocError> {
     let mut change = Vec::new(alloc);
-    put_set(&mut change, "p", 0, 3, &Id::from_hex(ABC)?)?;
-    Ok(changeset_bytes(alloc, 1, change.as_slice())?)
+    put_path(&mut change, "p")?;
+    put_set(&mut change, kind, size, content)?;
+    changeset_bytes(alloc, 1, change.as_slice())
 }
 
-fn place_of_fault(alloc: Global, bytes: &[u8]) -> Option<usize> {
+/// The place of a bad encoding.
+fn place(alloc: Global, bytes: &[u8]) -> Option<usize> {
     match decode(alloc, bytes) {
         Err(DecodeFault::BadEncoding { at }) => Some(at),
         Ok(_) | Err(_) => None,
     }
 }
 
-fn decoded(alloc: Global, bytes: &[u8]) -> Result<Changeset, Fail> {
-    Ok(decode(alloc, bytes).ok().ok_or("a changeset")?)
+fn conflicts(alloc: Global, bytes: &[u8], above: &str, under: &str) -> bool {
+    match decode(alloc, bytes) {
+        Err(DecodeFault::SelfConflict { short, long }) => {
+            short.as_str() == above && long.as_str() == under
+        }
+        Ok(_) | Err(_) => false,
+    }
 }
 
-#[test]
-fn empty_changeset(rt: HostRuntime) -> Result<(), Fail> {
-    let alloc = rt.alloc();
-    let bytes = changeset_bytes(alloc, 0, &[])?;
-    let empty = decoded(alloc, bytes.as_slice())?;
-    assert_eq!(rt; empty.parents().len(), 0);
-    assert_eq!(rt; empty.edits().len(), 0);
-    assert_eq!(rt; empty.id(alloc)?.to_hex(alloc)?.as_str(), EMPTY_ID);
-    assert_eq!(rt; encode(alloc, &empty)?.as_slice(), bytes.as_slice());
-    Ok(())
+fn has_id(alloc: Global, changeset: &Changeset, wanted: &str) -> bool {
+    match changeset.id(alloc) {
+        Ok(id) => Id::from_hex(wanted) == Ok(id),
+        Err(_) => false,
+    }
+}
+
+fn is_spelled(alloc: Global, changeset: &Changeset, wanted: &[u8]) -> bool {
+    match encode(alloc, changeset) {
+        Ok(bytes) => bytes.as_slice() == wanted,
+        Err(_) => false,
+    }
+}
+
+fn does(alloc: Global, changeset: &Changeset, path: &str, wanted: Option<Change>) -> bool {
+    match RepoPath::parse(alloc, path) {
+        Ok(path) => changeset.change_at(&path).copied() == wanted,
+        Err(_) => false,
+    }
+}
+
+fn touches(alloc: Global, changeset: &Changeset, wanted: &str) -> bool {
+    match changeset.touched_paths(alloc) {
+        Ok(paths) => paths.len() == 1 && paths.iter().all(|p| p.as_str() == wanted),
+        Err(_) => false,
+    }
 }
 
 #[test]
@@ -83,19 +109,18 @@ fn prefixes(rt: HostRuntime) -> Result<(), Fail> {
     let places = [
         0, 1, 2, 3, 3, 5, 6, 6, 6, 6, 6, 6, 6, 6, 14, 14, 14, 14, 18, 18, 18, 18, 22, 22, 22, 22,
     ];
-    assert_eq!(rt; bytes.len(), 26);
-    for (len, place) in places.iter().enumerate() {
+    for (len, want) in places.iter().enumerate() {
         let front = bytes.get(..len).ok_or("a front")?;
-        assert_eq!(rt; place_of_fault(rt.alloc(), front), Some(*place), "at {len}");
+        assert_eq!(rt; place(rt.alloc(), front), Some(*want), "at {len}");
     }
     bytes.push(0)?;
-    assert_eq!(rt; place_of_fault(rt.alloc(), bytes.as_slice()), Some(26));
+    assert_eq!(rt; place(rt.alloc(), bytes.as_slice()), Some(26));
     Ok(())
 }
 
 #[test]
 fn fields_that_break_their_rule(rt: HostRuntime) -> Result<(), Fail> {
-    for (at, byte, place) in [
+    for (at, byte, want) in [
         (0, 0x44, 0),
         (1, 2, 1),
         (2, 3, 2),
@@ -110,8 +135,8 @@ fn fields_that_break_their_rule(rt: HostRuntime) -> Result<(), Fail> {
         let mut bytes = changeset_bytes(rt.alloc(), 0, &[])?;
         *bytes.get_mut(at).ok_or("a byte")? = byte;
         assert_eq!(rt;
-            place_of_fault(rt.alloc(), bytes.as_slice()),
-            Some(place),
+            place(rt.alloc(), bytes.as_slice()),
+            Some(want),
             "{byte} at {at}"
         );
     }
@@ -119,127 +144,94 @@ fn fields_that_break_their_rule(rt: HostRuntime) -> Result<(), Fail> {
 }
 
 #[test]
-fn parents_that_break_their_rule(rt: HostRuntime) -> Result<(), Fail> {
+fn the_same_parent_twice(rt: HostRuntime) -> Result<(), Fail> {
     let mut bytes = Vec::from_slice(rt.alloc(), &[0x43, 1, 2])?;
     bytes.extend_from_slice(&[7; 64])?;
-    assert_eq!(rt; place_of_fault(rt.alloc(), bytes.as_slice()), Some(35));
-    *bytes.get_mut(66).ok_or("a byte")? = 8;
-    assert_eq!(rt; place_of_fault(rt.alloc(), bytes.as_slice()), Some(67));
+    assert_eq!(rt; place(rt.alloc(), bytes.as_slice()), Some(35));
     Ok(())
 }
 
 #[test]
 fn deletes_in_order_and_out_of_order(rt: HostRuntime) -> Result<(), Fail> {
-    for (first, second, place) in [
+    for (first, second, want) in [
         ("b", "a", Some(32)),
         ("a", "a", Some(32)),
         ("a", "b", None),
         ("a/b", "a.b", None),
         ("a.b", "a/b", Some(34)),
-        ("a/b", "a", Some(34)),
         ("a", "a//b", Some(32)),
     ] {
-        let mut changes = Vec::new(rt.alloc());
-        put_delete(&mut changes, first)?;
-        put_delete(&mut changes, second)?;
-        let bytes = changeset_bytes(rt.alloc(), 2, changes.as_slice())?;
+        let bytes = edits_bytes(rt.alloc(), &[(first, false), (second, false)])?;
         assert_eq!(rt;
-            place_of_fault(rt.alloc(), bytes.as_slice()),
-            place,
+            place(rt.alloc(), bytes.as_slice()),
+            want,
             "{first} {second}"
         );
         assert_eq!(rt;
             decode(rt.alloc(), bytes.as_slice()).is_ok(),
-            place.is_none(),
-            "{first} {second}"
+            want.is_none()
         );
     }
     Ok(())
 }
 
 #[test]
-fn changes_that_break_their_rule(rt: HostRuntime) -> Result<(), Fail> {
-    for (kind, size, place) in [(3, 0, 30), (2, 1_048_576, 0), (1, 1_048_577, 31)] {
-        let mut change = Vec::new(rt.alloc());
-        put_set(&mut change, "p", kind, size, &Id::of(&[]))?;
-        let bytes = changeset_bytes(rt.alloc(), 1, change.as_slice())?;
-        let found = place_of_fault(rt.alloc(), bytes.as_slice()).unwrap_or(0);
-        assert_eq!(rt; found, place, "type {kind}, size {size}");
+fn sets_that_break_their_rule(rt: HostRuntime) -> Result<(), Fail> {
+    for (kind, size, want) in [
+        (3, 0, Some(30)),
+        (2, 1_048_576, None),
+        (1, 1_048_577, Some(31)),
+    ] {
+        let bytes = one_set(rt.alloc(), kind, size, &Id::of(&[]))?;
+        assert_eq!(rt; place(rt.alloc(), bytes.as_slice()), want, "{kind} {size}");
     }
-    let bytes = changeset_bytes(rt.alloc(), 1, &[0, 1, b'p', 2])?;
-    assert_eq!(rt; place_of_fault(rt.alloc(), bytes.as_slice()), Some(29));
-    let bytes = changeset_bytes(rt.alloc(), 1, &[0, 0, b'p', 0])?;
-    assert_eq!(rt; place_of_fault(rt.alloc(), bytes.as_slice()), Some(26));
     Ok(())
-}
-
-fn conflict_of(rt: &HostRuntime, bytes: &[u8], short: &str, long: &str) -> bool {
-    match decode(rt.alloc(), bytes) {
-        Err(DecodeFault::SelfConflict { short: s, long: l }) => s.as_str() == short
-            && l.as_str() == long,
-        Ok(_) | Err(_) => false,
-    }
 }
 
 #[test]
 fn sets_under_sets(rt: HostRuntime) -> Result<(), Fail> {
-    let abc = Id::from_hex(ABC)?;
-    let mut changes = Vec::new(rt.alloc());
-    put_set(&mut changes, "a", 0, 3, &abc)?;
-    put_set(&mut changes, "a/b", 1, 3, &abc)?;
-    put_set(&mut changes, "a/b/c", 2, 3, &abc)?;
-    let bytes = changeset_bytes(rt.alloc(), 3, changes.as_slice())?;
-    assert!(rt; conflict_of(&rt, bytes.as_slice(), "a", "a/b"));
-    let mut changes = Vec::new(rt.alloc());
-    put_set(&mut changes, "a/b", 0, 3, &abc)?;
-    put_delete(&mut changes, "a/b/c")?;
-    put_set(&mut changes, "a/b/c/d", 0, 3, &abc)?;
-    let bytes = changeset_bytes(rt.alloc(), 3, changes.as_slice())?;
-    assert!(rt; conflict_of(&rt, bytes.as_slice(), "a/b", "a/b/c/d"));
-    let mut changes = Vec::new(rt.alloc());
-    put_delete(&mut changes, "a")?;
-    put_set(&mut changes, "a/b", 0, 3, &abc)?;
-    put_set(&mut changes, "a/bc", 0, 3, &abc)?;
-    let bytes = changeset_bytes(rt.alloc(), 3, changes.as_slice())?;
-    assert_eq!(rt; decoded(rt.alloc(), bytes.as_slice())?.edits().len(), 3);
+    let bytes = edits_bytes(rt.alloc(), &[("a", true), ("a/b", true), ("a/b/c", true)])?;
+    assert!(rt; conflicts(rt.alloc(), bytes.as_slice(), "a", "a/b"));
+    let bytes = edits_bytes(
+        rt.alloc(),
+        &[("a/b", true), ("a/b/c", false), ("a/b/c/d", true)],
+    )?;
+    assert!(rt; conflicts(rt.alloc(), bytes.as_slice(), "a/b", "a/b/c/d"));
+    let bytes = edits_bytes(rt.alloc(), &[("a", false), ("a/b", true), ("a/bc", true)])?;
+    assert!(rt; decode(rt.alloc(), bytes.as_slice()).is_ok());
     Ok(())
 }
 
 #[test]
 fn sets_a_path(rt: HostRuntime) -> Result<(), Fail> {
     let alloc = rt.alloc();
-    let bytes = set_p(alloc)?;
+    let abc = Id::from_hex(ABC)?;
+    let bytes = one_set(alloc, 0, 3, &abc)?;
     assert_eq!(rt; bytes.len(), 71);
-    let changeset = decoded(alloc, bytes.as_slice())?;
-    assert_eq!(rt; changeset.id(alloc)?.to_hex(alloc)?.as_str(), SET_P_ID);
-    let p = RepoPath::parse(alloc, "p").ok().ok_or("a path")?;
-    let q = RepoPath::parse(alloc, "q").ok().ok_or("a path")?;
+    let changeset = decode(alloc, bytes.as_slice()).ok().ok_or("a changeset")?;
     let set = Change::Set {
-        content: Id::from_hex(ABC)?,
+        content: abc,
         kind: FileKind::Regular,
         size: 3,
     };
-    assert_eq!(rt; changeset.change_at(&p).copied(), Some(set));
-    assert_eq!(rt; changeset.change_at(&q).copied(), None);
-    let touched = changeset.touched_paths(alloc)?;
-    assert_eq!(rt; touched.len(), 1);
-    assert_eq!(rt; touched[0].as_str(), "p");
-    assert_eq!(rt;
-        encode(alloc, &changeset.copy(alloc)?)?.as_slice(),
-        bytes.as_slice()
-    );
+    assert_eq!(rt; changeset.edits().len(), 1);
+    assert!(rt; has_id(alloc, &changeset, SET_P_ID));
+    assert!(rt; does(alloc, &changeset, "p", Some(set)));
+    assert!(rt; does(alloc, &changeset, "q", None));
+    assert!(rt; touches(alloc, &changeset, "p"));
     Ok(())
 }
 
 #[test]
-fn moved_onto_a_parent(rt: HostRuntime) -> Result<(), Fail> {
+fn copied_and_moved(rt: HostRuntime) -> Result<(), Fail> {
     let alloc = rt.alloc();
-    let bytes = set_p(alloc)?;
-    let parent = Id::from_hex(EMPTY_ID)?;
-    let moved = decoded(alloc, bytes.as_slice())?.with_parent(alloc, parent)?;
-    assert_eq!(rt; moved.parents(), [parent].as_slice());
+    let bytes = one_set(alloc, 0, 3, &Id::from_hex(ABC)?)?;
+    let changeset = decode(alloc, bytes.as_slice()).ok().ok_or("a changeset")?;
+    assert!(rt; is_spelled(alloc, &changeset.copy(alloc)?, bytes.as_slice()));
+    let moved = changeset.with_parent(alloc, Id::from_hex(EMPTY_ID)?)?;
+    assert_eq!(rt; moved.parents().len(), 1);
     assert_eq!(rt; encode(alloc, &moved)?.len(), 103);
-    assert_eq!(rt; moved.id(alloc)?.to_hex(alloc)?.as_str(), SET_P_ON_EMPTY_ID);
+    assert!(rt; has_id(alloc, &moved, SET_P_ON_EMPTY_ID));
     Ok(())
 }
 
@@ -251,7 +243,5 @@ fn too_long(rt: HostRuntime) -> Result<(), Fail> {
         Err(DecodeFault::TooLong { length: 1_048_577 })
     );
     assert!(rt; long);
-    let shorter = bytes.get(1..).ok_or("a slice")?;
-    assert_eq!(rt; place_of_fault(rt.alloc(), shorter), Some(0));
     Ok(())
 }

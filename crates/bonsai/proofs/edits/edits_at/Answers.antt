@@ -1,7 +1,7 @@
 use Rattle.std.proofs.Common.{◌≡◌, ◌++◌, ◌∷◌, ◌+◌, ◌-◌, [], Option, None, sym, ap, subst, ◌∙◌}
 use Rattle.std.proofs.lemmas.Result.{err_from_is_err_and}
 use Rattle.std.proofs.lemmas.List.{map_push}
-use Rattle.std.specs.Prelude.{option_map, Ok}
+use Rattle.std.specs.Prelude.{Ok}
 use Rattle.changeset_model.specs.Path.{Path}
 use Rattle.changeset_model.specs.Decoding.{edit, edits}
 use Rattle.bonsai.specs.Parts.{last_path}

@@ -1,4 +1,4 @@
-use Rattle.std.proofs.Common.{◌≡◌, ◌≤◌, ◌++◌, ◌∷◌, length, sym, subst, ap, ◌∙◌, string_bytes}
+use Rattle.std.proofs.Common.{◌≤◌, ◌++◌, ◌∷◌, length, sym, subst, ap, ◌∙◌}
 use Rattle.std.specs.Prelude.{flat_map}
 use Rattle.std.specs.List.{concat}
 use Rattle.std.specs.Int.{w16, w32, w64, to_be_bytes, cast_unsigned}

@@ -1,6 +1,6 @@
-use Rattle.std.proofs.Common.{◌≡◌, ◌∷◌, [], map, sym, ap, ◌∙◌}
+use Rattle.std.proofs.Common.{◌∷◌, [], map, sym, ap, ◌∙◌}
 use Rattle.changeset_model.specs.Changeset.{touched_paths}
-use Rattle.bonsai.specs.View.{edits_view, fields_view}
+use Rattle.bonsai.specs.View.{fields_view}
 use Rattle.bonsai.proofs.Rules.{changes_rise}
 use Rattle.bonsai.proofs.Touched.{if_ok, paths_view, touched_paths_are}
 use Rattle.bonsai.proofs.changeset.Changeset.touched_paths.Goals as goal
