@@ -1,0 +1,127 @@
+//! The spelling of a changeset. Numbers stand high byte first.
+ghost use Rattle.std.specs.Prelude.{◌≡◌, ◌≤◌, ◌∷◌, ◌++◌, length, flat_map, OnOk, IfOk, IsTrue};
+ghost use Rattle.std.specs.List.{concat};
+ghost use Rattle.std.specs.Int.{w16, w32, w64, to_be_bytes, cast_unsigned};
+ghost use Rattle.byte_fields.specs.Bytes.{sized};
+ghost use Rattle.changeset_model.specs.Changeset as model;
+ghost use Rattle.bonsai.specs.View.{ids_view, change_view, edit_view, edits_view, fields_view};
+
+use crate::change::Change;
+use crate::changeset::Changeset;
+use crate::edit::Edit;
+use crate::fields::Fields;
+use object_id::Id;
+use std::alloc::{AllocError, Global};
+
+/// The one spelling of a changeset.
+pub fn encode(alloc: Global, changeset: &Changeset) -> Result<Vec<u8>, AllocError>
+    ensures { IfOk result (λ bytes. bytes.items ≡ model.spelling changeset.now) }
+{
+    let mut out = Vec::new(alloc);
+    put_fields(&mut out, &changeset.fields)?;
+    Ok(out)
+}
+
+fn put_fields(out: &mut Vec<u8>, fields: &Fields) -> Result<(), AllocError>
+    requires { IsTrue (model.is_changeset (fields_view fields.now)) }
+    ensures { OnOk result (out.new.items ≡ out.old.items ++ model.spelling (fields_view fields.now)) }
+{
+    put_head(out, fields.parents.as_slice())?;
+    put_author(out, fields.author.as_str())?;
+    put_date(out, fields.seconds, fields.offset)?;
+    put_message(out, fields.message.as_str())?;
+    put_edit_list(out, fields.edits.as_slice())?;
+    Ok(())
+}
+
+// The mark, the version and the parents.
+fn put_head(out: &mut Vec<u8>, parents: &[Id]) -> Result<(), AllocError>
+    requires { length parents.now ≤ 2 }
+    ensures { OnOk result (out.new.items ≡ out.old.items ++ 0x43 ∷ 1 ∷ length parents.now ∷ concat (ids_view parents.now)) }
+{
+    out.extend_from_slice(&[b'C', 1, parents.len() as u8])?;
+    put_parents(out, parents)
+}
+
+fn put_date(out: &mut Vec<u8>, seconds: i64, offset: i32) -> Result<(), AllocError>
+    ensures { OnOk result (out.new.items ≡ out.old.items ++ to_be_bytes w64 (cast_unsigned w64 seconds) ++ to_be_bytes w32 (cast_unsigned w32 offset)) }
+{
+    out.extend_from_slice(&seconds.to_be_bytes())?;
+    out.extend_from_slice(&offset.to_be_bytes())
+}
+
+// How many edits there are, and then each.
+fn put_edit_list(out: &mut Vec<u8>, edits: &[Edit]) -> Result<(), AllocError>
+    requires { length edits.now ≤ 4096 }
+    ensures { OnOk result (out.new.items ≡ out.old.items ++ to_be_bytes w32 (length edits.now) ++ flat_map model.edit_bytes (edits_view edits.now)) }
+{
+    out.extend_from_slice(&(edits.len() as u32).to_be_bytes())?;
+    put_edits(out, edits)
+}
+
+fn put_parents(out: &mut Vec<u8>, parents: &[Id]) -> Result<(), AllocError>
+    ensures { OnOk result (out.new.items ≡ out.old.items ++ concat (ids_view parents.now)) }
+{
+    for parent in parents {
+        out.extend_from_slice(parent.0.as_slice())?;
+    }
+    Ok(())
+}
+
+fn put_author(out: &mut Vec<u8>, author: &str) -> Result<(), AllocError>
+    requires { length author.now ≤ 1024 }
+    ensures { OnOk result (out.new.items ≡ out.old.items ++ sized w16 author.now) }
+{
+    put_short(out, author.as_bytes())
+}
+
+// A length of 16 bits, and then the bytes.
+fn put_short(out: &mut Vec<u8>, bytes: &[u8]) -> Result<(), AllocError>
+    requires { length bytes.now ≤ 4096 }
+    ensures { OnOk result (out.new.items ≡ out.old.items ++ sized w16 bytes.now) }
+{
+    out.extend_from_slice(&(bytes.len() as u16).to_be_bytes())?;
+    out.extend_from_slice(bytes)
+}
+
+fn put_message(out: &mut Vec<u8>, message: &str) -> Result<(), AllocError>
+    requires { length message.now ≤ 1_048_576 }
+    ensures { OnOk result (out.new.items ≡ out.old.items ++ sized w32 message.now) }
+{
+    out.extend_from_slice(&(message.len() as u32).to_be_bytes())?;
+    out.extend_from_slice(message.as_bytes())
+}
+
+fn put_edits(out: &mut Vec<u8>, edits: &[Edit]) -> Result<(), AllocError>
+    ensures { OnOk result (out.new.items ≡ out.old.items ++ flat_map model.edit_bytes (edits_view edits.now)) }
+{
+    for edit in edits {
+        put_edit(out, edit)?;
+    }
+    Ok(())
+}
+
+fn put_edit(out: &mut Vec<u8>, edit: &Edit) -> Result<(), AllocError>
+    ensures { OnOk result (out.new.items ≡ out.old.items ++ model.edit_bytes (edit_view edit.now)) }
+{
+    put_short(out, edit.path.as_str().as_bytes())?;
+    put_change(out, &edit.change)
+}
+
+fn put_change(out: &mut Vec<u8>, change: &Change) -> Result<(), AllocError>
+    ensures { OnOk result (out.new.items ≡ out.old.items ++ model.change_bytes (change_view change.now)) }
+{
+    match change {
+        Change::Delete => out.push(0)?,
+        Change::Set {
+            content,
+            kind,
+            size,
+        } => {
+            out.extend_from_slice(&[1, kind.code()])?;
+            out.extend_from_slice(&size.to_be_bytes())?;
+            out.extend_from_slice(content.0.as_slice())?;
+        }
+    }
+    Ok(())
+}
