@@ -24,6 +24,13 @@ entries_none n most (e ∷ l) less a =
     let rest = entries_none n most l less (λ k d h. a (suc k) d (omega arith)) in
     ap (λ (t : Bool). cond t (e ∷ entries_by n l) (entries_by n l)) (ne_eqb e.who n (λ is. omega arith)) ∙ rest
 
+pub entries_unused : (n : ℕ) (l : List Entry) → All (λ (e : Entry). e.who < n) l → entries_by n l ≡ []
+entries_unused n [] a = refl
+entries_unused n (e ∷ l) a =
+    let here : e.who < n = a zero e (omega arith) in
+    let rest = entries_unused n l (λ k d h. a (suc k) d (omega arith)) in
+    ap (λ (t : Bool). cond t (e ∷ entries_by n l) (entries_by n l)) (ne_eqb e.who n (λ is. omega arith)) ∙ rest
+
 none_left : (l : List Entry) → length l ≡ 0 → l ≡ []
 none_left [] e = refl
 none_left (x ∷ l) e = absurd (omega arith)

@@ -83,7 +83,7 @@ pub(crate) fn draw<T: Recorded>(board: &Board<T>, seat: &mut Inner<T>) -> u64
     ensures place { seat.new.table_id ≡ seat.old.table_id }
     ensures seat { seat.new.me ≡ (view_of (drawing seat.old.me.0.member) None, []) }
     ensures number { result ≡ seat.old.me.0.member.post.split + 1 }
-    ensures unused { All (λ (e : Entry). e.who < result) seat.old.me.0.member.post.front }
+    ensures above { All (λ (e : Entry). e.who < result) seat.old.me.0.member.post.front }
 {
     board.fetch_add::<Draw>(seat, NEXT, 1)
 }
