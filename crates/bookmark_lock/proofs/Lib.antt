@@ -1,5 +1,4 @@
 pub mod Entries
-pub mod Fronts
 pub mod Members
 pub mod Rosters
 pub mod Leads

@@ -1,12 +1,14 @@
 //! Calls on uploads that many seats share.
-ghost use Rattle.std.specs.Prelude.{◌≡◌, ◌+◌, ◌%◌, ◌<◌, ◌^◌, ◌++◌, ◌∷◌, [], List, Bool, true, false, length, replicate, MatchBool, MatchResult, OnOk, OnErr, IfOk};
+ghost use Rattle.std.specs.Prelude.{◌≡◌, ◌+◌, ◌%◌, ◌<◌, ◌^◌, ◌++◌, ◌∷◌, [], List, Bool, true, false, All, length, replicate, MatchBool, MatchResult, OnOk, OnErr, IfOk};
 ghost use mathlib.Core.List.{IsPrefix};
 ghost use Rattle.history_model.specs.History.{Entry, entries_by};
 ghost use Rattle.bookmark_lock.specs.Place.{lead_place, new_place, joined_place, with_front};
 ghost use Rattle.bookmark_lock.specs.Fronts.{IsJoined};
 ghost use Rattle.lock_clients.specs.History.{entry};
+ghost use Rattle.lock_clients.specs.Joined.{IsOf, TakesIn};
 
 use crate::disk::Disk;
+use crate::joins::join_all;
 use crate::uploads::Uploads;
 use bookmark_lock::{Seat, TurnLock};
 use std::alloc::{AllocError, Global};
@@ -59,6 +61,16 @@ impl<D: Disk> SharedUploads<D> {
         ensures joined { IsJoined lead.old other lead.new.front }
     {
         self.lock.join(lead, other);
+    }
+
+    /// The lead joins all of these seats.
+    pub fn join_all(&self, lead: &mut Seat, seats: Vec<Seat>)
+        requires place { lead.old.lock ≡ self.now }
+        requires leads { lead.old.number ≡ 0 }
+        requires places { All (IsOf self.now) seats.items }
+        ensures { TakesIn lead.old lead.new seats.items }
+    {
+        join_all(&self.lock, lead, seats);
     }
 
     /// The uploads, once the lead has joined every seat.
