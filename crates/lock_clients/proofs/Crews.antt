@@ -1,13 +1,13 @@
 -- From the seats that were split off to those that were joined.
 use Rattle.std.specs.Prelude.{All, replicate}
 use Rattle.std.specs.Bool.{OnTrue}
-use Rattle.std.proofs.Common.{◌≡◌, ℕ, suc, ◌+◌, ◌<◌, List, [], ◌∷◌, ◌++◌, length, map, get_or, Bool, true, refl, ap, sym, ◌∙◌, subst, arith}
+use Rattle.std.proofs.Common.{◌≡◌, ℕ, ◌+◌, ◌<◌, List, [], ◌++◌, length, map, get_or, Bool, true, ap, sym, ◌∙◌, subst, arith}
 use Rattle.std.proofs.lemmas.List.{get_or-map, length-map}
 use Rattle.history_model.specs.History.{Entry, entries_by}
 use Rattle.bookmark_lock.specs.Place.{Place, with_front}
 use Rattle.lock_clients.specs.History.{entry}
 use Rattle.lock_clients.specs.Joined.{IsOf, HasAll}
-use Rattle.lock_clients.specs.Jobs.{AreJobs, Did, HasUploadsOf, IsJobAt, IsReady, place_at}
+use Rattle.lock_clients.specs.Jobs.{AreJobs, Did, HasUploadsOf, IsJobAt, place_at}
 use Rattle.lock_clients.specs.declared.job.Job.{Job}
 use Rattle.lock_clients.specs.declared.job.Done.{Done}
 
@@ -16,7 +16,7 @@ seat_of done = done.seat
 
 -- what each function of the crew tells
 module _ (lead : Place) (sizes : List ℕ) (times : ℕ) (jobs : List Job) (done : List Done) (are : AreJobs lead sizes (length sizes) jobs) (as_many : length jobs ≡ length sizes) (done_len : length done ≡ length jobs)
-  (did : (k : ℕ) (d : Job) (e : Done) → k < length jobs → Did times (get_or jobs k d) (get_or done k e)) where
+    (did : (k : ℕ) (d : Job) (e : Done) → k < length jobs → Did times (get_or jobs k d) (get_or done k e)) where
   module _ (k : ℕ) (h : k < length sizes) where
     abbrev job : Job
     job = get_or jobs k (record { seat = lead; size = 0 })
@@ -49,8 +49,8 @@ module _ (lead : Place) (sizes : List ℕ) (times : ℕ) (jobs : List Job) (done
         let j = is_job k h in
         let told : OnTrue (end k h).whole (entries_by (job k h).seat.number (end k h).seat.front ≡ entries_by (job k h).seat.number (job k h).seat.front ++ replicate times (entry (job k h).seat.number (job k h).size)) = (is_did k h).made in
         let fact : entries_by (job k h).seat.number (end k h).seat.front ≡ entries_by (job k h).seat.number (job k h).seat.front ++ replicate times (entry (job k h).seat.number (job k h).size) =
-            subst (λ (b : Bool). OnTrue b (entries_by (job k h).seat.number (end k h).seat.front ≡ entries_by (job k h).seat.number (job k h).seat.front ++ replicate times (entry (job k h).seat.number (job k h).size)))
-            (whole k (record { seat = lead; whole = true }) (omega arith)) told in
+        subst (λ (b : Bool). OnTrue b (entries_by (job k h).seat.number (end k h).seat.front ≡ entries_by (job k h).seat.number (job k h).seat.front ++ replicate times (entry (job k h).seat.number (job k h).size)))
+        (whole k (record { seat = lead; whole = true }) (omega arith)) told in
         let number_is : (job k h).seat.number ≡ k + 1 = ap (λ (p : Place). p.number) j.seat ∙ number in
         let front_is : (job k h).seat.front ≡ [] = ap (λ (p : Place). p.front) j.seat ∙ new in
         let size_is : (job k h).size ≡ get_or sizes k d = j.size d in

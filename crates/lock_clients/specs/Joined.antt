@@ -1,5 +1,5 @@
 -- A lead that has joined many seats.
-use Rattle.std.specs.Prelude.{◌≡◌, ℕ, ◌-◌, List, All, Contains, length}
+use Rattle.std.specs.Prelude.{◌≡◌, ◌-◌, List, All, Contains, length}
 use Rattle.history_model.specs.History.{entries_by}
 use Rattle.bookmark_lock.specs.Place.{Place, Site, known}
 use Rattle.bookmark_lock.specs.Fronts.{GoesOn}

@@ -7,6 +7,8 @@ mod disk;
 mod job;
 mod joins;
 mod shared;
+#[cfg(test)]
+mod tests;
 mod threads;
 mod upload;
 mod uploads;

@@ -62,8 +62,24 @@ pub fn two_at_once<D: Disk + Send, R: Threads + Wait + Sync>(
     let two = shared.split(&mut lead);
     let (one, two) = join(
         rt,
-        || do_one(rt, &shared, Job { seat: one, size: first }, times),
-        || do_one(rt, &shared, Job { seat: two, size: second }, times),
+        || do_one(
+            rt,
+            &shared,
+            Job {
+                seat: one,
+                size: first,
+            },
+            times,
+        ),
+        || do_one(
+            rt,
+            &shared,
+            Job {
+                seat: two,
+                size: second,
+            },
+            times,
+        ),
     );
     shared.join(&mut lead, one.seat);
     shared.join(&mut lead, two.seat);

@@ -4,8 +4,10 @@ ghost use Rattle.std.specs.Arc.{arc_value};
 ghost use Rattle.history_model.specs.History.{entries_by};
 ghost use Rattle.bookmark_lock.specs.Place.{with_front};
 ghost use Rattle.lock_clients.specs.History.{entry};
+ghost use Rattle.lock_clients.specs.Jobs.{Did};
 
 use crate::disk::Disk;
+use crate::job::Done;
 use crate::shared::SharedUploads;
 use bookmark_lock::Seat;
 use std::alloc::{AllocError, Global};
@@ -48,11 +50,12 @@ impl<D: Disk> Worker<D> {
         self.uploads.upload(rt, &mut self.seat, size)
     }
 
-    /// Its seat, for the lead to join.
-    pub fn into_seat(self) -> Seat
-        ensures { result ≡ self }
+    /// Makes an upload, and gives its seat back for the lead to join.
+    pub fn finish<R: Wait>(mut self, rt: &R, size: u64) -> Done
+        ensures { Did 1 (record { seat = self; size = size }) result }
     {
+        let whole = self.work(rt, size).is_ok();
         let Worker { uploads: _, seat } = self;
-        seat
+        Done { seat, whole }
     }
 }

@@ -1,4 +1,4 @@
-use Rattle.std.proofs.Common.{◌++◌, ◌∷◌, [], rules, subst, sym}
+use Rattle.std.proofs.Common.{◌++◌, ◌∷◌, [], subst, sym}
 use Rattle.bookmark_lock.specs.Place.{Place}
 use Rattle.bookmark_lock.specs.Fronts.{IsJoined}
 use Rattle.lock_clients.specs.Joined.{TakesIn}
