@@ -14,7 +14,8 @@ use Rattle.history_model.specs.History.{Entry}
 use Rattle.turn_history.specs.Opening.{Opening}
 use Rattle.bookmark_lock.specs.Members.{Member, lead_member, drawing, settling}
 use Rattle.bookmark_lock.specs.Roster.{Fits, Roster}
-use Rattle.bookmark_lock.specs.Turns.{view_of, member_of, IsHome, IsOut, Kept, Ended, first_view, drew, settled, fork_left, fork_right, merge_both, spent_view}
+use Rattle.bookmark_lock.specs.Turns.{Ended}
+use Rattle.bookmark_lock.specs.Rule.{view_of, member_of, IsHome, IsOut, Kept, first_view, drew, settled, fork_left, fork_right, merge_both, spent_view}
 use Rattle.bookmark_lock.specs.declared.view.View.{View}
 use Rattle.bookmark_lock.proofs.Entries.{all_prefix}
 use Rattle.turn_history.proofs.Prefixes.{prefix_self}

@@ -1,7 +1,7 @@
 -- How the histories that seats have seen lie to one another.
 --     GoesOn, IsAfter      a history goes on from what a seat has seen, of which it knows the post, the place
 --     HasJoined, IsJoined      the history that the lead has seen once it has joined a seat
-use Rattle.std.specs.Prelude.{◌≡◌, ◌≢◌, ℕ, ◌≤◌, List, ◌∷◌, All, AllPairs}
+use Rattle.std.specs.Prelude.{◌≡◌, ◌≢◌, ℕ, ◌<◌, ◌≤◌, List, ◌∷◌, All, AllPairs}
 use mathlib.Core.List.{IsPrefix}
 use Rattle.history_model.specs.History.{Entry, entries_by}
 use Rattle.bookmark_lock.specs.Place.{Place, Post, known}
@@ -19,6 +19,8 @@ pub record HasJoined (lead other : Post) (front : List Entry) : Type 0 where
   -- no two seats have one number
   pub apart : AllPairs (λ (m n : ℕ). m ≢ n) (lead.number ∷ other.number ∷ lead.joined)
   pub below : All (λ (n : ℕ). n ≤ lead.split) (other.number ∷ lead.joined)
+  -- the other was counted as out
+  pub counted : 0 < lead.out
 
 abbrev pub IsJoined : Place → Place → List Entry → Type 0
 IsJoined lead other front = HasJoined (known lead) (known other) front

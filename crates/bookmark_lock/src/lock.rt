@@ -103,7 +103,7 @@ impl<T: Recorded> TurnLock<T> {
         merge(&self.table.shared, &mut inner, seated(badge));
         settle(&self.table.shared, &mut inner);
         lead.badge = inner.into_badge();
-        lead.out = lead.out.saturating_sub(1);
+        lead.out -= 1;
     }
 
     /// One turn: `act` sees the value as it is, and adds at most one entry, of this seat. Says what `act` answers.

@@ -3,7 +3,8 @@ ghost use Rattle.std.specs.Prelude.{◌≡◌, ◌+◌, ◌<◌, ◌^◌, ◌≤
 ghost use Rattle.history_model.specs.History.{Entry};
 ghost use Rattle.bookmark_lock.specs.Fronts.{HasJoined};
 ghost use Rattle.bookmark_lock.specs.Members.{Meeting, seen, drawing, forking, fork_of, merging, settling};
-ghost use Rattle.bookmark_lock.specs.Turns.{Finds, Took, Gives, Ended, view_of};
+ghost use Rattle.bookmark_lock.specs.Turns.{Finds, Ended};
+ghost use Rattle.bookmark_lock.specs.Rule.{Took, Gives, view_of};
 ghost use Rattle.bookmark_lock.specs.Seated.{IsIdle, IsBoard};
 
 use crate::plays::{Count, Draw, Fork, Free, Merge, Settle, Take, Turns};
