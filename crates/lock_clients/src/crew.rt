@@ -41,11 +41,8 @@ fn seats_of(alloc: Global, done: Vec<Done>) -> Result<Vec<Seat>, AllocError>
     ensures whole { IfOk result (λ _. All (λ (d : Done). d.whole ≡ true) done.items) }
 {
     let mut seats = Vec::with_capacity(alloc, done.len())?;
-    for Done { seat, whole } in done {
-        if !whole {
-            return Err(AllocError);
-        }
-        seats.push(seat)?;
+    for one in done {
+        seats.push(one.into_seat()?)?;
     }
     Ok(seats)
 }

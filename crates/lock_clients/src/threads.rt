@@ -1,6 +1,5 @@
 //! Threads that upload at once.
 ghost use Rattle.std.specs.Prelude.{◌≡◌, ◌<◌, ℕ, All, IfOk, length, replicate, slice_index_or};
-ghost use Rattle.std.specs.Bool.{OnTrue};
 ghost use Rattle.history_model.specs.History.{entries_by};
 ghost use Rattle.lock_clients.specs.History.{entry};
 ghost use Rattle.lock_clients.specs.Jobs.{IsReady, Did};
@@ -44,7 +43,7 @@ pub fn do_all<D: Disk + Send, R: Threads + Wait + Sync>(
     )
 }
 
-/// Two threads upload so often each. Says for each whether it made all of its uploads.
+/// Two threads upload so often each. Where memory is refused, all is given up.
 pub fn two_at_once<D: Disk + Send, R: Threads + Wait + Sync>(
     rt: &R,
     alloc: Global,
@@ -52,36 +51,26 @@ pub fn two_at_once<D: Disk + Send, R: Threads + Wait + Sync>(
     first: u64,
     second: u64,
     times: u64,
-) -> Result<(Uploads<D>, bool, bool), AllocError>
-    ensures opening { IfOk result (λ r. r.0.opening ≡ D.opened disk) }
-    ensures first { IfOk result (λ r. OnTrue r.1 (entries_by 1 r.0.history ≡ replicate times (entry 1 first))) }
-    ensures second { IfOk result (λ r. OnTrue r.2 (entries_by 2 r.0.history ≡ replicate times (entry 2 second))) }
+) -> Result<Uploads<D>, AllocError>
+    ensures opening { IfOk result (λ u. u.opening ≡ D.opened disk) }
+    ensures first { IfOk result (λ u. entries_by 1 u.history ≡ replicate times (entry 1 first)) }
+    ensures second { IfOk result (λ u. entries_by 2 u.history ≡ replicate times (entry 2 second)) }
 {
     let (shared, mut lead) = SharedUploads::new(alloc, disk)?;
-    let one = shared.split(&mut lead);
-    let two = shared.split(&mut lead);
+    let one = Job {
+        seat: shared.split(&mut lead),
+        size: first,
+    };
+    let two = Job {
+        seat: shared.split(&mut lead),
+        size: second,
+    };
     let (one, two) = join(
         rt,
-        || do_one(
-            rt,
-            &shared,
-            Job {
-                seat: one,
-                size: first,
-            },
-            times,
-        ),
-        || do_one(
-            rt,
-            &shared,
-            Job {
-                seat: two,
-                size: second,
-            },
-            times,
-        ),
+        || do_one(rt, &shared, one, times),
+        || do_one(rt, &shared, two, times),
     );
-    shared.join(&mut lead, one.seat);
-    shared.join(&mut lead, two.seat);
-    Ok((shared.close(lead), one.whole, two.whole))
+    shared.join(&mut lead, one.into_seat()?);
+    shared.join(&mut lead, two.into_seat()?);
+    Ok(shared.close(lead))
 }
