@@ -1,3 +1,4 @@
+pub mod Prefixes
 pub mod Entries
 pub mod Members
 pub mod Rosters
