@@ -8,7 +8,7 @@ use Rattle.history_model.specs.History.{Entry, entries_by}
 use Rattle.turn_history.specs.Opening.{Opening}
 use Rattle.bookmark_lock.specs.Place.{Place, with_front}
 use Rattle.bookmark_lock.specs.Turns.{MayFind, IsTurn, Entered}
-use Rattle.bookmark_lock.proofs.Fronts.{prefix_trans}
+use Rattle.bookmark_lock.proofs.Prefixes.{prefix_trans}
 use Rattle.bookmark_lock.proofs.Rosters.{own_entry, others_entry}
 
 snoc_same : (l : List Entry) (a b : Entry) → l ++ a ∷ [] ≡ l ++ b ∷ [] → a ≡ b

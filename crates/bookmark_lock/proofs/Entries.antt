@@ -7,7 +7,7 @@ use Rattle.std.proofs.lemmas.Bool.{ltb-true, ltb-false}
 use mathlib.Core.List.{IsPrefix}
 use Rattle.history_model.specs.History.{Entry, entries_by}
 use Rattle.bookmark_lock.specs.Place.{longer}
-use Rattle.bookmark_lock.proofs.Fronts.{prefix_self, prefix_shorter, prefix_whole, prefix_length}
+use Rattle.bookmark_lock.proofs.Prefixes.{prefix_self, prefix_shorter, prefix_whole, prefix_length}
 
 pub all_front : {A : Type 0} (P : A → Type 0) (xs ys : List A) → All P (xs ++ ys) → All P xs
 all_front P [] ys a k d h = absurd (omega arith)
@@ -22,6 +22,13 @@ entries_none n most [] less a = refl
 entries_none n most (e ∷ l) less a =
     let here : e.who ≤ most = a zero e (omega arith) in
     let rest = entries_none n most l less (λ k d h. a (suc k) d (omega arith)) in
+    ap (λ (t : Bool). cond t (e ∷ entries_by n l) (entries_by n l)) (ne_eqb e.who n (λ is. omega arith)) ∙ rest
+
+pub entries_unused : (n : ℕ) (l : List Entry) → All (λ (e : Entry). e.who < n) l → entries_by n l ≡ []
+entries_unused n [] a = refl
+entries_unused n (e ∷ l) a =
+    let here : e.who < n = a zero e (omega arith) in
+    let rest = entries_unused n l (λ k d h. a (suc k) d (omega arith)) in
     ap (λ (t : Bool). cond t (e ∷ entries_by n l) (entries_by n l)) (ne_eqb e.who n (λ is. omega arith)) ∙ rest
 
 none_left : (l : List Entry) → length l ≡ 0 → l ≡ []

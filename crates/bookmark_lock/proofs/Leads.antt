@@ -1,6 +1,6 @@
 -- What the lead does keeps what holds of all seats.
 use Rattle.std.specs.Prelude.{All, AllPairs, MatchOption}
-use Rattle.std.proofs.Common.{Option, ◌≡◌, ◌≢◌, ◌⊎◌, ℕ, zero, suc, ◌+◌, ◌-◌, ◌^◌, ◌≤◌, List, [], ◌∷◌, ◌++◌, length, set, false, refl, sym, ap, ◌∙◌, subst, inl, inr, ⊎_elim, arith, get_or}
+use Rattle.std.proofs.Common.{Option, ◌≡◌, ◌≢◌, ◌⊎◌, ℕ, zero, suc, ◌+◌, ◌-◌, ◌^◌, ◌<◌, ◌≤◌, List, [], ◌∷◌, ◌++◌, length, set, false, refl, sym, ap, ◌∙◌, subst, inl, inr, ⊎_elim, arith, get_or}
 use Rattle.std.proofs.lemmas.List.Elements.{All-cons}
 use Rattle.std.proofs.lemmas.List.Kept.{AllPairs-cons}
 use mathlib.Core.Logic.{dite}
@@ -290,8 +290,17 @@ module _ (log : List Entry) (key : Opening) (count next : ℕ) (members : List M
         (All-cons (λ (n : ℕ). p.post.number ≢ n) q.post.number p.post.joined (from_q 0 0 (omega arith)) (first_apart p.post.number p.post.joined f.apart))
         (AllPairs-cons Differ q.post.number p.post.joined (turned q.post.number p.post.joined (rest_of (λ (x : ℕ). x ≢ q.post.number) p.post.number p.post.joined from_q)) (rest_apart p.post.number p.post.joined f.apart))
 
+    -- the lead and the other live, so the lead counts one out
+    counted : 0 < p.post.out
+    counted =
+        let old = alive_p in
+        let same = living-set_same members id p both at refl in
+        let less = living-set_spent once other q spent_member there_once alive refl in
+        let one = living-some merged id both at_merged lives in
+        omega arith
+
     has_joined : HasJoined p.post q.post front
-    has_joined = record { of_lead = goes_on_p; of_other = goes_on_q; apart = numbers_apart; below = numbers_below }
+    has_joined = record { of_lead = goes_on_p; of_other = goes_on_q; apart = numbers_apart; below = numbers_below; counted = counted }
 
     fits_both : Fits log key p.post.split both
     fits_both = let f = fits_here in let g = fits_q in record {
@@ -340,9 +349,9 @@ module _ (log : List Entry) (key : Opening) (count next : ℕ) (members : List M
     alive_left : living merged ≡ 1 + (p.post.out - 1)
     alive_left =
         let old = alive_p in
+        let some_out = counted in
         let same = living-set_same members id p both at refl in
         let less = living-set_spent once other q spent_member there_once alive refl in
-        let one = living-some merged id both at_merged lives in
         omega arith
 
     pub roster_merging : Roster log key count next merged

@@ -1,5 +1,5 @@
+pub mod Prefixes
 pub mod Entries
-pub mod Fronts
 pub mod Members
 pub mod Rosters
 pub mod Leads

@@ -13,7 +13,8 @@ use Rattle.turn_history.specs.Opening.{Opening}
 use Rattle.bookmark_lock.specs.Fronts.{GoesOn}
 use Rattle.bookmark_lock.specs.Members.{Member, seen}
 use Rattle.bookmark_lock.specs.Roster.{Fits, Roster}
-use Rattle.bookmark_lock.specs.Turns.{view_of, member_of, IsHome, IsOut, Kept, Finds, taken, counted, freed, Adds, Gives, IsTurn}
+use Rattle.bookmark_lock.specs.Turns.{Finds, Adds, IsTurn}
+use Rattle.bookmark_lock.specs.Rule.{view_of, member_of, IsHome, IsOut, Kept, taken, counted, freed, Gives}
 use Rattle.bookmark_lock.specs.declared.view.View.{View}
 use Rattle.bookmark_lock.proofs.Members.{at_inside}
 use Rattle.bookmark_lock.proofs.Rosters.{Grows, grows_none, grows_one, roster_after}

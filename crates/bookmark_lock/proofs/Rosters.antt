@@ -15,7 +15,7 @@ use Rattle.turn_history.specs.Opening.{Opening}
 use Rattle.bookmark_lock.specs.Place.{numbers}
 use Rattle.bookmark_lock.specs.Members.{Member, Meeting, seen}
 use Rattle.bookmark_lock.specs.Roster.{Fits, Roster}
-use Rattle.bookmark_lock.proofs.Fronts.{prefix_self, prefix_trans}
+use Rattle.bookmark_lock.proofs.Prefixes.{prefix_self, prefix_trans}
 use Rattle.bookmark_lock.proofs.Members.{at_inside, living-set_same}
 
 -- the log becomes this one by what a seat with this number does

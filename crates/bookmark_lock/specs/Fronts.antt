@@ -1,7 +1,7 @@
 -- How the histories that seats have seen lie to one another.
---     GoesOn, IsAfter      a history goes on from what a seat has seen, of which it knows the post, the place
---     HasJoined, IsJoined      the history that the lead has seen once it has joined a seat
-use Rattle.std.specs.Prelude.{◌≡◌, ◌≢◌, ℕ, ◌≤◌, List, ◌∷◌, All, AllPairs}
+--     GoesOn      a history goes on from what a seat with this post has seen
+--     HasJoined, IsJoined      the lead has seen this history once it has joined a seat, by their posts, by their places
+use Rattle.std.specs.Prelude.{◌≡◌, ◌≢◌, ℕ, ◌<◌, ◌≤◌, List, ◌∷◌, All, AllPairs}
 use mathlib.Core.List.{IsPrefix}
 use Rattle.history_model.specs.History.{Entry, entries_by}
 use Rattle.bookmark_lock.specs.Place.{Place, Post, known}
@@ -12,13 +12,16 @@ pub record GoesOn (p : Post) (history : List Entry) : Type 0 where
   pub own : entries_by p.number history ≡ entries_by p.number p.front
   pub joined : All (λ (n : ℕ). entries_by n history ≡ entries_by n p.front) p.joined
 
--- the lead has joined the other seat and has seen this history
+-- The lead has joined the other seat, and has seen this history, which both fronts begin.
+-- It has of the lead, of the other and of each seat joined earlier just the entries that their fronts had
 pub record HasJoined (lead other : Post) (front : List Entry) : Type 0 where
   pub of_lead : GoesOn lead front
   pub of_other : GoesOn other front
   -- no two seats have one number
   pub apart : AllPairs (λ (m n : ℕ). m ≢ n) (lead.number ∷ other.number ∷ lead.joined)
   pub below : All (λ (n : ℕ). n ≤ lead.split) (other.number ∷ lead.joined)
+  -- the other was counted as out
+  pub counted : 0 < lead.out
 
 abbrev pub IsJoined : Place → Place → List Entry → Type 0
 IsJoined lead other front = HasJoined (known lead) (known other) front

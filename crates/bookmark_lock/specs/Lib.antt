@@ -1,6 +1,7 @@
 pub mod Place
 pub mod Fronts
 pub mod Members
-pub mod Roster
 pub mod Turns
+pub mod Roster
+pub mod Rule
 pub mod Seated

@@ -1,7 +1,7 @@
 -- What contracts see of a lock and of a seat.
 --     Site, Place      a lock;  a seat
 --     lead_place, new_place, joined_place, with_front      the first seat of a lock;  a seat that is split off;  the lead once it has joined a seat;  a seat that has seen more
---     Post, known      what a seat knows, apart from which table it is for
+--     Post, known, place_of      what a seat knows;  of a seat;  the seat of a table that knows it
 use Rattle.std.specs.Prelude.{ℕ, ◌+◌, ◌-◌, List, [], ◌∷◌, length, nat_lt, if◌then◌else◌}
 use Rattle.atomic_table.specs.Seated.{TableId}
 use Rattle.history_model.specs.History.{Entry}
@@ -39,6 +39,7 @@ joined_place lead other = record lead { front = longer lead.front other.front; o
 abbrev pub with_front : Place → List Entry → Place
 with_front seat front = record seat { front = front }
 
+-- what a seat knows, apart from which table it is for
 pub record Post : Type 0 where
   pub number : ℕ
   pub front : List Entry

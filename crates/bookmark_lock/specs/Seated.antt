@@ -2,7 +2,7 @@
 use Rattle.std.specs.Prelude.{◌≡◌, ◌∷◌, false, List, [], None, Option}
 use Rattle.atomic_table.specs.Table.{Me}
 use Rattle.atomic_table.specs.Seated.{TableId}
-use Rattle.bookmark_lock.specs.Turns.{spent_view}
+use Rattle.bookmark_lock.specs.Rule.{spent_view}
 use Rattle.bookmark_lock.specs.declared.view.View.{View}
 
 -- the lock's table has three words and one slot

@@ -1,7 +1,7 @@
 //! The lock.
-ghost use Rattle.std.specs.Prelude.{◌≡◌, ◌+◌, ◌<◌, ◌≤◌, ◌^◌, Bool, All, IfOk};
+ghost use Rattle.std.specs.Prelude.{◌≡◌, ◌+◌, ◌<◌, ◌≤◌, ◌^◌, Bool, [], All, IfOk};
 ghost use Rattle.std.specs.Fn.{FnOnceTakesAtMut, FnOnceReturnsAtMut};
-ghost use Rattle.history_model.specs.History.{Entry};
+ghost use Rattle.history_model.specs.History.{Entry, entries_by};
 ghost use Rattle.bookmark_lock.specs.Place.{lead_place, new_place, joined_place};
 ghost use Rattle.bookmark_lock.specs.Fronts.{IsJoined};
 ghost use Rattle.bookmark_lock.specs.Turns.{MayFind, IsTurn, Entered};
@@ -68,7 +68,8 @@ impl<T: Recorded> TurnLock<T> {
         requires room { lead.old.split < 2 ^ 63 }
         ensures lead { lead.new ≡ record lead.old { split = lead.old.split + 1; out = lead.old.out + 1 } }
         ensures seat { result ≡ new_place lead.old }
-        ensures unused { All (λ (e : Entry). e.who < result.number) result.front }
+        ensures above { All (λ (e : Entry). e.who < result.number) result.front }
+        ensures unused { entries_by result.number result.front ≡ [] }
     {
         let mut inner = seated(replace(&mut lead.badge, Badge::blank()));
         let number = draw(&self.table.shared, &mut inner);
@@ -102,7 +103,7 @@ impl<T: Recorded> TurnLock<T> {
         merge(&self.table.shared, &mut inner, seated(badge));
         settle(&self.table.shared, &mut inner);
         lead.badge = inner.into_badge();
-        lead.out = lead.out.saturating_sub(1);
+        lead.out -= 1;
     }
 
     /// One turn: `act` sees the value as it is, and adds at most one entry, of this seat. Says what `act` answers.

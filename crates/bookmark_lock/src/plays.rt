@@ -1,5 +1,5 @@
 //! The table's rule, and what each step tells.
-ghost use Rattle.bookmark_lock.specs.Turns.{Kept, first_view, taken, counted, freed, drew, settled, fork_left, fork_right, merge_both, spent_view};
+ghost use Rattle.bookmark_lock.specs.Rule.{Kept, first_view, taken, counted, freed, drew, settled, fork_left, fork_right, merge_both, spent_view};
 
 use crate::view::View;
 use atomic_table::{Join, Play, Split, TableRule};

@@ -3,7 +3,8 @@ ghost use Rattle.std.specs.Prelude.{◌≡◌, ◌+◌, ◌<◌, ◌^◌, ◌≤
 ghost use Rattle.history_model.specs.History.{Entry};
 ghost use Rattle.bookmark_lock.specs.Fronts.{HasJoined};
 ghost use Rattle.bookmark_lock.specs.Members.{Meeting, seen, drawing, forking, fork_of, merging, settling};
-ghost use Rattle.bookmark_lock.specs.Turns.{Finds, Took, Gives, Ended, view_of};
+ghost use Rattle.bookmark_lock.specs.Turns.{Finds, Ended};
+ghost use Rattle.bookmark_lock.specs.Rule.{Took, Gives, view_of};
 ghost use Rattle.bookmark_lock.specs.Seated.{IsIdle, IsBoard};
 
 use crate::plays::{Count, Draw, Fork, Free, Merge, Settle, Take, Turns};
@@ -83,7 +84,7 @@ pub(crate) fn draw<T: Recorded>(board: &Board<T>, seat: &mut Inner<T>) -> u64
     ensures place { seat.new.table_id ≡ seat.old.table_id }
     ensures seat { seat.new.me ≡ (view_of (drawing seat.old.me.0.member) None, []) }
     ensures number { result ≡ seat.old.me.0.member.post.split + 1 }
-    ensures unused { All (λ (e : Entry). e.who < result) seat.old.me.0.member.post.front }
+    ensures above { All (λ (e : Entry). e.who < result) seat.old.me.0.member.post.front }
 {
     board.fetch_add::<Draw>(seat, NEXT, 1)
 }
