@@ -399,3 +399,7 @@ unode_ok bytes n rest fits e =
 pub unode_read_exactly : (bytes : List ℕ) (n : Unode) → IsBytes bytes → ((unode_of bytes ≡ Ok n) ↔ ((is_unode n ≡ true) × (bytes ≡ unode_bytes n)))
 unode_read_exactly bytes n fits =
     (λ e. of_whole unode_fields unode_bytes is_unode unode_ok bytes n fits (whole_ok (length bytes) (unode_fields bytes) n e), λ s. ap unode_of s.1 ∙ unode_is_read n s.0)
+
+-- what is read as a manifest behind its mark keeps the rules of its fields
+pub manifest_valid : (bytes : List ℕ) (n : Unode) (rest : List ℕ) → IsBytes bytes → manifest bytes ≡ Ok (n, rest) → is_unode n ≡ true
+manifest_valid bytes n rest fits e = (manifest_ok bytes n rest fits e (0x55 ∷ bytes) (record { parts = refl; left = fits })).1
