@@ -2,14 +2,14 @@
 //! (FIPS 180-4) of its one spelling.
 #![tactic(auto)]
 
-mod reading;
-mod writing;
 pub mod entry;
 pub mod node;
+mod reading;
 pub mod summary;
+mod writing;
 
-pub use reading::decode;
-pub use writing::encode;
 pub use entry::{FsChild, FsEntry};
 pub use node::Fsnode;
+pub use reading::decode;
 pub use summary::Summary;
+pub use writing::encode;

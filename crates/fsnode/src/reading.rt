@@ -46,10 +46,7 @@ fn node_of(alloc: Global, bytes: &[u8]) -> Result<Fsnode, NodeFault>
 }
 
 // An fsnode by its fields.
-fn parts_at(
-    alloc: Global,
-    bytes: &[u8],
-) -> Result<((Summary, Vec<FsChild>), &[u8]), ReadFault>
+fn parts_at(alloc: Global, bytes: &[u8]) -> Result<((Summary, Vec<FsChild>), &[u8]), ReadFault>
     ensures { GivesInMemory (λ x. (fsnode_of_parts x.0.0 x.0.1, x.1.now)) result (fsnode_fields bytes.now) }
 {
     let rest = exactly_at(bytes, 0x46)?;
@@ -61,11 +58,7 @@ fn parts_at(
 }
 
 // A number of entries.
-fn entries_at(
-    alloc: Global,
-    count: u32,
-    bytes: &[u8],
-) -> Result<(Vec<FsChild>, &[u8]), ReadFault>
+fn entries_at(alloc: Global, count: u32, bytes: &[u8]) -> Result<(Vec<FsChild>, &[u8]), ReadFault>
     ensures { GivesInMemory (λ x. (children_seen x.0.items, x.1.now)) result (entries fs_entry count None bytes.now) }
 {
     let room = (bytes.len() / SHORTEST_ENTRY).min(count as usize);
@@ -86,7 +79,10 @@ fn entries_at(
 }
 
 // A name greater than the one before it, and its entry.
-fn named_at<'a>(bytes: &'a [u8], before: Option<&[u8]>) -> Result<((&'a [u8], FsEntry), &'a [u8]), BadField>
+fn named_at<'a>(
+    bytes: &'a [u8],
+    before: Option<&[u8]>,
+) -> Result<((&'a [u8], FsEntry), &'a [u8]), BadField>
     ensures field { Gives (λ x. ((x.0.0.now, entry_seen x.0.1), x.1.now)) result (entry fs_entry (option_copied before.entry) bytes.now) }
     ensures element { IfOk result (λ x. is_element x.0.0.now ≡ true) }
 {
@@ -99,7 +95,11 @@ fn entry_at(bytes: &[u8]) -> Result<(FsEntry, &[u8]), BadField>
     ensures { Gives (λ x. (entry_seen x.0, x.1.now)) result (fs_entry bytes.now) }
 {
     let (tag, rest) = below_at(bytes, 2)?;
-    if tag == 0 { file_at(rest) } else { directory_at(rest) }
+    if tag == 0 {
+        file_at(rest)
+    } else {
+        directory_at(rest)
+    }
 }
 
 fn file_at(bytes: &[u8]) -> Result<(FsEntry, &[u8]), BadField>

@@ -1,12 +1,9 @@
 -- Reading entries one after the other, as a loop does.
 use Rattle.std.proofs.Common.{◌≡◌, ℕ, suc, ◌-◌, ◌+◌, ◌≤◌, ◌<◌, List, [], ◌∷◌, ◌++◌, Result, Ok, Err, refl, sym, ap, ◌∙◌, append_assoc, arith}
-use Rattle.std.specs.Prelude.{Option, Some, None}
+use Rattle.std.specs.Prelude.{Option, Some}
 use Rattle.std.proofs.lemmas.List.{append-nil}
 use Rattle.byte_fields.specs.Reading.{Reader, value, and_then, ◌>>=◌}
 use Rattle.manifest_model.specs.NodeReading.{entry, entries}
-use Rattle.node_fields.specs.declared.fault.ReadFault.{ReadFault}
-use Rattle.node_fields.specs.declared.fault.ReadFault.TheVariants as part
-use Rattle.node_fields.specs.Answers.{FailsInMemory}
 
 -- what was read before, and what is still read
 abbrev pub with_front : {X : Type 0} → List X → Result (List X × List ℕ) ℕ → Result (List X × List ℕ) ℕ
@@ -22,9 +19,9 @@ module _ {X : Type 0} (r : Reader X) where
   goes_on front count i before bytes e after total lt h so_far =
       let k : count - i ≡ suc (count - (i + 1)) = omega arith in
       sym (
-        ap (λ n. with_front front (entries r n before bytes)) k
-        ∙ ap (λ read. with_front front (and_then read (λ e. entries r (count - (i + 1)) (Some e.0) >>= λ es. value (e ∷ es)))) h
-        ∙ regroup front e (entries r (count - (i + 1)) (Some e.0) after)
+      ap (λ n. with_front front (entries r n before bytes)) k
+      ∙ ap (λ read. with_front front (and_then read (λ e. entries r (count - (i + 1)) (Some e.0) >>= λ es. value (e ∷ es)))) h
+      ∙ regroup front e (entries r (count - (i + 1)) (Some e.0) after)
       ) ∙ so_far
 
   pub ends : (front : List (List ℕ × X)) (count i : ℕ) (before : Option (List ℕ)) (bytes : List ℕ) (left : ℕ) (total : Result (List (List ℕ × X) × List ℕ) ℕ) → i < count → entry r before bytes ≡ Err left

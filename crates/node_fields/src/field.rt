@@ -9,8 +9,8 @@ ghost use Rattle.manifest_model.specs.NodeReading.{is_after_name};
 ghost use Rattle.node_fields.specs.declared.fault.NodeFault.TheVariants.{BadNode};
 
 use crate::fault::NodeFault;
-use byte_fields::fields::{bytes_at, u8_at};
 use byte_fields::BadField;
+use byte_fields::fields::{bytes_at, u8_at};
 use repo_path::is_element;
 
 /// Just this byte: the bytes after it.

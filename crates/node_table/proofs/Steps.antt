@@ -1,5 +1,5 @@
 -- The steps of a store of nodes, as its methods make them.
-use Rattle.std.proofs.Common.{◌≡◌, ℕ, cond, List, [], ◌∷◌, ◌++◌, refl, sym, ap, subst, ◌∙◌}
+use Rattle.std.proofs.Common.{◌≡◌, ℕ, cond, List, [], ◌∷◌, ◌++◌, refl, sym, ap, ◌∙◌}
 use Rattle.std.specs.Prelude.{Option, None, Some, option_map}
 use Rattle.std.specs.Global.{Vec}
 use Rattle.std.specs.Ordering.{is_eq, nat_cmp}
@@ -11,10 +11,10 @@ use Rattle.std.proofs.lemmas.List.{map_push}
 use Rattle.sha2.specs.Sha256.{sha256}
 use Rattle.byte_fields.specs.Bytes.{Id}
 use Rattle.object_id.specs.declared.id.Id.{Id as RustId}
-use Rattle.node_table.specs.Table.{Nodes, AreDigests, with_node, without}
+use Rattle.node_table.specs.Table.{Nodes, with_node, without}
 use Rattle.node_table.specs.Parts.{ids_seen, nodes_of_entries}
 use Rattle.node_table.proofs.Maps.{get_seen, put_seen, removed_seen}
-use Rattle.node_table.proofs.Digests.{kept, absent, undone, without-push, digests-with_node}
+use Rattle.node_table.proofs.Digests.{kept, absent, undone, without-push}
 
 abbrev id_bytes : RustId → Id
 id_bytes id = id.0

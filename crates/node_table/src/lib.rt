@@ -3,8 +3,8 @@
 #![tactic(auto)]
 
 pub mod fault;
-pub mod roots;
 mod root_table;
+pub mod roots;
 mod store;
 pub mod table;
 

@@ -3,7 +3,7 @@ ghost use Rattle.std.specs.Prelude.{◌≡◌, ◌∷◌, [], map as map_list, i
 ghost use Rattle.std.specs.Option.{option_copied};
 ghost use Rattle.std.specs.FinMap as map;
 ghost use Rattle.sha2.specs.Sha256.{sha256};
-ghost use Rattle.node_table.specs.Table.{collides, first_collision, with_node, with_nodes, without};
+ghost use Rattle.node_table.specs.Table.{AreDigests, collides, first_collision, with_node, with_nodes, without};
 ghost use Rattle.node_table.specs.Parts.{ids_seen, nodes_seen};
 ghost use Rattle.node_table.specs.Faults.{FaultOf, IsHeld};
 
@@ -53,6 +53,7 @@ impl Store {
     pub fn get(&self, id: &Id) -> Option<&[u8]>
         ensures found { option_copied result ≡ map.get self.now id.now.0 }
         ensures digest { IfSome result (λ bytes. sha256 bytes.now ≡ id.now.0) }
+        ensures digests { AreDigests self.now }
     {
         match self.nodes.get(id) {
             Some(bytes) => Some(bytes.as_slice()),

@@ -3,7 +3,7 @@ ghost use Rattle.std.specs.Prelude.{◌≡◌, ◌++◌, ◌∷◌, [], Some, No
 ghost use Rattle.std.specs.Option.{option_copied};
 ghost use Rattle.std.specs.FinMap as map;
 ghost use Rattle.sha2.specs.Sha256.{sha256};
-ghost use Rattle.node_table.specs.Table.{Table, empty_table, first_collision, with_node, settled_with};
+ghost use Rattle.node_table.specs.Table.{AreDigests, Table, empty_table, first_collision, with_node, settled_with};
 ghost use Rattle.node_table.specs.Parts.{nodes_seen, roots_seen};
 ghost use Rattle.node_table.specs.Faults.{FaultOf};
 
@@ -49,6 +49,7 @@ impl NodeTable {
     pub fn get(&self, id: &Id) -> Option<&[u8]>
         ensures found { option_copied result ≡ map.get self.now.nodes id.now.0 }
         ensures digest { IfSome result (λ bytes. sha256 bytes.now ≡ id.now.0) }
+        ensures digests { AreDigests self.now.nodes }
     {
         self.store.get(id)
     }
@@ -79,7 +80,13 @@ impl NodeTable {
     }
 
     /// Puts in all nodes of a changeset with its roots, or nothing. A settled changeset stays as it is.
-    pub fn settle(&mut self, alloc: Global, number: u32, roots: Roots, nodes: Vec<Vec<u8>>) -> Result<(), TableFault>
+    pub fn settle(
+        &mut self,
+        alloc: Global,
+        number: u32,
+        roots: Roots,
+        nodes: Vec<Vec<u8>>,
+    ) -> Result<(), TableFault>
         ensures ok { OnOk result (self.new ≡ settled_with self.old number (roots_seen roots) (nodes_seen nodes.items)) }
         ensures err { OnErr result (self.new ≡ self.old) }
         ensures apart { OnOk result (map.get self.old.roots number ≡ None → first_collision self.old.nodes (nodes_seen nodes.items) ≡ None) }

@@ -5,7 +5,7 @@ use Rattle.std.specs.Prelude.{Option, None, Some, ◌==◌, ◌&&◌, ◌||◌, 
 use Rattle.std.specs.Option.{option_map_or}
 use Rattle.std.specs.Int.{w32}
 use Rattle.std.proofs.lemmas.Bool.{eqb-true, eq-eqb, le-leb}
-use Rattle.byte_fields.specs.Reading.{Reader, value, and_then, ◌>>=◌, keeping, exactly, number, any, id, whole}
+use Rattle.byte_fields.specs.Reading.{Reader, value, and_then, ◌>>=◌, exactly, number, any, id, whole}
 use Rattle.manifest_model.specs.Unode.{Unode, Manifest}
 use Rattle.manifest_model.specs.NodeReading.{entries, one_unode_entry, node_parents, manifest, file_unode, unode_of}
 use Rattle.unode.specs.Views.{file_of, file_in}

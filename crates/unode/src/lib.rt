@@ -4,6 +4,8 @@
 
 pub mod entry;
 pub mod file;
+pub mod history;
+pub mod laws;
 pub mod manifest;
 pub mod node;
 mod reading;
@@ -11,6 +13,7 @@ mod writing;
 
 pub use entry::{UnodeChild, UnodeEntry};
 pub use file::FileUnode;
+pub use history::{Nodes, file_history};
 pub use manifest::UnodeManifest;
 pub use node::Unode;
 pub use reading::{decode, decode_file};

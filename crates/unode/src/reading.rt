@@ -24,6 +24,7 @@ use std::alloc::Global;
 const SHORTEST_ENTRY: usize = 35;
 
 const MANIFEST_MARK: u8 = 0x55;
+
 const FILE_MARK: u8 = 0x56;
 
 /// The unode that the bytes spell, all of the bytes.

@@ -1,4 +1,4 @@
-use Rattle.std.proofs.Common.{◌≡◌, ap, subst, ◌∙◌, arith}
+use Rattle.std.proofs.Common.{ap, subst, ◌∙◌, arith}
 use Rattle.manifest_model.specs.Fsnode.{fsnode_bytes, is_fsnode}
 use Rattle.manifest_model.specs.NodeReading.{fsnode_of}
 use Rattle.manifest_model.proofs.Nodes.{fsnode_is_read}

@@ -1,4 +1,4 @@
-use Rattle.std.proofs.Common.{◌≡◌, ap, subst, ◌∙◌, arith}
+use Rattle.std.proofs.Common.{ap, subst, ◌∙◌, arith}
 use Rattle.manifest_model.specs.Unode.{unode_bytes, is_unode}
 use Rattle.manifest_model.specs.NodeReading.{unode_of}
 use Rattle.manifest_model.proofs.Nodes.{unode_is_read}

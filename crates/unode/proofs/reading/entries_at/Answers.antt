@@ -5,7 +5,7 @@ use Rattle.std.proofs.lemmas.Result.{err_from_is_err_and}
 use Rattle.manifest_model.specs.Unode.{UnodeEntry}
 use Rattle.manifest_model.specs.NodeReading.{one_unode_entry, entries}
 use Rattle.unode.specs.Parts.{entry_seen, child_seen, children_seen}
-use Rattle.node_fields.proofs.Entries.{goes_on, ends, is_done, with_front}
+use Rattle.node_fields.proofs.Entries.{goes_on, ends, with_front}
 use Rattle.unode.proofs.reading.entries_at.Goals as goal
 
 pub returns-in_err-name : goal.returns-in_err-name

@@ -1,5 +1,5 @@
 use Rattle.std.proofs.Common.{◌≡◌, length, true}
-use Rattle.std.specs.Prelude.{Result, Ok, Err, OnOk, OnErr}
+use Rattle.std.specs.Prelude.{Result, Ok, Err, OnOk}
 use Rattle.std.proofs.lemmas.Bool.{and_from, eq-eqb}
 use Rattle.byte_fields.specs.Bytes.{is_bytes}
 use Rattle.changeset_model.proofs.Accepting.{all_bytes}
