@@ -11,3 +11,6 @@ pub mod table;
 pub use fault::TableFault;
 pub use roots::Roots;
 pub use table::NodeTable;
+
+#[cfg(test)]
+mod tests;

@@ -18,3 +18,6 @@ pub use manifest::UnodeManifest;
 pub use node::Unode;
 pub use reading::{decode, decode_file};
 pub use writing::encode;
+
+#[cfg(test)]
+mod tests;
