@@ -31,6 +31,7 @@ const ROOT: [u8; 165] = [
 
 // Where the fields of the two begin.
 const DIRECTORY_FIELDS: [usize; 10] = [0, 1, 2, 42, 46, 47, 48, 49, 50, 58];
+
 const ROOT_FIELDS: [usize; 15] = [
     0, 1, 2, 42, 46, 47, 48, 49, 81, 121, 122, 123, 124, 125, 133,
 ];
@@ -61,7 +62,10 @@ fn fault(alloc: Global, bytes: &[u8]) -> Option<NodeFault> {
 fn worked_tree(rt: HostRuntime) -> Result<(), Fail> {
     let node = decode(rt.alloc(), &ROOT).ok().ok_or("the root is a node")?;
     assert_eq!(rt; encode(rt.alloc(), &node)?.as_slice(), ROOT.as_slice());
-    assert_eq!(rt; node.summary.numbers().as_slice(), [1, 0, 1, 2, 3].as_slice());
+    assert_eq!(rt;
+        node.summary.numbers().as_slice(),
+        [1, 0, 1, 2, 3].as_slice()
+    );
     assert_eq!(rt; node.entries.len(), 2);
     for (child, name) in node.entries.iter().zip(["a", "b"].iter()) {
         assert_eq!(rt; child.name.as_bytes(), name.as_bytes());
@@ -77,8 +81,13 @@ fn worked_tree(rt: HostRuntime) -> Result<(), Fail> {
         id: Id::of(&DIRECTORY),
         summary,
     };
-    assert_eq!(rt; node.entries.first().map(|child| child.entry), Some(directory));
-    let inner = decode(rt.alloc(), &DIRECTORY).ok().ok_or("the directory is a node")?;
+    assert_eq!(rt;
+        node.entries.first().map(|child| child.entry),
+        Some(directory)
+    );
+    let inner = decode(rt.alloc(), &DIRECTORY)
+        .ok()
+        .ok_or("the directory is a node")?;
     assert_eq!(rt; inner.summary, summary);
     let file = FsEntry::File {
         content: Id::of(b"abc"),
@@ -86,7 +95,10 @@ fn worked_tree(rt: HostRuntime) -> Result<(), Fail> {
         size: 3,
     };
     assert_eq!(rt; inner.entries.first().map(|child| child.entry), Some(file));
-    assert_eq!(rt; encode(rt.alloc(), &inner)?.as_slice(), DIRECTORY.as_slice());
+    assert_eq!(rt;
+        encode(rt.alloc(), &inner)?.as_slice(),
+        DIRECTORY.as_slice()
+    );
     Ok(())
 }
 
@@ -95,9 +107,14 @@ fn empty_tree(rt: HostRuntime) -> Result<(), Fail> {
     let mut bytes = [0u8; 46];
     bytes[0] = 0x46;
     bytes[1] = 1;
-    let node = decode(rt.alloc(), &bytes).ok().ok_or("the empty root is a node")?;
+    let node = decode(rt.alloc(), &bytes)
+        .ok()
+        .ok_or("the empty root is a node")?;
     assert_eq!(rt; node.entries.len(), 0);
-    assert_eq!(rt; node.summary.numbers().as_slice(), [0, 0, 0, 0, 0].as_slice());
+    assert_eq!(rt;
+        node.summary.numbers().as_slice(),
+        [0, 0, 0, 0, 0].as_slice()
+    );
     assert_eq!(rt; encode(rt.alloc(), &node)?.as_slice(), bytes.as_slice());
     Ok(())
 }
@@ -106,11 +123,19 @@ fn empty_tree(rt: HostRuntime) -> Result<(), Fail> {
 fn prefixes(rt: HostRuntime) {
     for len in 0..90 {
         let at = last_start(&DIRECTORY_FIELDS, len);
-        assert_eq!(rt; fault(rt.alloc(), &DIRECTORY[..len]), Some(NodeFault::BadNode { at }), "at {len}");
+        assert_eq!(rt;
+            fault(rt.alloc(), &DIRECTORY[..len]),
+            Some(NodeFault::BadNode { at }),
+            "at {len}"
+        );
     }
     for len in 0..165 {
         let at = last_start(&ROOT_FIELDS, len);
-        assert_eq!(rt; fault(rt.alloc(), &ROOT[..len]), Some(NodeFault::BadNode { at }), "at {len}");
+        assert_eq!(rt;
+            fault(rt.alloc(), &ROOT[..len]),
+            Some(NodeFault::BadNode { at }),
+            "at {len}"
+        );
     }
 }
 
@@ -133,16 +158,27 @@ fn bad_fields(rt: HostRuntime) -> Result<(), Fail> {
     ];
     for (place, byte, at) in of_directory {
         let bytes = changed(rt.alloc(), &DIRECTORY, place, byte)?;
-        assert_eq!(rt; fault(rt.alloc(), &bytes), Some(NodeFault::BadNode { at }), "{byte} at {place}");
+        assert_eq!(rt;
+            fault(rt.alloc(), &bytes),
+            Some(NodeFault::BadNode { at }),
+            "{byte} at {place}"
+        );
     }
     // The second name must be greater than the first.
     for first in [b'b', b'c'] {
         let bytes = changed(rt.alloc(), &ROOT, 47, first)?;
-        assert_eq!(rt; fault(rt.alloc(), &bytes), Some(NodeFault::BadNode { at: 122 }), "{first}");
+        assert_eq!(rt;
+            fault(rt.alloc(), &bytes),
+            Some(NodeFault::BadNode { at: 122 }),
+            "{first}"
+        );
     }
     let mut longer = DIRECTORY.to_vec(rt.alloc())?;
     longer.push(0)?;
-    assert_eq!(rt; fault(rt.alloc(), &longer), Some(NodeFault::BadNode { at: 90 }));
+    assert_eq!(rt;
+        fault(rt.alloc(), &longer),
+        Some(NodeFault::BadNode { at: 90 })
+    );
     Ok(())
 }
 
@@ -152,6 +188,9 @@ fn two_dots(rt: HostRuntime) -> Result<(), Fail> {
     let mut bytes = DIRECTORY[..46].to_vec(rt.alloc())?;
     bytes.extend_from_slice(&[2, b'.', b'.'])?;
     bytes.extend_from_slice(&DIRECTORY[48..])?;
-    assert_eq!(rt; fault(rt.alloc(), &bytes), Some(NodeFault::BadNode { at: 47 }));
+    assert_eq!(rt;
+        fault(rt.alloc(), &bytes),
+        Some(NodeFault::BadNode { at: 47 })
+    );
     Ok(())
 }

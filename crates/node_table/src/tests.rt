@@ -23,9 +23,15 @@ fn nodes_and_roots(rt: HostRuntime) -> Result<(), Fail> {
     assert_eq!(rt; table.settled().len(), 0);
 
     let nodes = vec![in rt.alloc(); b"two".to_vec(rt.alloc())?, b"six".to_vec(rt.alloc())?]?;
-    assert_eq!(rt; table.settle(rt.alloc(), 7, roots_of(b"six"), nodes), Ok(()));
+    assert_eq!(rt;
+        table.settle(rt.alloc(), 7, roots_of(b"six"), nodes),
+        Ok(())
+    );
     let nodes = vec![in rt.alloc(); b"ten".to_vec(rt.alloc())?]?;
-    assert_eq!(rt; table.settle(rt.alloc(), 3, roots_of(b"ten"), nodes), Ok(()));
+    assert_eq!(rt;
+        table.settle(rt.alloc(), 3, roots_of(b"ten"), nodes),
+        Ok(())
+    );
     assert_eq!(rt; table.settled(), [7, 3].as_slice());
     assert_eq!(rt; table.roots(7), Some(roots_of(b"six")));
     assert_eq!(rt; table.roots(3), Some(roots_of(b"ten")));
@@ -36,7 +42,10 @@ fn nodes_and_roots(rt: HostRuntime) -> Result<(), Fail> {
 
     // A settled changeset stays as it is.
     let nodes = vec![in rt.alloc(); b"new".to_vec(rt.alloc())?]?;
-    assert_eq!(rt; table.settle(rt.alloc(), 7, roots_of(b"new"), nodes), Ok(()));
+    assert_eq!(rt;
+        table.settle(rt.alloc(), 7, roots_of(b"new"), nodes),
+        Ok(())
+    );
     assert_eq!(rt; table.settled(), [7, 3].as_slice());
     assert_eq!(rt; table.roots(7), Some(roots_of(b"six")));
     assert_eq!(rt; table.get(&Id::of(b"new")), None);

@@ -46,10 +46,10 @@ const MANIFEST: [u8; 141] = [
 
 // Where the fields begin.
 const FILE_FIELDS: [usize; 7] = [0, 1, 2, 3, 35, 36, 68];
+
 const FILE_WITH_PARENT_FIELDS: [usize; 8] = [0, 1, 2, 3, 35, 67, 68, 100];
-const MANIFEST_FIELDS: [usize; 14] = [
-    0, 1, 2, 3, 35, 67, 71, 72, 73, 74, 106, 107, 108, 109,
-];
+
+const MANIFEST_FIELDS: [usize; 14] = [0, 1, 2, 3, 35, 67, 71, 72, 73, 74, 106, 107, 108, 109];
 
 fn last_start(fields: &[usize], len: usize) -> usize {
     let mut start = 0;
@@ -83,17 +83,25 @@ fn files(rt: HostRuntime) -> Result<(), Fail> {
         linknode: Id::of(b"link"),
     };
     assert_eq!(rt; decode_file(&FILE), Some(file));
-    assert_eq!(rt; encode(rt.alloc(), &Unode::File(file))?.as_slice(), FILE.as_slice());
+    assert_eq!(rt;
+        encode(rt.alloc(), &Unode::File(file))?.as_slice(),
+        FILE.as_slice()
+    );
     let with_parent = FileUnode {
         parent: Some(Id::of(b"parent")),
         kind: FileKind::Symlink,
         ..file
     };
     assert_eq!(rt; decode_file(&FILE_WITH_PARENT), Some(with_parent));
-    let node = decode(rt.alloc(), &FILE_WITH_PARENT).ok().ok_or("the file is a node")?;
+    let node = decode(rt.alloc(), &FILE_WITH_PARENT)
+        .ok()
+        .ok_or("the file is a node")?;
     assert_eq!(rt; node.parent(), Some(Id::of(b"parent")));
     assert_eq!(rt; node.linknode(), Id::of(b"link"));
-    assert_eq!(rt; encode(rt.alloc(), &node)?.as_slice(), FILE_WITH_PARENT.as_slice());
+    assert_eq!(rt;
+        encode(rt.alloc(), &node)?.as_slice(),
+        FILE_WITH_PARENT.as_slice()
+    );
     assert_eq!(rt; decode_file(&MANIFEST), None);
     assert_eq!(rt; decode_file(&FILE[..99]), None);
     Ok(())
@@ -101,14 +109,19 @@ fn files(rt: HostRuntime) -> Result<(), Fail> {
 
 #[test]
 fn manifests(rt: HostRuntime) -> Result<(), Fail> {
-    let node = decode(rt.alloc(), &MANIFEST).ok().ok_or("the manifest is a node")?;
+    let node = decode(rt.alloc(), &MANIFEST)
+        .ok()
+        .ok_or("the manifest is a node")?;
     assert_eq!(rt; encode(rt.alloc(), &node)?.as_slice(), MANIFEST.as_slice());
     assert_eq!(rt; node.parent(), Some(Id::of(b"parent")));
     assert_eq!(rt; node.linknode(), Id::of(b"link"));
     let Unode::Manifest(manifest) = node else {
         return Err("the node is a manifest".into());
     };
-    let wanted = [UnodeEntry::Directory(Id::of(b"ua")), UnodeEntry::File(Id::of(&FILE))];
+    let wanted = [
+        UnodeEntry::Directory(Id::of(b"ua")),
+        UnodeEntry::File(Id::of(&FILE)),
+    ];
     assert_eq!(rt; manifest.entries.len(), 2);
     for (child, entry) in manifest.entries.iter().zip(wanted.iter()) {
         assert_eq!(rt; child.entry, *entry);
@@ -123,15 +136,27 @@ fn manifests(rt: HostRuntime) -> Result<(), Fail> {
 fn prefixes(rt: HostRuntime) {
     for len in 0..100 {
         let at = last_start(&FILE_FIELDS, len);
-        assert_eq!(rt; fault(rt.alloc(), &FILE[..len]), Some(NodeFault::BadNode { at }), "at {len}");
+        assert_eq!(rt;
+            fault(rt.alloc(), &FILE[..len]),
+            Some(NodeFault::BadNode { at }),
+            "at {len}"
+        );
     }
     for len in 0..132 {
         let at = last_start(&FILE_WITH_PARENT_FIELDS, len);
-        assert_eq!(rt; fault(rt.alloc(), &FILE_WITH_PARENT[..len]), Some(NodeFault::BadNode { at }), "at {len}");
+        assert_eq!(rt;
+            fault(rt.alloc(), &FILE_WITH_PARENT[..len]),
+            Some(NodeFault::BadNode { at }),
+            "at {len}"
+        );
     }
     for len in 0..141 {
         let at = last_start(&MANIFEST_FIELDS, len);
-        assert_eq!(rt; fault(rt.alloc(), &MANIFEST[..len]), Some(NodeFault::BadNode { at }), "at {len}");
+        assert_eq!(rt;
+            fault(rt.alloc(), &MANIFEST[..len]),
+            Some(NodeFault::BadNode { at }),
+            "at {len}"
+        );
     }
 }
 
@@ -154,16 +179,27 @@ fn bad_fields(rt: HostRuntime) -> Result<(), Fail> {
     ];
     for (place, byte, at) in of_manifest {
         let bytes = changed(rt.alloc(), &MANIFEST, place, byte)?;
-        assert_eq!(rt; fault(rt.alloc(), &bytes), Some(NodeFault::BadNode { at }), "{byte} at {place}");
+        assert_eq!(rt;
+            fault(rt.alloc(), &bytes),
+            Some(NodeFault::BadNode { at }),
+            "{byte} at {place}"
+        );
     }
     let of_file: [(usize, u8, usize); 4] = [(0, 0x57, 0), (1, 0, 1), (2, 2, 2), (67, 3, 67)];
     for (place, byte, at) in of_file {
         let bytes = changed(rt.alloc(), &FILE_WITH_PARENT, place, byte)?;
-        assert_eq!(rt; fault(rt.alloc(), &bytes), Some(NodeFault::BadNode { at }), "{byte} at {place}");
+        assert_eq!(rt;
+            fault(rt.alloc(), &bytes),
+            Some(NodeFault::BadNode { at }),
+            "{byte} at {place}"
+        );
     }
     let mut longer = FILE.to_vec(rt.alloc())?;
     longer.push(0)?;
-    assert_eq!(rt; fault(rt.alloc(), &longer), Some(NodeFault::BadNode { at: 100 }));
+    assert_eq!(rt;
+        fault(rt.alloc(), &longer),
+        Some(NodeFault::BadNode { at: 100 })
+    );
     assert_eq!(rt; decode_file(&longer), None);
     Ok(())
 }
@@ -208,7 +244,10 @@ fn histories(rt: HostRuntime) -> Result<(), Fail> {
     };
     let nodes = Two { newest, oldest };
     let links = file_history(rt.alloc(), &nodes, Id([2; 32]))?;
-    assert_eq!(rt; links.as_slice(), [Id::of(b"new"), Id::of(b"old")].as_slice());
+    assert_eq!(rt;
+        links.as_slice(),
+        [Id::of(b"new"), Id::of(b"old")].as_slice()
+    );
     let links = file_history(rt.alloc(), &nodes, Id([1; 32]))?;
     assert_eq!(rt; links.as_slice(), [Id::of(b"old")].as_slice());
     Ok(())
