@@ -1,5 +1,6 @@
 use super::*;
 use object_id::Id;
+use std::alloc::Global;
 use std::test::*;
 
 fn roots_of(text: &[u8]) -> Roots {
@@ -9,45 +10,56 @@ fn roots_of(text: &[u8]) -> Roots {
     }
 }
 
+fn insert(alloc: Global, table: &mut NodeTable, text: &[u8]) -> Result<Id, TableFault> {
+    table.insert(Vec::from_slice(alloc, text)?)
+}
+
+// Settles a changeset that has one node.
+fn settle(
+    alloc: Global,
+    table: &mut NodeTable,
+    number: u32,
+    text: &[u8],
+) -> Result<(), TableFault> {
+    let node = Vec::from_slice(alloc, text)?;
+    let mut nodes = Vec::new(alloc);
+    nodes.push(node)?;
+    table.settle(alloc, number, roots_of(text), nodes)
+}
+
+fn has(table: &NodeTable, text: &[u8]) -> bool {
+    table.get(&Id::of(text)) == Some(text)
+}
+
 // Two different nodes with one digest can't be made, so that a collision is refused is only proved.
 #[test]
-fn nodes_and_roots(rt: HostRuntime) -> Result<(), Fail> {
+fn nodes(rt: HostRuntime) {
     let mut table = NodeTable::new(rt.alloc());
-    assert_eq!(rt; table.get(&Id::of(b"one")), None);
+    assert!(rt; !has(&table, b"one"));
     for text in [b"one", b"two", b"one"] {
-        let bytes = text.to_vec(rt.alloc())?;
-        assert_eq!(rt; table.insert(bytes), Ok(Id::of(text)));
+        assert_eq!(rt; insert(rt.alloc(), &mut table, text), Ok(Id::of(text)));
     }
-    assert_eq!(rt; table.get(&Id::of(b"one")), Some(b"one".as_slice()));
-    assert_eq!(rt; table.get(&Id::of(b"two")), Some(b"two".as_slice()));
-    assert_eq!(rt; table.settled().len(), 0);
+    assert!(rt; has(&table, b"one"));
+    assert!(rt; has(&table, b"two"));
+    assert!(rt; !has(&table, b"six"));
+}
 
-    let nodes = vec![in rt.alloc(); b"two".to_vec(rt.alloc())?, b"six".to_vec(rt.alloc())?]?;
-    assert_eq!(rt;
-        table.settle(rt.alloc(), 7, roots_of(b"six"), nodes),
-        Ok(())
-    );
-    let nodes = vec![in rt.alloc(); b"ten".to_vec(rt.alloc())?]?;
-    assert_eq!(rt;
-        table.settle(rt.alloc(), 3, roots_of(b"ten"), nodes),
-        Ok(())
-    );
-    assert_eq!(rt; table.settled(), [7, 3].as_slice());
-    assert_eq!(rt; table.roots(7), Some(roots_of(b"six")));
-    assert_eq!(rt; table.roots(3), Some(roots_of(b"ten")));
-    assert_eq!(rt; table.roots(0), None);
-    for text in [b"one", b"two", b"six", b"ten"] {
-        assert_eq!(rt; table.get(&Id::of(text)), Some(text.as_slice()));
+#[test]
+fn changesets(rt: HostRuntime) {
+    let mut table = NodeTable::new(rt.alloc());
+    // The last is settled already, so it stays as it is.
+    for (number, text) in [(7, b"six"), (3, b"ten"), (7, b"new")] {
+        assert_eq!(rt; settle(rt.alloc(), &mut table, number, text), Ok(()));
     }
-
-    // A settled changeset stays as it is.
-    let nodes = vec![in rt.alloc(); b"new".to_vec(rt.alloc())?]?;
-    assert_eq!(rt;
-        table.settle(rt.alloc(), 7, roots_of(b"new"), nodes),
-        Ok(())
-    );
     assert_eq!(rt; table.settled(), [7, 3].as_slice());
-    assert_eq!(rt; table.roots(7), Some(roots_of(b"six")));
-    assert_eq!(rt; table.get(&Id::of(b"new")), None);
-    Ok(())
+    for (number, roots) in [
+        (7, Some(roots_of(b"six"))),
+        (3, Some(roots_of(b"ten"))),
+        (0, None),
+    ] {
+        assert_eq!(rt; table.roots(number), roots, "of {number}");
+    }
+    assert!(rt; has(&table, b"six"));
+    assert!(rt; has(&table, b"ten"));
+    assert!(rt; !has(&table, b"new"));
 }
