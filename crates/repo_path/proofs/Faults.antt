@@ -1,12 +1,23 @@
 -- Where a text breaks the rules of a path, and whether it does.
-use Rattle.std.proofs.Common.{◌≡◌, ℕ, ◌+◌, ◌-◌, ◌<◌, ◌≤◌, min, add_assoc, Bool, true, false, cond, ◌&&◌, List, [], ◌∷◌, length, drop, take, Some, None, refl, ap, ◌∙◌, arith}
-use Rattle.std.specs.Prelude.{nat_lt, nat_le, position, ◌==◌}
+use Rattle.std.proofs.Common.{◌≡◌, not, subst, ℕ, ◌+◌, ◌-◌, ◌<◌, ◌≤◌, min, add_assoc, Bool, true, false, cond, ◌&&◌, List, [], ◌∷◌, length, drop, take, Some, None, refl, ap, ◌∙◌, arith}
+use Rattle.std.specs.Prelude.{nat_lt, nat_le, bytes_eq, position, ◌==◌}
 use Rattle.std.specs.List.{list_all}
 use Rattle.std.proofs.lemmas.Bool.{lt-ltb, le-leb, ltb-false, ltb-true, leb-true}
+use Rattle.std.specs.Str.{IsUtf8, is_utf8, chars}
+use Rattle.std.proofs.lemmas.Str.{IsUtf8-from_is_utf8, IsUtf8-append}
+use Rattle.byte_fields.specs.Bytes.{is_line}
 use Rattle.changeset_model.specs.Path.{Path, elements, text_of, is_element, is_path, element_fault, path_fault}
 use Rattle.std.proofs.lemmas.List.{length-take, length-drop, take_all}
 use Rattle.repo_path.proofs.Elements.{some_elements, text_of-elements}
 use Rattle.repo_path.proofs.Fronts.{elements-first, elements-only}
+
+first_of_two : (a b : Bool) → (a && b) ≡ true → a ≡ true
+first_of_two true b h = refl
+first_of_two false b h = absurd (cc)
+
+second_of_two : (a b : Bool) → (a && b) ≡ true → b ≡ true
+second_of_two true b h = h
+second_of_two false b h = absurd (cc)
 
 ruled_by : (at : ℕ) (f : List ℕ) (p : Path) → (element_fault (at + length f + 1) p ≡ None → list_all is_element p ≡ true) → (t : Bool) → cond t (element_fault (at + length f + 1) p) (Some at) ≡ None → (t && list_all is_element p) ≡ true
 ruled_by at f p ih true e = ih e
@@ -92,3 +103,32 @@ fault_of_only text at e h = ap (element_fault at) (elements-only text e) ∙ fau
 
 pub take_rest : (text : List ℕ) (i : ℕ) → take (length text - i) (drop i text) ≡ drop i text
 take_rest text i = take_all (length text - i) (drop i text) (let len = length-drop i text in omega arith)
+
+-- ---- in UTF-8
+
+element_is_text : (e : List ℕ) → is_element e ≡ true → is_utf8 e ≡ true
+element_is_text e h =
+    first_of_two (is_utf8 e) _ (second_of_two (nat_lt 0 (length e) && nat_le (length e) 255) (is_line e) (first_of_two _ (list_all (λ b. not (b == 0x2F)) e) (first_of_two _ (not (bytes_eq e (0x2E ∷ []))) (first_of_two _ (not (bytes_eq e (0x2E ∷ 0x2E ∷ []))) h))))
+
+slash_test : is_utf8 (0x2F ∷ []) ≡ true
+unfolding is_utf8 chars lib.Utf8.encode
+slash_test = refl
+
+slash_is_text : IsUtf8 (0x2F ∷ [])
+slash_is_text = IsUtf8-from_is_utf8 (0x2F ∷ []) slash_test
+
+elements_are_text : (e : List ℕ) (p : Path) → list_all is_element (e ∷ p) ≡ true → IsUtf8 (text_of (e ∷ p))
+elements_are_text e [] h = IsUtf8-from_is_utf8 e (element_is_text e (first_of_two (is_element e) true h))
+elements_are_text e (f ∷ p) h =
+    IsUtf8-append e (0x2F ∷ text_of (f ∷ p)) (IsUtf8-from_is_utf8 e (element_is_text e (first_of_two (is_element e) _ h))) (IsUtf8-append (0x2F ∷ []) (text_of (f ∷ p)) slash_is_text (elements_are_text f p (second_of_two (is_element e) _ h)))
+
+elements_text : (p : Path) → (0 < length p) → list_all is_element p ≡ true → IsUtf8 (text_of p)
+elements_text [] some h = absurd (omega arith)
+elements_text (e ∷ p) some h = elements_are_text e p h
+
+-- a path's text is UTF-8
+pub path_is_text : (text : List ℕ) → is_path (elements text) ≡ true → IsUtf8 text
+path_is_text text h = subst IsUtf8 (text_of-elements text) (elements_text (elements text) (some_elements text) (second_of_two (nat_lt 0 (length (elements text))) (list_all is_element (elements text)) (first_of_two _ (nat_le (length (text_of (elements text))) 4096) h)))
+
+pub path_is_short : (p : Path) → is_path p ≡ true → length (text_of p) ≤ 4096
+path_is_short p h = leb-true (length (text_of p)) 4096 (second_of_two _ (nat_le (length (text_of p)) 4096) h)

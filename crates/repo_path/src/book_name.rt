@@ -8,6 +8,7 @@ ghost use Rattle.repo_path.specs.declared.book_name.NameFault.TheVariants.{Memor
 
 use std::alloc::{AllocError, Global};
 use std::cmp::Ordering;
+use std::fmt;
 use std::marker::Model;
 
 /// The most bytes of a name.
@@ -143,5 +144,11 @@ impl Ord for BookName {
 
     fn cmp(&self, other: &BookName) -> Ordering {
         self.text.as_str().cmp(other.text.as_str())
+    }
+}
+
+impl fmt::Debug for BookName {
+    fn fmt<W: fmt::Write>(&self, f: &mut fmt::Formatter<W>) -> fmt::Result {
+        f.write_str(self.as_str())
     }
 }

@@ -1,5 +1,5 @@
 //! A path of the repository.
-ghost use Rattle.std.specs.Prelude.{◌≡◌, ◌↔◌, ℕ, false, None, Some, IfOk, IsErrOf, IsTrue, refl};
+ghost use Rattle.std.specs.Prelude.{◌≡◌, ◌≤◌, ◌↔◌, ℕ, length, false, None, Some, IfOk, IsErrOf, IsTrue, refl};
 ghost use Rattle.std.specs.Cmp.{partial_equiv_from_equiv, partial_order_from_agreeing_total};
 ghost use Rattle.changeset_model.specs.Path.{Path, elements, text_of, is_path, path_fault, path_eq, path_cmp, comparable as are_comparable, is_strict_prefix as is_strictly_above};
 ghost use Rattle.changeset_model.proofs.Paths.{path_cmp_total};
@@ -10,6 +10,7 @@ use crate::path_text::{comparable, compare, lies_under, path_fault_of};
 use std::alloc::{AllocError, Global};
 use std::cmp::Ordering;
 use std::marker::Model;
+use std::{fmt, str};
 
 /// A path: 1 to 4,096 bytes of UTF-8, in elements that a slash parts. Contracts see its elements.
 #[derive(Drop)]
@@ -36,13 +37,25 @@ impl RepoPath {
     pub fn parse(alloc: Global, text: &str) -> Result<RepoPath, PathFault>
         ensures path { IfOk result (λ p. p ≡ elements text.now) }
         ensures rules { IfOk result (λ p. IsTrue (is_path p)) }
-        ensures sound { IfOk result (λ p. path_fault text.now ≡ None) }
         ensures unruly { (at : ℕ) → IsErrOf result (PathFault.BadPath at) → is_path (elements text.now) ≡ false }
         ensures bad { (at : ℕ) → (IsErrOf result (PathFault.BadPath at) ↔ (path_fault text.now ≡ Some at)) }
     {
-        if let Some(at) = path_fault_of(text.as_bytes()) {
+        RepoPath::from_bytes(alloc, text.as_bytes())
+    }
+
+    /// Reads a path of bytes that may be no text.
+    pub fn from_bytes(alloc: Global, bytes: &[u8]) -> Result<RepoPath, PathFault>
+        ensures path { IfOk result (λ p. p ≡ elements bytes.now) }
+        ensures rules { IfOk result (λ p. IsTrue (is_path p)) }
+        ensures unruly { (at : ℕ) → IsErrOf result (PathFault.BadPath at) → is_path (elements bytes.now) ≡ false }
+        ensures bad { (at : ℕ) → (IsErrOf result (PathFault.BadPath at) ↔ (path_fault bytes.now ≡ Some at)) }
+    {
+        if let Some(at) = path_fault_of(bytes) {
             return Err(PathFault::BadPath { at });
         }
+        let Ok(text) = str::from_utf8(bytes) else {
+            unreachable!()
+        };
         let text = String::from_str(alloc, text)?;
         Ok(RepoPath { text })
     }
@@ -52,6 +65,7 @@ impl RepoPath {
         ensures text { result.now ≡ text_of self.now }
         ensures elements { elements result.now ≡ self.now }
         ensures path { IsTrue (is_path self.now) }
+        ensures length { length result.now ≤ 4096 }
     {
         self.text.as_str()
     }
@@ -114,5 +128,11 @@ impl Ord for RepoPath {
 
     fn cmp(&self, other: &RepoPath) -> Ordering {
         compare(self.text.as_bytes(), other.text.as_bytes())
+    }
+}
+
+impl fmt::Debug for RepoPath {
+    fn fmt<W: fmt::Write>(&self, f: &mut fmt::Formatter<W>) -> fmt::Result {
+        f.write_str(self.as_str())
     }
 }

@@ -58,8 +58,14 @@ fn faults_of_paths(rt: HostRuntime) -> Result<(), Fail> {
     ] {
         assert_eq!(rt; fault_of_path(&rt, text), Some(at));
     }
-    assert_eq!(rt; fault_of_path(&rt, letters(rt.alloc(), 256)?.as_str()), Some(0));
-    assert_eq!(rt; fault_of_path(&rt, letters(rt.alloc(), 4097)?.as_str()), Some(4096));
+    assert_eq!(rt;
+        fault_of_path(&rt, letters(rt.alloc(), 256)?.as_str()),
+        Some(0)
+    );
+    assert_eq!(rt;
+        fault_of_path(&rt, letters(rt.alloc(), 4097)?.as_str()),
+        Some(4096)
+    );
     Ok(())
 }
 
@@ -105,7 +111,9 @@ fn names(rt: HostRuntime) -> Result<(), Fail> {
         assert_eq!(rt; fault_of_name(&rt, text), Some(at));
     }
     let mut longer = letters(rt.alloc(), 128)?;
-    let longest = BookName::parse(rt.alloc(), longer.as_str()).ok().ok_or("a name")?;
+    let longest = BookName::parse(rt.alloc(), longer.as_str())
+        .ok()
+        .ok_or("a name")?;
     assert_eq!(rt; longest.as_str(), longer.as_str());
     longer.push('!')?;
     assert_eq!(rt; fault_of_name(&rt, longer.as_str()), Some(128));

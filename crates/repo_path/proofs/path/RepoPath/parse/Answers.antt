@@ -1,16 +1,9 @@
-use Rattle.std.proofs.Common.{◌≡◌, None, sym, ap, ◌∙◌}
-use Rattle.changeset_model.specs.Path.{elements, is_path, path_fault}
-use Rattle.repo_path.proofs.Faults.{path_without_fault, no_path_with_fault}
+use Rattle.std.proofs.Common.{sym, ap, ◌∙◌}
+use Rattle.changeset_model.specs.Path.{path_fault}
 use Rattle.repo_path.proofs.path.RepoPath.parse.Goals as goal
 
-pub returns-in-Some-clause-unruly : goal.returns-in-Some-clause-unruly
-returns-in-Some-clause-unruly c =
-    λ at e. no_path_with_fault c.args.text.now c.in-Some.at (ap path_fault (sym c.as_bytes.ensures.value) ∙ sym c.path_fault_of.ensures ∙ c.in-Some.is)
-
-pub invariant_of-result : goal.invariant_of-result
-invariant_of-result c =
-    let none : path_fault c.args.text.now ≡ None = ap path_fault (sym c.as_bytes.ensures.value) ∙ sym c.path_fault_of.ensures ∙ c.in_default.is in
-    ap (λ t. is_path (elements t)) c.in_ok-text.ensures.ok ∙ path_without_fault c.args.text.now none
-
-pub returns-clause-rules : goal.returns-clause-rules
-returns-clause-rules c = invariant_of-result c
+pub returns-clause-bad : goal.returns-clause-bad
+returns-clause-bad c =
+    λ at. let same = ap path_fault c.as_bytes.ensures.value in
+    let h = c.from_bytes.ensures.bad at in
+    (λ e. sym same ∙ h.0 e, λ e. h.1 (same ∙ e))
