@@ -44,7 +44,7 @@ pub bind_ok : {A B : Type 0} (o : Result (A × List ℕ) ℕ) (f : A → Reader 
 bind_ok (Ok x) f y e = (x, refl, e)
 bind_ok (Err n) f y e = absurd cc
 
-ok_is : {A : Type 0} (x y : A) → ◌≡◌ {A = Result A ℕ} (Ok x) (Ok y) → x ≡ y
+pub ok_is : {A : Type 0} (x y : A) → ◌≡◌ {A = Result A ℕ} (Ok x) (Ok y) → x ≡ y
 ok_is x y e = cc
 
 found_ok : {A : Type 0} (rest : List ℕ) (n : ℕ) (o : Option A) (y : A × List ℕ) → option_map_or (λ x. Ok (x, rest)) o (Err n) ≡ Ok y → (o ≡ Some y.0) × (rest ≡ y.1)
@@ -89,12 +89,12 @@ wide32 bytes len fits = (be_bytes_4 bytes _ len fits refl, omega (arith, fits 0,
 pub wide64 : IsWide w64 (2 ^ 64)
 wide64 bytes len fits = (be_bytes_8 bytes _ len fits refl, omega (arith, fits 0, fits 1, fits 2, fits 3, fits 4, fits 5, fits 6, fits 7))
 
-record NumberRead (w : Width) (limit : ℕ) (rule : ℕ → Bool) (bytes : List ℕ) (n : ℕ) (rest : List ℕ) : Type 0 where
-  took : Took bytes (to_be_bytes w n) rest
-  keeps : rule n ≡ true
-  below : n < limit
+pub record NumberRead (w : Width) (limit : ℕ) (rule : ℕ → Bool) (bytes : List ℕ) (n : ℕ) (rest : List ℕ) : Type 0 where
+  pub took : Took bytes (to_be_bytes w n) rest
+  pub keeps : rule n ≡ true
+  pub below : n < limit
 
-number_ok : (w : Width) (limit : ℕ) → IsWide w limit → (rule : ℕ → Bool) (bytes : List ℕ) (n : ℕ) (rest : List ℕ) → IsBytes bytes → number w rule bytes ≡ Ok (n, rest) → NumberRead w limit rule bytes n rest
+pub number_ok : (w : Width) (limit : ℕ) → IsWide w limit → (rule : ℕ → Bool) (bytes : List ℕ) (n : ℕ) (rest : List ℕ) → IsBytes bytes → number w rule bytes ≡ Ok (n, rest) → NumberRead w limit rule bytes n rest
 number_ok w limit wide rule bytes n rest fits e =
     let f = field_ok (byte_len w) (λ b. keeping rule (from_be_bytes w b)) bytes n rest fits e in
     let front = take (byte_len w) bytes in
@@ -114,11 +114,11 @@ one_byte (b ∷ []) len = (λ i. same i ∷ [])
     same = omega arith
 one_byte (b ∷ c ∷ bs) len = absurd (omega arith)
 
-record ByteRead (rule : ℕ → Bool) (bytes : List ℕ) (n : ℕ) (rest : List ℕ) : Type 0 where
-  took : Took bytes (n ∷ []) rest
-  keeps : rule n ≡ true
+pub record ByteRead (rule : ℕ → Bool) (bytes : List ℕ) (n : ℕ) (rest : List ℕ) : Type 0 where
+  pub took : Took bytes (n ∷ []) rest
+  pub keeps : rule n ≡ true
 
-byte_ok : (rule : ℕ → Bool) (bytes : List ℕ) (n : ℕ) (rest : List ℕ) → IsBytes bytes → number w8 rule bytes ≡ Ok (n, rest) → ByteRead rule bytes n rest
+pub byte_ok : (rule : ℕ → Bool) (bytes : List ℕ) (n : ℕ) (rest : List ℕ) → IsBytes bytes → number w8 rule bytes ≡ Ok (n, rest) → ByteRead rule bytes n rest
 byte_ok rule bytes n rest fits e =
     let f = field_ok 1 (λ b. keeping rule (from_be_bytes w8 b)) bytes n rest fits e in
     let k = keeping_ok rule (from_be_bytes w8 (take 1 bytes)) n f.seen in
@@ -153,9 +153,9 @@ pub all_bytes : (bytes : List ℕ) → IsBytes bytes → list_all (λ b. nat_lt 
 all_bytes [] fits = refl
 all_bytes (b ∷ bytes) fits = and_from _ _ (lt-ltb b 256 (fits 0)) (all_bytes bytes (λ i. fits (suc i)))
 
-record IdRead (bytes : List ℕ) (x : Id) (rest : List ℕ) : Type 0 where
-  took : Took bytes x rest
-  good : is_bytes 32 x ≡ true
+pub record IdRead (bytes : List ℕ) (x : Id) (rest : List ℕ) : Type 0 where
+  pub took : Took bytes x rest
+  pub good : is_bytes 32 x ≡ true
 
 id_of_rule : (rule : Id → Bool) (bytes : List ℕ) (x : Id) (rest : List ℕ) → IsBytes bytes → bytes_of 32 rule bytes ≡ Ok (x, rest) → IdRead bytes x rest × (rule x ≡ true)
 id_of_rule rule bytes x rest fits e =
@@ -164,10 +164,10 @@ id_of_rule rule bytes x rest fits e =
     let good : is_bytes 32 (take 32 bytes) ≡ true = and_from _ _ (eq-eqb (length (take 32 bytes)) 32 f.long) (all_bytes (take 32 bytes) (IsBytes-take 32 bytes fits)) in
     (record { took = subst (λ t. Took bytes t rest) k.1 f.took; good = subst (λ t. is_bytes 32 t ≡ true) k.1 good }, subst (λ t. rule t ≡ true) k.1 k.0)
 
-id_ok : (bytes : List ℕ) (x : Id) (rest : List ℕ) → IsBytes bytes → id bytes ≡ Ok (x, rest) → IdRead bytes x rest
+pub id_ok : (bytes : List ℕ) (x : Id) (rest : List ℕ) → IsBytes bytes → id bytes ≡ Ok (x, rest) → IdRead bytes x rest
 id_ok bytes x rest fits e = (id_of_rule (λ _. true) bytes x rest fits e).0
 
-exactly_ok : (text bytes : List ℕ) (x : List ℕ) (rest : List ℕ) → IsBytes bytes → exactly text bytes ≡ Ok (x, rest) → Took bytes text rest
+pub exactly_ok : (text bytes : List ℕ) (x : List ℕ) (rest : List ℕ) → IsBytes bytes → exactly text bytes ≡ Ok (x, rest) → Took bytes text rest
 exactly_ok text bytes x rest fits e =
     let f = field_ok (length text) (keeping (bytes_eq text)) bytes x rest fits e in
     let k = keeping_ok (bytes_eq text) (take (length text) bytes) x f.seen in
@@ -202,25 +202,26 @@ signed_32_ok bytes z rest fits e =
     let z-is : cast_signed w32 n ≡ z = some_is (cast_signed w32 n) z f.seen in
     (subst (λ t. Took bytes t rest) (sym wd.0 ∙ ap (to_be_bytes w32) (sym (of_z-to_z w32 n wd.1) ∙ ap (cast_unsigned w32) z-is)) f.took, subst (λ z. is_signed 32 z ≡ true) z-is (signed_range_32 (cast_signed w32 n) (sfits_to_z (record { fits = wd.1 }))))
 
-took_end : (bytes : List ℕ) → IsBytes bytes → Took bytes [] bytes
+pub took_end : (bytes : List ℕ) → IsBytes bytes → Took bytes [] bytes
 took_end bytes fits = record { parts = refl; left = fits }
 
 -- the value that was put together, and what was left
-value_ok : {A : Type 0} (x y : A) (left rest : List ℕ) → value x left ≡ Ok (y, rest) → (x ≡ y) × (left ≡ rest)
+pub value_ok : {A : Type 0} (x y : A) (left rest : List ℕ) → value x left ≡ Ok (y, rest) → (x ≡ y) × (left ≡ rest)
 value_ok {A = A} x y left rest e = let same = ok_is {A = A × List ℕ} (x, left) (y, rest) e in (ap (λ (p : A × List ℕ). p.0) same, ap (λ (p : A × List ℕ). p.1) same)
 
-kind_byte-kind_of : (n : ℕ) → nat_lt n 3 ≡ true → kind_byte (kind_of n) ≡ n
+pub kind_byte-kind_of : (n : ℕ) → nat_lt n 3 ≡ true → kind_byte (kind_of n) ≡ n
 kind_byte-kind_of zero h = refl
 kind_byte-kind_of (suc zero) h = refl
 kind_byte-kind_of (suc (suc zero)) h = refl
 kind_byte-kind_of (suc (suc (suc n))) h = absurd (let lt = ltb-true (suc (suc (suc n))) 3 h in omega arith)
 
-record FileRead (rule : ℕ → Bool) (bytes : List ℕ) (f : File) (rest : List ℕ) : Type 0 where
-  took : Took bytes (file_bytes f) rest
-  size : rule f.size ≡ true
-  content : is_bytes 32 f.content ≡ true
+pub record FileRead (rule : ℕ → Bool) (bytes : List ℕ) (f : File) (rest : List ℕ) : Type 0 where
+  pub took : Took bytes (file_bytes f) rest
+  pub size : rule f.size ≡ true
+  pub small : f.size < 2 ^ 64
+  pub content : is_bytes 32 f.content ≡ true
 
-file_ok : (rule : ℕ → Bool) (bytes : List ℕ) (f : File) (rest : List ℕ) → IsBytes bytes → file rule bytes ≡ Ok (f, rest) → FileRead rule bytes f rest
+pub file_ok : (rule : ℕ → Bool) (bytes : List ℕ) (f : File) (rest : List ℕ) → IsBytes bytes → file rule bytes ≡ Ok (f, rest) → FileRead rule bytes f rest
 file_ok rule bytes f rest fits e =
     let s1 = bind_ok (number w8 (λ n. nat_lt n 3) bytes) (λ kind. number w64 rule >>= λ size. id >>= λ content. value (a_file kind size content)) (f, rest) e in
     let kind = s1.0.0 in
@@ -237,7 +238,7 @@ file_ok rule bytes f rest fits e =
     (took_then s1.0.1 (to_be_bytes w64 size) s2.0.1 (content ++ []) s3.0.1 n2.took (took_then s2.0.1 content s3.0.1 [] s3.0.1 n3.took (took_end s3.0.1 n3.took.left)))
     in
     let spelled : Took bytes (file_bytes (a_file kind size content)) s3.0.1 = subst (λ k. Took bytes ((k ∷ []) ++ (to_be_bytes w64 size ++ (content ++ []))) s3.0.1) (sym (kind_byte-kind_of kind n1.keeps)) all in
-    subst (λ f. FileRead rule bytes f rest) last.0 (record { took = subst (λ r. Took bytes (file_bytes (a_file kind size content)) r) last.1 spelled; size = n2.keeps; content = n3.good })
+    subst (λ f. FileRead rule bytes f rest) last.0 (record { took = subst (λ r. Took bytes (file_bytes (a_file kind size content)) r) last.1 spelled; size = n2.keeps; small = n2.below; content = n3.good })
 
 -- ---- changes
 
@@ -524,7 +525,7 @@ changeset_ok bytes c rest fits eq =
     let t3 = parent_list_ok s2.0.1 s3.0.0 s3.0.1 t2.left s3.1 in
     changeset_by bytes s1.0.1 s2.0.1 s3.0.1 s3.0.0 c rest t1 t2 t3 (from_author_ok s3.0.0 s3.0.1 c rest t3.0.left s3.2)
 
-whole_ok : {A : Type 0} (n : ℕ) (o : Result (A × List ℕ) ℕ) (x : A) → whole n o ≡ Ok x → o ≡ Ok (x, [])
+pub whole_ok : {A : Type 0} (n : ℕ) (o : Result (A × List ℕ) ℕ) (x : A) → whole n o ≡ Ok x → o ≡ Ok (x, [])
 whole_ok n (Ok (x, [])) y e = ap (λ x. Ok (x, [])) (ok_is x y e)
 whole_ok n (Ok (x, b ∷ left)) y e = absurd cc
 whole_ok n (Err left) y e = absurd cc

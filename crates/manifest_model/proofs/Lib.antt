@@ -1,3 +1,4 @@
 pub mod Derivations
 pub mod Links
 pub mod Nodes
+pub mod Decoded

@@ -100,13 +100,13 @@ before_by cs c p f n true e = absurd (undecided (decides c p) (set_at c p) f n (
 before_by cs c p f n false e = e
 
 -- a file that a changeset doesn't set was there before it
-was_there : (cs : List Changeset) (c : Changeset) (p : Path) (f : File) → set_at c p ≡ None → tree (cs ++ c ∷ []) p ≡ Some f → tree cs p ≡ Some f
+pub was_there : (cs : List Changeset) (c : Changeset) (p : Path) (f : File) → set_at c p ≡ None → tree (cs ++ c ∷ []) p ≡ Some f → tree cs p ≡ Some f
 was_there cs c p f n e = before_by cs c p f n (list_any (λ d. decides d p) (c ∷ [])) (sym (tree-append cs (c ∷ []) p) ∙ e)
 
 abbrev pub tree_on : List Known → Path → Option File
 tree_on ks p = tree (changesets (reverse ks)) p
 
-tree_on-cons : (c : Known) (older : List Known) (p : Path) → tree_on (c ∷ older) p ≡ tree (changesets (reverse older) ++ c.changeset ∷ []) p
+pub tree_on-cons : (c : Known) (older : List Known) (p : Path) → tree_on (c ∷ older) p ≡ tree (changesets (reverse older) ++ c.changeset ∷ []) p
 tree_on-cons c older p = ap (λ ks. tree (changesets ks) p) (reverse-cons c older) ∙ ap (λ cs. tree cs p) (map-append (λ k. k.changeset) (reverse older) (c ∷ []))
 
 -- ---- the unode of a file

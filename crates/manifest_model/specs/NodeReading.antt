@@ -1,4 +1,5 @@
 -- Reading the nodes of manifests.
+--     fsnode_fields, unode_fields      a node by its fields
 --     fsnode_of bytes, unode_of bytes      the node, or the place of its first fault
 use Rattle.std.specs.Prelude.{Bool, ℕ, zero, suc, true, ◌&&◌, ◌||◌, ◌==◌, nat_lt, if◌then◌else◌, List, [], ◌∷◌, Option, None, Some, Result}
 use Rattle.std.specs.Ordering.{is_lt, nat_cmp}
@@ -29,15 +30,18 @@ entries r (suc n) before = do
   es ← entries r n (Some e.0)
   value (e ∷ es)
 
--- one field of 40 bytes
-abbrev pub summary : Reader Summary
-summary = one_field do
+abbrev pub summary_fields : Reader Summary
+summary_fields = do
   files ← number w64 any
   size ← number w64 any
   dirs ← number w64 any
   all_files ← number w64 any
   all_size ← number w64 any
   value (record { child_files_count = files; child_files_total_size = size; child_dirs_count = dirs; descendant_files_count = all_files; descendant_files_total_size = all_size })
+
+-- one field of 40 bytes
+abbrev pub summary : Reader Summary
+summary = one_field summary_fields
 
 abbrev pub fs_entry_of : ℕ → Reader FsEntry
 fs_entry_of zero = do
@@ -53,14 +57,17 @@ fs_entry = do
   tag ← number w8 (λ n. nat_lt n 2)
   fs_entry_of tag
 
-abbrev pub fsnode_of : List ℕ → Result Fsnode ℕ
-fsnode_of = read do
+abbrev pub fsnode_fields : Reader Fsnode
+fsnode_fields = do
   mark ← exactly (0x46 ∷ [])
   version ← exactly (1 ∷ [])
   s ← summary
   count ← number w32 any
   es ← entries fs_entry count None
   value (record { summary = s; entries = es })
+
+abbrev pub fsnode_of : List ℕ → Result Fsnode ℕ
+fsnode_of = read fsnode_fields
 
 abbrev pub unode_entry_for : ℕ → Id → UnodeEntry
 unode_entry_for zero x = UnodeFile x
@@ -95,7 +102,10 @@ file_unode = do
   linknode ← id
   value (FileUnode parents content (kind_of kind) path_hash linknode)
 
-abbrev pub unode_of : List ℕ → Result Unode ℕ
-unode_of = read do
+abbrev pub unode_fields : Reader Unode
+unode_fields = do
   mark ← number w8 (λ n. n == 0x55 || n == 0x56)
   if mark == 0x55 then manifest else file_unode
+
+abbrev pub unode_of : List ℕ → Result Unode ℕ
+unode_of = read unode_fields

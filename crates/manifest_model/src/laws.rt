@@ -1,5 +1,6 @@
 //! Laws of manifests, each the contract of a function that does nothing.
-ghost use Rattle.std.specs.Prelude.{◌≡◌, true, cond, None, Some, Ok, List, [], ◌∷◌, reverse, find, option_map, is_some};
+ghost use Rattle.std.specs.Prelude.{◌≡◌, ◌↔◌, ℕ, true, cond, None, Some, Ok, List, [], ◌∷◌, reverse, find, option_map, is_some};
+ghost use Rattle.byte_fields.specs.Bytes.{IsBytes};
 ghost use Rattle.changeset_model.specs.Path.{Path, text_of};
 ghost use Rattle.changeset_model.specs.Changeset.{File, set_at};
 ghost use Rattle.history_model.specs.Chain.{changesets};
@@ -14,6 +15,16 @@ ghost use Rattle.manifest_model.specs.NodeReading.{fsnode_of, unode_of};
 pub fn fsnode_spelling_is_of_one()
     ensures read { (n : Fsnode) → is_fsnode n ≡ true → fsnode_of (fsnode_bytes n) ≡ Ok n }
     ensures one { (m n : Fsnode) → is_fsnode m ≡ true → is_fsnode n ≡ true → fsnode_bytes m ≡ fsnode_bytes n → m ≡ n }
+{}
+
+/// Bytes are read as an fsnode exactly where they spell it.
+pub fn fsnode_is_read_exactly()
+    ensures { (bytes : List ℕ) (n : Fsnode) → IsBytes bytes → ((fsnode_of bytes ≡ Ok n) ↔ ((is_fsnode n ≡ true) × (bytes ≡ fsnode_bytes n))) }
+{}
+
+/// Bytes are read as a unode exactly where they spell it.
+pub fn unode_is_read_exactly()
+    ensures { (bytes : List ℕ) (n : Unode) → IsBytes bytes → ((unode_of bytes ≡ Ok n) ↔ ((is_unode n ≡ true) × (bytes ≡ unode_bytes n))) }
 {}
 
 /// The spelling of a unode is read as it, and no two unodes have one spelling.

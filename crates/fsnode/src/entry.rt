@@ -1,0 +1,29 @@
+//! What a directory has under a name.
+
+use crate::summary::Summary;
+use node_fields::{FileKind, Name};
+use object_id::Id;
+
+/// A file or a directory.
+#[derive(Clone, Copy, Debug, PartialEq, Eq)]
+pub enum FsEntry {
+    File {
+        /// The id of its content.
+        content: Id,
+        kind: FileKind,
+        /// The length of its content in bytes.
+        size: u64,
+    },
+    Directory {
+        /// The id of its fsnode.
+        id: Id,
+        summary: Summary,
+    },
+}
+
+/// An entry and its name.
+#[derive(Debug, Drop)]
+pub struct FsChild {
+    pub name: Name,
+    pub entry: FsEntry,
+}

@@ -1,0 +1,150 @@
+//! Nodes by their ids.
+ghost use Rattle.std.specs.Prelude.{◌≡◌, ◌∷◌, [], map as map_list, if◌then◌else◌, Some, None, OnOk, OnErr, IfOk, IfErr, IfSome};
+ghost use Rattle.std.specs.Option.{option_copied};
+ghost use Rattle.std.specs.FinMap as map;
+ghost use Rattle.sha2.specs.Sha256.{sha256};
+ghost use Rattle.node_table.specs.Table.{AreDigests, collides, first_collision, with_node, with_nodes, without};
+ghost use Rattle.node_table.specs.Parts.{ids_seen, nodes_seen};
+ghost use Rattle.node_table.specs.Faults.{FaultOf, IsHeld};
+
+use crate::fault::TableFault;
+use object_id::Id;
+use std::alloc::{AllocError, Global};
+use std::collections::BTreeMap;
+use std::marker::Model;
+
+/// What stands under the id of a node.
+pub enum Held {
+    Nothing,
+    Same,
+    Other,
+}
+
+/// Nodes, each under the SHA-256 (FIPS 180-4) of its bytes.
+#[derive(Debug, Drop)]
+pub struct Store {
+    nodes: BTreeMap<Id, Vec<u8>>,
+}
+
+impl Model for Store {
+    ghost use Rattle.std.specs.FinMap as map;
+    ghost use Rattle.std.specs.Coded.{coded_ℕ, coded_list};
+    ghost use Rattle.node_table.specs.Table.{Nodes, AreDigests};
+    ghost use Rattle.node_table.specs.Parts.{nodes_of_entries};
+
+    ghost Value = { Nodes };
+
+    ghost coded = { map.code (coded_list coded_ℕ) (coded_list coded_ℕ) };
+
+    ghost view = { λ s. nodes_of_entries s.nodes.entries };
+
+    ghost invariant = { λ s. AreDigests (nodes_of_entries s.nodes.entries) };
+}
+
+impl Store {
+    pub fn new(alloc: Global) -> Store
+        ensures { result ≡ map.empty }
+    {
+        Store {
+            nodes: BTreeMap::new(alloc),
+        }
+    }
+
+    pub fn get(&self, id: &Id) -> Option<&[u8]>
+        ensures found { option_copied result ≡ map.get self.now id.now.0 }
+        ensures digest { IfSome result (λ bytes. sha256 bytes.now ≡ id.now.0) }
+        ensures digests { AreDigests self.now }
+    {
+        match self.nodes.get(id) {
+            Some(bytes) => Some(bytes.as_slice()),
+            None => None,
+        }
+    }
+
+    fn put(&mut self, id: Id, bytes: Vec<u8>) -> Result<(), AllocError>
+        requires { id.0 ≡ sha256 bytes.items }
+        ensures ok { OnOk result (self.new ≡ with_node self.old bytes.items) }
+        ensures err { OnErr result (self.new ≡ self.old) }
+    {
+        self.nodes.insert(id, bytes)?;
+        Ok(())
+    }
+
+    fn remove(&mut self, id: &Id)
+        ensures { self.new ≡ map.remove self.old id.now.0 }
+    {
+        let _ = self.nodes.remove(id);
+    }
+
+    // What stands under the id of these bytes.
+    fn held(&self, id: &Id, bytes: &[u8]) -> Held
+        ensures { IsHeld result bytes.now (map.get self.now id.now.0) }
+    {
+        match self.get(id) {
+            None => Held::Nothing,
+            Some(found) if found == bytes => Held::Same,
+            Some(_) => Held::Other,
+        }
+    }
+
+    /// Puts a node in.
+    pub fn insert(&mut self, bytes: Vec<u8>) -> Result<Id, TableFault>
+        ensures id { IfOk result (λ id. id.0 ≡ sha256 bytes.items) }
+        ensures ok { OnOk result (self.new ≡ with_node self.old bytes.items) }
+        ensures err { OnErr result (self.new ≡ self.old) }
+        ensures apart { OnOk result (first_collision self.old (bytes.items ∷ []) ≡ None) }
+        ensures fault { IfErr result (λ fault. FaultOf fault (first_collision self.old (bytes.items ∷ []))) }
+    {
+        let id = Id::of(&bytes);
+        match self.held(&id, &bytes) {
+            Held::Nothing => {
+                self.put(id, bytes)?;
+                Ok(id)
+            }
+            Held::Same => Ok(id),
+            Held::Other => Err(TableFault::Collision { id }),
+        }
+    }
+
+    // Puts a node in, and notes its id first if nothing stands there.
+    fn insert_noted(&mut self, bytes: Vec<u8>, noted: &mut Vec<Id>) -> Result<(), TableFault>
+        ensures ok { OnOk result (self.new ≡ with_node self.old bytes.items) }
+        ensures undo { without (ids_seen noted.new.items) self.new ≡ without (ids_seen noted.old.items) self.old }
+        ensures apart { OnOk result (first_collision self.old (bytes.items ∷ []) ≡ None) }
+        ensures fault { IfErr result (λ fault. FaultOf fault (first_collision self.old (bytes.items ∷ []))) }
+    {
+        let id = Id::of(&bytes);
+        match self.held(&id, &bytes) {
+            Held::Nothing => {
+                noted.push(id)?;
+                self.put(id, bytes)?;
+                Ok(())
+            }
+            Held::Same => Ok(()),
+            Held::Other => Err(TableFault::Collision { id }),
+        }
+    }
+
+    /// Puts nodes in, and notes the ids under which nothing stood: without these the nodes are as they were.
+    pub fn insert_all(&mut self, nodes: Vec<Vec<u8>>, noted: &mut Vec<Id>) -> Result<(), TableFault>
+        ensures ok { OnOk result (self.new ≡ with_nodes self.old (nodes_seen nodes.items)) }
+        ensures undo { without (ids_seen noted.new.items) self.new ≡ without (ids_seen noted.old.items) self.old }
+        ensures apart { OnOk result (first_collision self.old (nodes_seen nodes.items) ≡ None) }
+        ensures fault { IfErr result (λ fault. FaultOf fault (first_collision self.old (nodes_seen nodes.items))) }
+    {
+        let mut rest = nodes.into_iter();
+        while let Some(bytes) = rest.next() {
+            self.insert_noted(bytes, noted)?;
+        }
+        Ok(())
+    }
+
+    /// Takes the nodes of these ids out.
+    pub fn undo(&mut self, mut noted: Vec<Id>)
+        ensures { self.new ≡ without (ids_seen noted.items) self.old }
+    {
+        while let Some(id) = noted.pop() {
+            self.remove(&id);
+        }
+    }
+}

@@ -1,0 +1,18 @@
+//! What a directory has under a name.
+
+use node_fields::Name;
+use object_id::Id;
+
+/// A file or a directory, each by the id of its unode.
+#[derive(Clone, Copy, Debug, PartialEq, Eq)]
+pub enum UnodeEntry {
+    File(Id),
+    Directory(Id),
+}
+
+/// An entry and its name.
+#[derive(Debug, Drop)]
+pub struct UnodeChild {
+    pub name: Name,
+    pub entry: UnodeEntry,
+}

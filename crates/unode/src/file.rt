@@ -1,0 +1,18 @@
+//! Unodes of files.
+
+use node_fields::FileKind;
+use object_id::Id;
+
+/// A file as one changeset set it.
+#[derive(Clone, Copy, Debug, PartialEq, Eq)]
+pub struct FileUnode {
+    /// The id of the unode of the same path before, if the path was a file there.
+    pub parent: Option<Id>,
+    /// The id of its content.
+    pub content: Id,
+    pub kind: FileKind,
+    /// The SHA-256 of its path's text.
+    pub path_hash: Id,
+    /// The changeset that set it.
+    pub linknode: Id,
+}

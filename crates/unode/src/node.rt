@@ -1,0 +1,39 @@
+//! Unodes.
+ghost use Rattle.std.specs.Prelude.{◌≡◌};
+ghost use Rattle.manifest_model.specs.Unode.{linknode_of};
+ghost use Rattle.unode.specs.Parts.{parents_seen};
+ghost use Rattle.unode.specs.Views.{unode_seen};
+ghost use Rattle.unode.specs.History.{parents_of};
+
+use crate::file::FileUnode;
+use crate::manifest::UnodeManifest;
+use object_id::Id;
+
+/// The unode of a path.
+#[derive(Debug, Drop)]
+pub enum Unode {
+    Manifest(UnodeManifest),
+    File(FileUnode),
+}
+
+impl Unode {
+    /// The changeset that made it.
+    pub fn linknode(&self) -> Id
+        ensures { result.0 ≡ linknode_of (unode_seen self.now) }
+    {
+        match self {
+            Unode::Manifest(manifest) => manifest.linknode,
+            Unode::File(file) => file.linknode,
+        }
+    }
+
+    /// The id of the unode of the same path before, if the path was of the same kind there.
+    pub fn parent(&self) -> Option<Id>
+        ensures { parents_seen result ≡ parents_of (unode_seen self.now) }
+    {
+        match self {
+            Unode::Manifest(manifest) => manifest.parent,
+            Unode::File(file) => file.parent,
+        }
+    }
+}
