@@ -145,31 +145,31 @@ empty_fsnode : length (fsnode_bytes (fsnode [] [])) ≡ 46
 empty_fsnode = refl
 
 -- set, deleted and set again
-abbrev P1 : Changeset
-P1 = by_a [] (set_abc (codes "p") ∷ [])
+abbrev p_set : Changeset
+p_set = by_a [] (set_abc (codes "p") ∷ [])
 
-abbrev P2 : Changeset
-P2 = on P1 (delete (codes "p") ∷ [])
+abbrev p_deleted : Changeset
+p_deleted = on p_set (delete (codes "p") ∷ [])
 
-abbrev P3 : Changeset
-P3 = on P2 (set_abc (codes "p") ∷ [])
+abbrev p_set_again : Changeset
+p_set_again = on p_deleted (set_abc (codes "p") ∷ [])
 
 abbrev p_thrice : List Entry
-p_thrice = after [] (PutContent (codes "abc") ∷ uploads (P1 ∷ P2 ∷ P3 ∷ []))
+p_thrice = after [] (PutContent (codes "abc") ∷ uploads (p_set ∷ p_deleted ∷ p_set_again ∷ []))
 
-set_again : unode (line (known p_thrice) (id_of P3)) (elements (codes "p")) ≡ FileUnode [] (sha256 (codes "abc")) Regular (sha256 (codes "p")) (id_of P3)
+set_again : unode (line (known p_thrice) (id_of p_set_again)) (elements (codes "p")) ≡ FileUnode [] (sha256 (codes "abc")) Regular (sha256 (codes "p")) (id_of p_set_again)
 unfolding is_utf8 chars lib.Utf8.encode sha256 digest_bytes hash_after compress rounds schedule first_words
 set_again = refl
 
-unode_lens : map (λ p. length (unode_bytes (unode (line (known p_thrice) (id_of P3)) p))) (elements (codes "p") ∷ [] ∷ []) ≡ 100 ∷ 106 ∷ []
+unode_lens : map (λ p. length (unode_bytes (unode (line (known p_thrice) (id_of p_set_again)) p))) (elements (codes "p") ∷ [] ∷ []) ≡ 100 ∷ 106 ∷ []
 unfolding is_utf8 chars lib.Utf8.encode sha256 digest_bytes hash_after compress rounds schedule first_words
 unode_lens = refl
 
-history_of_p : seen_history p_thrice (id_of P3) (elements (codes "p")) ≡ Ok (SeenIds (id_of P3 ∷ []))
+history_of_p : seen_history p_thrice (id_of p_set_again) (elements (codes "p")) ≡ Ok (SeenIds (id_of p_set_again ∷ []))
 unfolding is_utf8 chars lib.Utf8.encode sha256 digest_bytes hash_after compress rounds schedule first_words
 history_of_p = refl
 
-deleted_p : seen_history p_thrice (id_of P2) (elements (codes "p")) ≡ Err NoPath
+deleted_p : seen_history p_thrice (id_of p_deleted) (elements (codes "p")) ≡ Err NoPath
 unfolding is_utf8 chars lib.Utf8.encode sha256 digest_bytes hash_after compress rounds schedule first_words
 deleted_p = refl
 
@@ -242,7 +242,7 @@ fsnode_read : fsnode_of (fsnode_bytes (fsnode two_files [])) ≡ Ok (fsnode two_
 unfolding is_utf8 chars lib.Utf8.encode sha256 digest_bytes hash_after compress rounds schedule first_words
 fsnode_read = refl
 
-unode_read : unode_of (unode_bytes (unode (line (known p_thrice) (id_of P3)) [])) ≡ Ok (unode (line (known p_thrice) (id_of P3)) [])
+unode_read : unode_of (unode_bytes (unode (line (known p_thrice) (id_of p_set_again)) [])) ≡ Ok (unode (line (known p_thrice) (id_of p_set_again)) [])
 unfolding is_utf8 chars lib.Utf8.encode sha256 digest_bytes hash_after compress rounds schedule first_words
 unode_read = refl
 

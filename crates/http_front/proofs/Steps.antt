@@ -75,6 +75,7 @@ begun from = record {
     untouched : (rest : Option (List ℕ)) → Consumes rest [] rest
     untouched None = refl
     untouched (Some bytes) = record { left = bytes; after_is = refl; split = refl }
+
     unwritten : (written : Option (List ℕ)) → Puts [] written written
     unwritten None = refl
     unwritten (Some bytes) = ap (λ l. Some l) (sym (append-nil bytes))

@@ -28,6 +28,7 @@ message_goes who old new rest written kept held left budget q text result begins
   where
     answers_from : Answers from.header from.who old.history q text new.history
     answers_from = subst (λ w. Answers from.header w old.history q text new.history) (sym ew) (subst (λ h. Answers h who old.history q text new.history) (sym eh) answers)
+
     by : (r : Option Ended) → Sent r q.close text written kept → Goes from new rest kept left budget r
     by None s = answered from old.history rest written held budget now q text left new.history kept begins s.0 answers_from s.1
     by (Some ended.Closed) s = closes from old.history rest written held budget now q text left new.history kept begins s.0 answers_from s.1

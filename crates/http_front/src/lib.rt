@@ -4,9 +4,9 @@
 mod answering;
 pub mod asking;
 mod bodies;
-mod refusing;
 pub mod ended;
 mod link;
-pub mod session;
+mod refusing;
 pub mod response;
 pub mod room;
+pub mod session;

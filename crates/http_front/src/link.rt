@@ -57,7 +57,7 @@ fn end_of(cutter: &Cutter) -> Ended
     ensures cut { (read : ℕ) → result ≡ Ended.Cut read → (read ≡ length cutter.now) × (0 < read) }
     ensures other { (result ≡ Ended.Whole) ⊎ ((read : ℕ) × (result ≡ Ended.Cut read)) }
 {
-    match cutter.held() {
+    match cutter.waiting() {
         0 => Ended::Whole,
         held => Ended::Cut { rest: held as u64 },
     }

@@ -25,7 +25,8 @@ use std::alloc::{AllocError, Global};
 pub const MOST_READ: usize = 1_073_741_824;
 
 /// The response where there is no memory to begin a session.
-const CLOSING_MEMORY: &[u8] = b"HTTP/1.1 503 Service Unavailable\r\nContent-Type: application/json\r\nContent-Length: 17\r\nConnection: close\r\n\r\n{\"code\":\"memory\"}";
+const CLOSING_MEMORY: &[u8] =
+    b"HTTP/1.1 503 Service Unavailable\r\nContent-Type: application/json\r\nContent-Length: 17\r\nConnection: close\r\n\r\n{\"code\":\"memory\"}";
 
 // What a session works with, all of it taken when it begins.
 #[derive(Drop)]
@@ -147,12 +148,7 @@ fn turn<S: Source, K: Sink>(
             serve_unread(&mut desk.room, sink, Form { close, head_only })
         }
         Next::Refused { status: _, code } => Some(refuse(&mut desk.room, sink, code)),
-        Next::NeedMore => read_more(
-            source,
-            &mut desk.cutter,
-            &mut desk.piece,
-            &mut desk.budget,
-        ),
+        Next::NeedMore => read_more(source, &mut desk.cutter, &mut desk.piece, &mut desk.budget),
     }
 }
 

@@ -83,13 +83,6 @@ impl Cutter {
         self.bytes.extend_from_slice(piece).unwrap();
     }
 
-    /// How many bytes are held that were fed and not consumed, but for empty lines before them.
-    pub fn held(&self) -> usize
-        ensures { result ≡ length self.now }
-    {
-        self.bytes.len() - self.start
-    }
-
     /// What stands first. A request is consumed; after a refusal the same refusal comes again.
     pub fn next(&mut self, alloc: Global) -> Next
         ensures message { OnMessage result (λ request. model.Begins self.old (model.Whole (seen request) self.new)) }

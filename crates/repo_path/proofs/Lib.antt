@@ -4,4 +4,3 @@ pub mod Fronts
 pub mod Names
 pub mod Order
 pub mod Under
-pub mod Utf8

@@ -1,10 +1,10 @@
 //! One element of a path, which is also a name in a directory.
 ghost use Rattle.std.specs.Prelude.{◌≡◌, not, ◌&&◌, ◌==◌};
 ghost use Rattle.std.specs.List.{list_all};
-ghost use Rattle.byte_fields.specs.Bytes.{is_text as is_utf8_text, is_line as is_text_line};
+ghost use Rattle.byte_fields.specs.Bytes.{is_line as is_text_line};
 ghost use Rattle.changeset_model.specs.Path.{is_element as is_path_element};
 
-use std::str;
+use byte_fields::is_text;
 
 /// Whether bytes are an element: 1 to 255 bytes of UTF-8 without the bytes 00 and 0A and the slash, and neither `.` nor
 /// `..`.
@@ -23,12 +23,6 @@ fn is_line(bytes: &[u8]) -> bool
     ensures { result ≡ is_text_line bytes.now }
 {
     is_text(bytes) && is_unbroken(bytes)
-}
-
-fn is_text(bytes: &[u8]) -> bool
-    ensures { result ≡ is_utf8_text bytes.now }
-{
-    str::from_utf8(bytes).is_ok()
 }
 
 fn is_unbroken(bytes: &[u8]) -> bool
