@@ -1,7 +1,6 @@
 -- The reply to a content that is put, by the indexes.
 use Rattle.std.proofs.Common.{◌≡◌, ℕ, suc, ◌+◌, ◌<◌, ◌≤◌, lt-ltb, le-ltb, Bool, true, false, cond, List, [], ◌∷◌, ◌++◌, length, refl, sym, ap, subst, ◌∙◌, arith}
 use Rattle.std.specs.Prelude.{Option, None, Some, Result, Ok, Err, nat_lt, is_some, bytes_eq, ◌||◌, ◌&&◌, slice_index, IsErrAnd}
-use Rattle.std.specs.List.{list_any}
 use Rattle.std.specs.Option.{option_or}
 use Rattle.std.proofs.lemmas.Slice.Eq.{bytes_eq-Decides}
 use Rattle.std.specs.Cmp.{nat_eq_equiv}
@@ -9,7 +8,7 @@ use Rattle.std.specs.Cmp.Lexicographic.{lists_equiv}
 use Rattle.std.proofs.lemmas.List.{append-nil, map-append}
 use Rattle.std.proofs.lemmas.List.Folds.{list_any-append}
 use Rattle.sha2.specs.Sha256.{sha256}
-use Rattle.byte_fields.specs.Bytes.{Id, first_some, are_bytes}
+use Rattle.byte_fields.specs.Bytes.{Id, are_bytes}
 use Rattle.byte_fields.proofs.Lists.{first_some-append, option_or-None}
 use Rattle.changeset_model.specs.Changeset.{most_content}
 use Rattle.history_model.specs.History.{Body, Content, Entry, is_down, is_breaking, content_len, length_in}
@@ -17,7 +16,6 @@ use Rattle.history_model.specs.Journal.{Header, is_full}
 use Rattle.history_model.specs.Journal as journal
 use Rattle.reply_model.specs.Reply.{PutContent, ContentPut, TooLong, Full, Down, Ask, Granted, Refusal, Judged, judge, refuse_if, unchanged, entered, put_content, ◌>>=◌}
 use Rattle.reply_model.specs.After.{Answer, Asks, Grants, Refuses, Memory, nothing, Replies, entry_by}
-use Rattle.reply_model.specs.Legal.{IsLegal}
 use Rattle.reply_model.proofs.Histories.{IsLegal-push, size-push}
 use Rattle.object_id.specs.declared.id.Id as ids
 use Rattle.repo_machine.specs.declared.refusal.Refusal as refusal

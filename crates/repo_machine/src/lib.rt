@@ -3,6 +3,7 @@
 #![tactic(auto)]
 
 pub mod machine;
+pub mod plain;
 pub mod refusal;
 
 pub use machine::Machine;

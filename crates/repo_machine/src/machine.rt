@@ -18,10 +18,10 @@ use std::marker::Model;
 pub const MOST_CONTENT: usize = 1_048_576;
 
 /// The bytes of an empty journal: a header of 16 and the closing gate.
-const EMPTY_SIZE: u64 = 17;
+pub(crate) const EMPTY_SIZE: u64 = 17;
 
 /// The bytes of a record beside its payload: a gate and a length.
-const FRAME: u64 = 5;
+pub(crate) const FRAME: u64 = 5;
 
 /// A repository of one thread: its capacity, its entries, and what is looked up in them.
 #[derive(Drop)]

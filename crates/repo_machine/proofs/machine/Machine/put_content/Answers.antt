@@ -1,4 +1,4 @@
-use Rattle.std.proofs.Common.{◌≡◌, sym, ap, ◌∙◌, arith}
+use Rattle.std.proofs.Common.{sym, ap, ◌∙◌, arith}
 use Rattle.repo_events.specs.Entries.{history_of}
 use Rattle.repo_machine.proofs.Putting.{answers_known, answers_full, answers_memory, answers_made, indexes_grow, pushed}
 use Rattle.repo_machine.proofs.machine.Machine.put_content.Goals as goal
