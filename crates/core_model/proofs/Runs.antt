@@ -359,18 +359,18 @@ twice = refl
 
 -- ---- unodes over three changesets
 
-abbrev D1 : Changeset
-D1 = by_a [] (set_abc (codes "a/x") ∷ set_nil (codes "b/y") ∷ [])
+abbrev first_tree : Changeset
+first_tree = by_a [] (set_abc (codes "a/x") ∷ set_nil (codes "b/y") ∷ [])
 
-abbrev D2 : Changeset
-D2 = on D1 (set_nil (codes "a/x") ∷ set_nil (codes "a/z") ∷ [])
+abbrev second_tree : Changeset
+second_tree = on first_tree (set_nil (codes "a/x") ∷ set_nil (codes "a/z") ∷ [])
 
 -- the directory becomes a file
-abbrev D3 : Changeset
-D3 = on D2 (set_abc (codes "a") ∷ [])
+abbrev third_tree : Changeset
+third_tree = on second_tree (set_abc (codes "a") ∷ [])
 
 abbrev three : List Known
-three = map with_id (D1 ∷ D2 ∷ D3 ∷ [])
+three = map with_id (first_tree ∷ second_tree ∷ third_tree ∷ [])
 
 abbrev unode_at : Changeset → List ℕ → Unode
 unode_at c path = unode (line three (id_of c)) (elements path)
@@ -382,23 +382,23 @@ abbrev parents_of : Unode → List Id
 parents_of (Manifest parents linknode entries) = parents
 parents_of (FileUnode parents content kind path_hash linknode) = parents
 
-siblings_keep : (unode_at D2 (codes "b") ≡ unode_at D1 (codes "b")) × (unode_at D3 (codes "b/y") ≡ unode_at D1 (codes "b/y"))
+siblings_keep : (unode_at second_tree (codes "b") ≡ unode_at first_tree (codes "b")) × (unode_at third_tree (codes "b/y") ≡ unode_at first_tree (codes "b/y"))
 unfolding is_utf8 chars lib.Utf8.encode sha256 digest_bytes hash_after compress rounds schedule first_words
 siblings_keep = (refl, refl)
 
-new_parents : map parents_of (unode_at D2 (codes "a") ∷ unode_at D2 (codes "a/x") ∷ unode_at D2 (codes "a/z") ∷ unode_at D3 (codes "a") ∷ root_at D1 ∷ root_at D3 ∷ []) ≡ (unode_id (unode_at D1 (codes "a")) ∷ []) ∷ (unode_id (unode_at D1 (codes "a/x")) ∷ []) ∷ [] ∷ [] ∷ [] ∷ (unode_id (root_at D2) ∷ []) ∷ []
+new_parents : map parents_of (unode_at second_tree (codes "a") ∷ unode_at second_tree (codes "a/x") ∷ unode_at second_tree (codes "a/z") ∷ unode_at third_tree (codes "a") ∷ root_at first_tree ∷ root_at third_tree ∷ []) ≡ (unode_id (unode_at first_tree (codes "a")) ∷ []) ∷ (unode_id (unode_at first_tree (codes "a/x")) ∷ []) ∷ [] ∷ [] ∷ [] ∷ (unode_id (root_at second_tree) ∷ []) ∷ []
 unfolding is_utf8 chars lib.Utf8.encode sha256 digest_bytes hash_after compress rounds schedule first_words
 new_parents = refl
 
-root_of_three : root_at D3 ≡ Manifest (unode_id (root_at D2) ∷ []) (id_of D3) ((codes "a", UnodeFile (unode_id (unode_at D3 (codes "a")))) ∷ (codes "b", UnodeDir (unode_id (unode_at D1 (codes "b")))) ∷ [])
+root_of_three : root_at third_tree ≡ Manifest (unode_id (root_at second_tree) ∷ []) (id_of third_tree) ((codes "a", UnodeFile (unode_id (unode_at third_tree (codes "a")))) ∷ (codes "b", UnodeDir (unode_id (unode_at first_tree (codes "b")))) ∷ [])
 unfolding is_utf8 chars lib.Utf8.encode sha256 digest_bytes hash_after compress rounds schedule first_words
 root_of_three = refl
 
-history_of_x : file_history (line three (id_of D2)) (elements (codes "a/x")) ≡ id_of D2 ∷ id_of D1 ∷ []
+history_of_x : file_history (line three (id_of second_tree)) (elements (codes "a/x")) ≡ id_of second_tree ∷ id_of first_tree ∷ []
 unfolding is_utf8 chars lib.Utf8.encode sha256 digest_bytes hash_after compress rounds schedule first_words
 history_of_x = refl
 
 -- of each directory two nodes, and of each file one
-node_counts : map (λ c. length (nodes_of three (id_of c))) (D1 ∷ D2 ∷ D3 ∷ []) ≡ 8 ∷ 9 ∷ 6 ∷ []
+node_counts : map (λ c. length (nodes_of three (id_of c))) (first_tree ∷ second_tree ∷ third_tree ∷ []) ≡ 8 ∷ 9 ∷ 6 ∷ []
 unfolding is_utf8 chars lib.Utf8.encode sha256 digest_bytes hash_after compress rounds schedule first_words
 node_counts = refl
