@@ -1,0 +1,60 @@
+-- What the calls of a disk do to its meaning.
+--     Rose before now      a count rose, or it stands at the last value of its type
+--     Kept old new      what each call keeps;  Looked old new      a call that changes nothing
+--     Did call old new      a write or a sync by the model, done or failed
+--     Leaves P old new      a crash at any moment since old left what has P, where one before old did
+use Rattle.std.specs.Prelude.{◌≡◌, ◌⊎◌, ℕ, ◌+◌, ◌≤◌, min, if◌then◌else◌, is_some, IsTrue, List, IsErr, Result}
+use Rattle.disk_model.specs.Images.{Disk, DiskCall, Writes, Syncs, holding, after_write, after_call, IsImage}
+use Rattle.blob_disk.specs.Meaning.{Meaning, IsLong, LeftSince}
+
+-- the last value of a count
+abbrev pub last_count : ℕ
+last_count = 18_446_744_073_709_551_615
+
+abbrev pub Rose : ℕ → ℕ → Type 0
+Rose before now = min (before + 1) last_count ≤ now
+
+-- a call answers `Failed` only where the count rose in it
+abbrev pub HasCause : {T E : Type 0} → Meaning → Meaning → Result T E → Type 0
+HasCause old new result = IsErr result → Rose old.faults new.faults
+
+-- A moment is told, then or later, with what the disk could leave then. What else a crash may have left is left by now.
+pub record Elapses (old new : Meaning) : Type 0 where
+  pub later : old.moment ≤ new.moment
+  pub told : is_some new.past ≡ is_some old.past
+  pub nothing_else : (t : ℕ) (image : List ℕ) → t ≤ old.moment → LeftSince new t image → LeftSince old t image ⊎ IsImage new.state image
+  pub keeps : (t : ℕ) (image : List ℕ) → LeftSince old t image → LeftSince new t image
+
+pub record Kept (old new : Meaning) : Type 0 where
+  pub honest : new.honest ≡ old.honest
+  pub quiet : new.quiet ≡ old.quiet
+  pub no_fewer : old.faults ≤ new.faults
+  -- where reads are told, the file gets no shorter
+  pub no_shorter : (n : ℕ) → IsLong old.reads n → IsLong new.reads n
+  pub time : Elapses old new
+
+abbrev pub Looked : Meaning → Meaning → Type 0
+Looked old new = IsTrue old.honest → new.state ≡ old.state
+
+-- reads give the same, and a crash may leave no more
+pub record Within (inner outer : Disk) : Type 0 where
+  pub reads : inner.reads ≡ outer.reads
+  pub images : (image : List ℕ) → IsImage inner image → IsImage outer image
+
+-- what a call has done for sure. A write that failed may have done nothing
+abbrev pub surely_after : Disk → DiskCall → Disk
+surely_after d (Writes at bytes done) = if done then after_write at bytes d else d
+surely_after d (Syncs done) = if done then holding d.reads else d
+
+-- A crash may leave no more than the model says, and no less than what was done for sure.
+pub record DidBy (call : DiskCall) (old new : Disk) : Type 0 where
+  pub most : Within new (after_call old call)
+  pub least : Within (surely_after old call) new
+
+abbrev pub Did : DiskCall → Meaning → Meaning → Type 0
+Did call old new = IsTrue old.honest → DidBy call old.state new.state
+
+pub record Leaves (P : List ℕ → Type 0) (old new : Meaning) : Type 0 where
+  pub kept : Kept old new
+  pub now : (image : List ℕ) → IsImage new.state image → P image
+  pub since : (t : ℕ) (image : List ℕ) → t ≤ old.moment → LeftSince new t image → LeftSince old t image ⊎ P image
