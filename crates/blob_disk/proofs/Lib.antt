@@ -1,2 +1,4 @@
 pub mod Marks
 pub mod Logs
+pub mod Walk
+pub mod Memories

@@ -4,3 +4,4 @@ pub mod Memory
 pub mod Inside
 pub mod Log
 pub mod Tally
+pub mod MemMeaning

@@ -3,8 +3,8 @@
 --     marked_in from to marks      the marks with those from one place up to another set
 --     wrote, tore, synced      after a write, a write that failed and a sync
 --     after m call, finally m calls, memories m calls      after a call, after all, and at each moment
---     disk_of m      the disk by the model of images;  crashed fill m      what is left where each byte written since the last sync holds fill
-use Rattle.std.specs.Prelude.{ℕ, zero, suc, ◌+◌, ◌-◌, ◌≤◌, ◌||◌, min, nat_le, Bool, true, false, if◌then◌else◌, List, [], ◌∷◌, ◌++◌, length, replicate, take, drop}
+--     disk_of m      the disk by the model of images
+use Rattle.std.specs.Prelude.{ℕ, suc, ◌+◌, ◌-◌, ◌≤◌, min, Bool, true, false, if◌then◌else◌, List, [], ◌∷◌, ◌++◌, length, replicate, take, drop}
 use Rattle.byte_fields.specs.Bytes.{IsBytes}
 use Rattle.disk_model.specs.Images.{Range, Disk, DiskCall, Writes, Syncs, write_at}
 
@@ -56,12 +56,3 @@ ranges i (b ∷ marks) = if b then record { at = i; len = 1 } ∷ ranges (suc i)
 
 abbrev pub disk_of : Memory → Disk
 disk_of m = record { synced = take m.stable m.reads; reads = m.reads; written = ranges 0 m.marks }
-
--- each byte that was written since the last sync, and each past the end that the file had then, in place of what it reads
-abbrev pub filled : ℕ → ℕ → List Bool → List ℕ → List ℕ
-filled fill stable marks [] = []
-filled fill stable [] (x ∷ reads) = (if nat_le stable 0 then fill else x) ∷ filled fill (stable - 1) [] reads
-filled fill stable (b ∷ marks) (x ∷ reads) = (if nat_le stable 0 || b then fill else x) ∷ filled fill (stable - 1) marks reads
-
-abbrev pub crashed : ℕ → Memory → List ℕ
-crashed fill m = filled fill m.stable m.marks m.reads

@@ -1,8 +1,9 @@
 //! The bytes of a disk in memory, and which of them were written since the last sync.
-ghost use Rattle.std.specs.Prelude.{◌≡◌, ℕ, ◌+◌, ◌<◌, ◌≤◌, false, length, replicate, slice_index_or, IfOk};
+ghost use Rattle.std.specs.Prelude.{◌≡◌, ℕ, ◌+◌, ◌<◌, ◌≤◌, false, List, length, replicate, slice_index_or, IfOk};
 ghost use Rattle.std.specs.Vec.{vec_capacity};
 ghost use Rattle.disk_model.specs.Images.{write_at};
 ghost use Rattle.blob_disk.specs.Memory.{holding_all, wrote, tore, synced};
+ghost use Rattle.blob_disk.specs.MemMeaning.{IsCrashed};
 
 use std::alloc::{AllocError, Global};
 use std::marker::Model;
@@ -104,6 +105,15 @@ impl Content {
         self.to = 0;
         self.stable = self.bytes.len();
     }
+
+    /// What a crash leaves where each byte that was written since the last sync holds `fill`.
+    /// All of it is stable.
+    pub fn crash(&mut self, fill: u8)
+        ensures { (left : List ℕ) × IsCrashed fill self.old left × (self.new ≡ holding_all left (length self.old.marks)) }
+    {
+        tear_up(&mut self.bytes, self.stable, &self.marks, fill);
+        self.sync();
+    }
 }
 
 // Writes over what is there, and past the end.
@@ -128,5 +138,17 @@ fn clear(marks: &mut [bool], from: usize, to: usize)
 {
     if from < to {
         marks[from..to].fill(false);
+    }
+}
+
+// Puts `fill` at each place that was written since the last sync.
+fn tear_up(bytes: &mut [u8], stable: usize, marks: &[bool], fill: u8)
+    requires { length bytes.old ≤ length marks.now }
+    ensures { IsCrashed fill (record { reads = bytes.old; stable = stable; marks = marks.now }) bytes.new }
+{
+    for i in 0..bytes.len() {
+        if i >= stable || marks[i] {
+            bytes[i] = fill;
+        }
     }
 }
