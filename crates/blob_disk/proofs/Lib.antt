@@ -2,3 +2,4 @@ pub mod Marks
 pub mod Logs
 pub mod Walk
 pub mod Memories
+pub mod Moments

@@ -3,7 +3,7 @@ use Rattle.std.proofs.Common.{◌≡◌, ℕ, zero, suc, ◌+◌, ◌-◌, ◌<�
 use Rattle.std.specs.Prelude.{slice_index, nat_le, nat_lt, if◌then◌else◌}
 use Rattle.std.specs.List.{list_any}
 use Rattle.std.proofs.lemmas.List.Folds.{list_any-append}
-use Rattle.std.proofs.lemmas.List.{length-append, length-take, length-drop, length-replicate, get_or-append_right, get_or-take, get_or-drop, get_or-replicate, take_all}
+use Rattle.std.proofs.lemmas.List.{length-append, length-take, length-drop, length-replicate, get_or-append_right, get_or-take, get_or-drop, get_or-replicate, get_or_past, take_all}
 use Rattle.std.proofs.Math.ListN.{get_or-append}
 use Rattle.std.proofs.lemmas.Bool.{cases_lt, lt-ltb}
 use Rattle.std.proofs.lemmas.Bool.Decides.{nat_tests}
@@ -11,7 +11,8 @@ use Rattle.byte_fields.specs.Bytes.{IsBytes}
 use Rattle.disk_model.specs.Images.{Range, Disk, Writes, Syncs, IsImage, holding, write_at, marked, after_write, after_call, is_written}
 use Rattle.disk_model.proofs.Crashes.{covers, not_marked, untouched, write_at_len, bytes_written, still_image_marked}
 use Rattle.blob_disk.specs.Calls.{Within, DidBy}
-use Rattle.blob_disk.specs.Memory.{Memory, IsGood, holding_all, marked_in, tore, wrote, synced, ranges, disk_of}
+use Rattle.blob_disk.specs.MemMeaning.{IsCrashed}
+use Rattle.blob_disk.specs.Memory.{Memory, IsGood, holding_all, marked_in, tore, wrote, synced, after, ranges, disk_of}
 
 -- ---- marks and ranges
 
@@ -101,6 +102,13 @@ within d e len reads less same = record {
 or_false : (b : Bool) → (b || false) ≡ b
 or_false true = refl
 or_false false = refl
+
+leb-not : (n i : ℕ) → i < n → nat_le n i ≡ false
+leb-not n i before = grind (arith, nat_tests)
+
+small_either : (b : Bool) (x y : ℕ) → x < 256 → y < 256 → cond b x y < 256
+small_either true x y p q = p
+small_either false x y p q = q
 
 ltb-not : (i n : ℕ) → n ≤ i → nat_lt i n ≡ false
 ltb-not i n behind = grind (arith, nat_tests)
@@ -240,14 +248,25 @@ good_holding_all bytes room are_bytes fits =
     let marks = length-replicate room false in
     record { are_bytes = are_bytes; stable = omega arith; fits = omega arith }
 
--- what reads give is always one of the images
-pub reads_are_image : (m : Memory) → IsGood m → IsImage (disk_of m) m.reads
-reads_are_image m good =
+-- a write that failed, as the record tells it: of its bytes it has only how many there were
+pub tore_is : (at len : ℕ) (m : Memory) → tore at len m ≡ after m (Writes at (replicate len 0) false)
+tore_is at len m = ap (λ n. tore at n m) (sym (length-replicate len 0))
+
+-- what a crash leaves with one byte in all places that were written is one of the images
+pub crashed_is_image : (fill : ℕ) (m : Memory) (left : List ℕ) → fill < 256 → IsGood m → IsCrashed fill m left → IsImage (disk_of m) left
+crashed_is_image fill m left small good h =
     let len = length-take m.stable m.reads in
+    let same = h.len in
     let stable = good.stable in
     record {
-      are_bytes = good.are_bytes;
+      are_bytes = λ i. elim (cases_lt i (length left)) [
+        | inl inside ↦ subst (λ n. n < 256) (sym (h.each i inside)) (small_either (nat_le m.stable i || get_or m.marks i false) fill (slice_index m.reads i) small (good.are_bytes i))
+        | inr past ↦ subst (λ n. n < 256) (sym (get_or_past left i 0 past)) (omega arith)
+      ];
       no_shorter = omega arith;
       no_longer = omega arith;
-      kept = λ i inside out. sym (get_or-take m.stable m.reads i 0 (omega arith));
+      kept = λ i inside out.
+        (let here : i < m.stable = omega arith in
+        let unmarked : (nat_le m.stable i || get_or m.marks i false) ≡ false = ap (λ b. b || get_or m.marks i false) (leb-not m.stable i here) ∙ (sym (is_written-disk_of m i) ∙ out) in
+        h.each i (omega arith) ∙ ap (λ b. cond b fill (slice_index m.reads i)) unmarked ∙ sym (get_or-take m.stable m.reads i 0 here));
     }

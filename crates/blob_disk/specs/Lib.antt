@@ -5,3 +5,5 @@ pub mod Inside
 pub mod Log
 pub mod Tally
 pub mod MemMeaning
+pub mod MemSound
+pub mod MemDisk

@@ -11,6 +11,10 @@ pub record Log : Type 0 where
   pub turns_left : ℕ
   pub bytes_left : ℕ
 
+-- no call yet, with room for so many calls and written bytes
+abbrev pub blank_log : ℕ → ℕ → Log
+blank_log turns bytes = record { calls = []; turns_left = turns; bytes_left = bytes }
+
 -- how many of the written bytes are the turn's
 abbrev pub bytes_of : Turn → ℕ
 bytes_of (Wrote at len) = len

@@ -1,8 +1,9 @@
 //! Counts the calls of a disk, and tells which of them are to fail.
-ghost use Rattle.std.specs.Prelude.{◌≡◌, []};
+ghost use Rattle.std.specs.Prelude.{◌≡◌, ◌≤◌, []};
 ghost use Rattle.blob_disk.specs.Tally.{counted, failed, fresh, is_due, is_kind, made};
 
 use crate::call_kind::CallKind;
+use crate::fault::Failed;
 use std::marker::Model;
 
 /// How many calls of each kind there were, and the list of those that are to fail: the nth call,
@@ -85,10 +86,12 @@ impl Calls {
     }
 
     /// One more call failed.
-    pub fn fail(&mut self)
-        ensures { self.new ≡ failed self.old }
+    pub fn fail(&mut self) -> Failed
+        ensures failed { self.new ≡ failed self.old }
+        ensures no_fewer { self.old.faults ≤ self.new.faults }
     {
         self.faults = self.faults.saturating_add(1);
+        Failed
     }
 
     /// No call was made, and none is to fail.

@@ -1,5 +1,5 @@
 //! The bytes of a disk in memory, and which of them were written since the last sync.
-ghost use Rattle.std.specs.Prelude.{◌≡◌, ℕ, ◌+◌, ◌<◌, ◌≤◌, false, List, length, replicate, slice_index_or, IfOk};
+ghost use Rattle.std.specs.Prelude.{◌≡◌, ℕ, ◌+◌, ◌<◌, ◌≤◌, false, length, replicate, slice_index_or, IfOk};
 ghost use Rattle.std.specs.Vec.{vec_capacity};
 ghost use Rattle.disk_model.specs.Images.{write_at};
 ghost use Rattle.blob_disk.specs.Memory.{holding_all, wrote, tore, synced};
@@ -109,7 +109,8 @@ impl Content {
     /// What a crash leaves where each byte that was written since the last sync holds `fill`.
     /// All of it is stable.
     pub fn crash(&mut self, fill: u8)
-        ensures { (left : List ℕ) × IsCrashed fill self.old left × (self.new ≡ holding_all left (length self.old.marks)) }
+        ensures bytes { IsCrashed fill self.old self.new.reads }
+        ensures stable { self.new ≡ holding_all self.new.reads (length self.old.marks) }
     {
         tear_up(&mut self.bytes, self.stable, &self.marks, fill);
         self.sync();

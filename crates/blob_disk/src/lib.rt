@@ -7,8 +7,11 @@ mod calls;
 mod content;
 pub mod disk;
 pub mod fault;
+mod mem_disk;
 mod record;
+mod recorder;
 
 pub use call_kind::CallKind;
 pub use disk::Disk;
 pub use fault::Failed;
+pub use mem_disk::MemDisk;

@@ -1,6 +1,6 @@
 //! A record of each write and sync of a disk, from which each of its states can be told again.
 ghost use Rattle.std.specs.Prelude.{◌≡◌, ◌↔◌, [], length, IfOk, IsTrue};
-ghost use Rattle.blob_disk.specs.Log.{bytes_of, call_of, noted, HasRoom};
+ghost use Rattle.blob_disk.specs.Log.{blank_log, bytes_of, call_of, noted, HasRoom};
 
 use std::alloc::{AllocError, Global};
 use std::marker::Model;
@@ -38,7 +38,7 @@ impl Model for Record {
 impl Record {
     /// No turn yet, with room for so many turns and written bytes.
     pub fn new(alloc: Global, turns: usize, bytes: usize) -> Result<Self, AllocError>
-        ensures { IfOk result (λ log. log ≡ record { calls = []; turns_left = turns; bytes_left = bytes }) }
+        ensures { IfOk result (λ log. log ≡ blank_log turns bytes) }
     {
         Ok(Record {
             turns: Vec::with_capacity(alloc, turns)?,
