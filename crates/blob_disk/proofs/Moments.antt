@@ -8,7 +8,7 @@ use Rattle.byte_fields.proofs.Lists.{each_of}
 use Rattle.disk_model.specs.Images.{Disk, DiskCall, IsImage, IsImageSince}
 use Rattle.blob_disk.specs.declared.call_kind.CallKind.{CallKind}
 use Rattle.blob_disk.specs.Meaning.{Meaning, IsLong, LeftSince}
-use Rattle.blob_disk.specs.Calls.{Elapses, Kept}
+use Rattle.blob_disk.specs.Calls.{Kept, LeavesOnly}
 use Rattle.blob_disk.specs.declared.call_kind.CallKind.TheVariants.{Size, Read, Write, Sync}
 use Rattle.blob_disk.specs.Memory.{Memory, IsGood, blank, after, finally, memories, disk_of}
 use Rattle.blob_disk.specs.Log.{Log, noted}
@@ -36,12 +36,9 @@ kept_same m log t u same more = record {
   quiet = ap (λ failing. quiet_of log failing (length m.marks)) same;
   no_fewer = more;
   no_shorter = λ n long. long;
-  time = record {
-    later = omega arith;
-    told = refl;
-    nothing_else = λ at image before left. inl left;
-    keeps = λ at image left. left;
-  };
+  later = omega arith;
+  told = refl;
+  remembers = λ at image left. left;
 }
 
 -- ---- one more moment
@@ -52,29 +49,22 @@ only_one x y c = each_of (λ z. z ≡ x) (x ∷ []) y (refl, tt) c
 within_list : {X : Type 0} (n : ℕ) (xs : List X) (x : X) → Contains (drop n xs) x → n ≤ length xs
 within_list n xs x c = let len = length-drop n xs in let k = c.1 in omega arith
 
-pub elapses_push : (old new : Meaning) (ds : List Disk) → old.past ≡ Some ds → new.past ≡ Some (ds ++ new.state ∷ []) → new.moment ≡ old.moment + 1 → length ds ≡ old.moment + 1 → Elapses old new
-elapses_push old new ds before after moment len = record {
-  later = omega arith;
-  told = ap (λ p. is_some p) after ∙ sym (ap (λ p. is_some p) before);
-  nothing_else = λ t image early left.
+-- a moment more in the past that is told
+remembers_push : (old new : Meaning) (ds : List Disk) → old.past ≡ Some ds → new.past ≡ Some (ds ++ new.state ∷ []) → (t : ℕ) (image : List ℕ) → LeftSince old t image → LeftSince new t image
+remembers_push old new ds before now t image left =
+    let same : left.0 ≡ ds = (let is = left.1 in cc) in
+    let among : Contains (drop t ds) left.2.0 = subst (λ es. Contains (drop t es) left.2.0) same left.2.1 in
+    (ds ++ new.state ∷ [], now, (left.2.0, subst (λ es. Contains es left.2.0) (sym (drop-append-le t ds (new.state ∷ []) (within_list t ds left.2.0 among))) (Contains-append_left (drop t ds) (new.state ∷ []) left.2.0 among), left.2.2))
+
+only_push : (old new : Meaning) (ds : List Disk) → old.past ≡ Some ds → new.past ≡ Some (ds ++ new.state ∷ []) → length ds ≡ old.moment + 1 → LeavesOnly (IsImage new.state) old new
+only_push old new ds before now len = record {
+  since = λ t image early left.
     (let same : left.0 ≡ ds ++ new.state ∷ [] = (let is = left.1 in cc) in
     let among : Contains (drop t ds ++ new.state ∷ []) left.2.0 = subst (λ es. Contains es left.2.0) (ap (λ es. drop t es) same ∙ drop-append-le t ds (new.state ∷ []) (omega arith)) left.2.1 in
     elim (Contains-append_cases (drop t ds) (new.state ∷ []) left.2.0 among) [
       | inl earlier ↦ inl (ds, before, (left.2.0, earlier, left.2.2))
-      | inr now ↦ inr (subst (λ d. IsImage d image) (only_one new.state left.2.0 now) left.2.2)
+      | inr last ↦ inr (subst (λ d. IsImage d image) (only_one new.state left.2.0 last) left.2.2)
     ]);
-  keeps = λ t image left.
-    (let same : left.0 ≡ ds = (let is = left.1 in cc) in
-    let among : Contains (drop t ds) left.2.0 = subst (λ es. Contains (drop t es) left.2.0) same left.2.1 in
-    (ds ++ new.state ∷ [], after, (left.2.0, subst (λ es. Contains es left.2.0) (sym (drop-append-le t ds (new.state ∷ []) (within_list t ds left.2.0 among))) (Contains-append_left (drop t ds) (new.state ∷ []) left.2.0 among), left.2.2)));
-}
-
-pub elapses_untold : (old new : Meaning) → old.past ≡ None → new.past ≡ None → old.moment ≤ new.moment → Elapses old new
-elapses_untold old new before after later = record {
-  later = later;
-  told = ap (λ p. is_some p) after ∙ sym (ap (λ p. is_some p) before);
-  nothing_else = λ t image early left. (let is = left.1 in absurd (cc));
-  keeps = λ t image left. (let is = left.1 in absurd (cc));
 }
 
 states_push : (m : Memory) (log : Log) (call : DiskCall) (k : ℕ) → AgreesWith m (Some log) → length (after m call).marks ≡ length m.marks → states_of (length (after m call).marks) (noted call k log) ≡ states_of (length m.marks) log ++ disk_of (after m call) ∷ []
@@ -84,13 +74,32 @@ states_push m log call k agrees room =
     ∙ map-append disk_of (memories (blank (length m.marks)) log.calls) (after (finally (blank (length m.marks)) log.calls) call ∷ [])
     ∙ ap (λ n. states_of (length m.marks) log ++ disk_of (after n call) ∷ []) (agrees log refl)
 
-elapses_turn : (m : Memory) (log : Option Log) (t u : Tally) (call : DiskCall) (k : ℕ) → AgreesWith m log → length (after m call).marks ≡ length m.marks → Elapses (meaning_of m log t) (meaning_of (after m call) (option_map (noted call k) log) u)
-elapses_turn m None t u call k agrees room = elapses_untold _ _ refl refl (omega arith)
-elapses_turn m (Some log) t u call k agrees room =
-    elapses_push _ _ (states_of (length m.marks) log) refl
-    (ap (λ ds. let p : Option (List Disk) = Some ds in p) (states_push m log call k agrees room))
-    (length-append log.calls (call ∷ []))
-    (length-map (memories (blank (length m.marks)) log.calls) disk_of ∙ length-memories (blank (length m.marks)) log.calls ∙ omega arith)
+length-states_of : (room : ℕ) (log : Log) → length (states_of room log) ≡ length log.calls + 1
+length-states_of room log = length-map (memories (blank room) log.calls) disk_of ∙ length-memories (blank room) log.calls ∙ omega arith
+
+past_push : (m : Memory) (log : Log) (call : DiskCall) (k : ℕ) → AgreesWith m (Some log) → length (after m call).marks ≡ length m.marks → (let p : Option (List Disk) = Some (states_of (length (after m call).marks) (noted call k log)) in p) ≡ Some (states_of (length m.marks) log ++ disk_of (after m call) ∷ [])
+past_push m log call k agrees room = ap (λ ds. let p : Option (List Disk) = Some ds in p) (states_push m log call k agrees room)
+
+only_turn : (m : Memory) (log : Option Log) (t u : Tally) (call : DiskCall) (k : ℕ) → AgreesWith m log → length (after m call).marks ≡ length m.marks → LeavesOnly (IsImage (disk_of (after m call))) (meaning_of m log t) (meaning_of (after m call) (option_map (noted call k) log) u)
+only_turn m None t u call k agrees room = record { since = λ at image early left. (let is = left.1 in absurd (cc)) }
+only_turn m (Some log) t u call k agrees room =
+    only_push (meaning_of m (Some log) t) (meaning_of (after m call) (Some (noted call k log)) u) (states_of (length m.marks) log) refl
+    (past_push m log call k agrees room)
+    (length-states_of (length m.marks) log)
+
+remembers_turn : (m : Memory) (log : Option Log) (t u : Tally) (call : DiskCall) (k : ℕ) → AgreesWith m log → length (after m call).marks ≡ length m.marks → (at : ℕ) (image : List ℕ) → LeftSince (meaning_of m log t) at image → LeftSince (meaning_of (after m call) (option_map (noted call k) log) u) at image
+remembers_turn m None t u call k agrees room at image left = let is = left.1 in absurd (cc)
+remembers_turn m (Some log) t u call k agrees room at image left =
+    remembers_push (meaning_of m (Some log) t) (meaning_of (after m call) (Some (noted call k log)) u) (states_of (length m.marks) log) refl
+    (past_push m log call k agrees room) at image left
+
+told_turn : (log : Option Log) (call : DiskCall) (k room later : ℕ) → is_some (option_map (states_of later) (option_map (noted call k) log)) ≡ is_some (option_map (states_of room) log)
+told_turn None call k room later = refl
+told_turn (Some log) call k room later = refl
+
+later_turn : (log : Option Log) (call : DiskCall) (k : ℕ) → option_map_or (λ l. length l.calls) log 0 ≤ option_map_or (λ l. length l.calls) (option_map (noted call k) log) 0
+later_turn None call k = omega arith
+later_turn (Some log) call k = let len = length-append log.calls (call ∷ []) in omega arith
 
 quiet_turn : (log : Option Log) (call : DiskCall) (k : ℕ) (failing : List (CallKind × ℕ)) (room : ℕ) → quiet_of (option_map (noted call k) log) failing room ≡ quiet_of log failing room
 quiet_turn None call k failing room = refl
@@ -112,7 +121,9 @@ kept_turn m log t u call k agrees room longer same more = record {
   quiet = quiet_turn log call k u.failing (length (after m call).marks) ∙ ap (λ failing. quiet_of log failing (length (after m call).marks)) same ∙ ap (λ r. quiet_of log t.failing r) room;
   no_fewer = more;
   no_shorter = λ n long file is. (let before = long m.reads refl in let now : (after m call).reads ≡ file = cc in subst (λ f. n ≤ length f) now (omega arith));
-  time = elapses_turn m log t u call k agrees room;
+  later = later_turn log call k;
+  told = told_turn log call k (length m.marks) (length (after m call).marks);
+  remembers = remembers_turn m log t u call k agrees room;
 }
 
 -- ---- the calls of a disk in memory
@@ -151,3 +162,13 @@ pub agrees_moved : (m n : Memory) (log later : Option Log) (call : DiskCall) (k 
 agrees_moved m n log later call k agrees is noting room =
     subst (λ x. AgreesWith x later) (sym is)
     (subst (λ l. AgreesWith (after m call) l) (sym noting) (agrees_turn m log call k agrees room))
+
+-- a call that changes nothing leaves nothing else
+pub only_same : (m : Memory) (log : Option Log) (t u : Tally) (P : List ℕ → Type 0) → LeavesOnly P (meaning_of m log t) (meaning_of m log u)
+only_same m log t u P = record { since = λ at image early left. inl left }
+
+pub only_moved : (m n : Memory) (log later : Option Log) (t u : Tally) (call : DiskCall) (k : ℕ) → AgreesWith m log → n ≡ after m call → later ≡ option_map (noted call k) log → length (after m call).marks ≡ length m.marks → LeavesOnly (IsImage (disk_of n)) (meaning_of m log t) (meaning_of n later u)
+only_moved m n log later t u call k agrees is noting room =
+    subst (λ x. LeavesOnly (IsImage (disk_of x)) (meaning_of m log t) (meaning_of x later u)) (sym is)
+    (subst (λ l. LeavesOnly (IsImage (disk_of (after m call))) (meaning_of m log t) (meaning_of (after m call) l u)) (sym noting)
+    (only_turn m log t u call k agrees room))

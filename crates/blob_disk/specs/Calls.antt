@@ -2,7 +2,7 @@
 --     Rose before now      a count rose, or it stands at the last value of its type
 --     Kept old new      what each call keeps;  Looked old new      a call that changes nothing
 --     Did call old new      a write or a sync by the model, done or failed
---     Leaves P old new      a crash at any moment since old left what has P, where one before old did
+--     LeavesOnly P old new      a crash at a moment after old left what has P
 use Rattle.std.specs.Prelude.{◌≡◌, ◌⊎◌, ℕ, ◌+◌, ◌≤◌, min, if◌then◌else◌, is_some, IsTrue, List, IsErr, Result}
 use Rattle.disk_model.specs.Images.{Disk, DiskCall, Writes, Syncs, holding, after_write, after_call, IsImage}
 use Rattle.blob_disk.specs.Meaning.{Meaning, IsLong, LeftSince}
@@ -18,20 +18,21 @@ Rose before now = min (before + 1) last_count ≤ now
 abbrev pub HasCause : {T E : Type 0} → Meaning → Meaning → Result T E → Type 0
 HasCause old new result = IsErr result → Rose old.faults new.faults
 
--- A moment is told, then or later, with what the disk could leave then. What else a crash may have left is left by now.
-pub record Elapses (old new : Meaning) : Type 0 where
-  pub later : old.moment ≤ new.moment
-  pub told : is_some new.past ≡ is_some old.past
-  pub nothing_else : (t : ℕ) (image : List ℕ) → t ≤ old.moment → LeftSince new t image → LeftSince old t image ⊎ IsImage new.state image
-  pub keeps : (t : ℕ) (image : List ℕ) → LeftSince old t image → LeftSince new t image
-
+-- what every call keeps
 pub record Kept (old new : Meaning) : Type 0 where
   pub honest : new.honest ≡ old.honest
   pub quiet : new.quiet ≡ old.quiet
   pub no_fewer : old.faults ≤ new.faults
   -- where reads are told, the file gets no shorter
   pub no_shorter : (n : ℕ) → IsLong old.reads n → IsLong new.reads n
-  pub time : Elapses old new
+  -- moments that were told stay told
+  pub later : old.moment ≤ new.moment
+  pub told : is_some new.past ≡ is_some old.past
+  pub remembers : (t : ℕ) (image : List ℕ) → LeftSince old t image → LeftSince new t image
+
+-- Since old, a crash left nothing but what has P.
+pub record LeavesOnly (P : List ℕ → Type 0) (old new : Meaning) : Type 0 where
+  pub since : (t : ℕ) (image : List ℕ) → t ≤ old.moment → LeftSince new t image → LeftSince old t image ⊎ P image
 
 abbrev pub Looked : Meaning → Meaning → Type 0
 Looked old new = IsTrue old.honest → new.state ≡ old.state
@@ -53,8 +54,3 @@ pub record DidBy (call : DiskCall) (old new : Disk) : Type 0 where
 
 abbrev pub Did : DiskCall → Meaning → Meaning → Type 0
 Did call old new = IsTrue old.honest → DidBy call old.state new.state
-
-pub record Leaves (P : List ℕ → Type 0) (old new : Meaning) : Type 0 where
-  pub kept : Kept old new
-  pub now : (image : List ℕ) → IsImage new.state image → P image
-  pub since : (t : ℕ) (image : List ℕ) → t ≤ old.moment → LeftSince new t image → LeftSince old t image ⊎ P image

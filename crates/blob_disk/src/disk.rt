@@ -1,9 +1,9 @@
 //! The calls of a disk, with what they mean.
 ghost use Rattle.std.specs.Prelude.{◌≡◌, ◌≤◌, ◌+◌, length, take, drop, is_ok, IfOk, OnOk, IsOk, IsSome};
 ghost use Rattle.std.specs.Option.{ForSome};
-ghost use Rattle.disk_model.specs.Images.{Writes, Syncs};
+ghost use Rattle.disk_model.specs.Images.{IsImage, Writes, Syncs};
 ghost use Rattle.blob_disk.specs.Meaning.{Meaning, IsLong, IsSound};
-ghost use Rattle.blob_disk.specs.Calls.{HasCause, Kept, Looked, Did};
+ghost use Rattle.blob_disk.specs.Calls.{HasCause, Kept, LeavesOnly, Looked, Did};
 
 use crate::fault::Failed;
 
@@ -19,6 +19,7 @@ pub trait Disk {
         ensures size { IfOk result (λ n. ForSome (meaning self.old).reads (λ file. n ≡ length file)) }
         ensures looked { Looked (meaning self.old) (meaning self.new) }
         ensures kept { Kept (meaning self.old) (meaning self.new) }
+        ensures time { LeavesOnly (IsImage (meaning self.new).state) (meaning self.old) (meaning self.new) }
         ensures cause { HasCause (meaning self.old) (meaning self.new) result }
         ensures quiet { IsSome (meaning self.old).quiet → IsOk result };
 
@@ -28,6 +29,7 @@ pub trait Disk {
         ensures bytes { OnOk result (ForSome (meaning self.old).reads (λ file. buf.new ≡ take (length buf.old) (drop at file))) }
         ensures looked { Looked (meaning self.old) (meaning self.new) }
         ensures kept { Kept (meaning self.old) (meaning self.new) }
+        ensures time { LeavesOnly (IsImage (meaning self.new).state) (meaning self.old) (meaning self.new) }
         ensures cause { HasCause (meaning self.old) (meaning self.new) result }
         ensures quiet { IsSome (meaning self.old).quiet → IsOk result };
 
@@ -37,6 +39,7 @@ pub trait Disk {
         requires { IsLong (meaning self.old).reads at }
         ensures did { Did (Writes at bytes.now (is_ok result)) (meaning self.old) (meaning self.new) }
         ensures kept { Kept (meaning self.old) (meaning self.new) }
+        ensures time { LeavesOnly (IsImage (meaning self.new).state) (meaning self.old) (meaning self.new) }
         ensures cause { HasCause (meaning self.old) (meaning self.new) result }
         ensures quiet { ForSome (meaning self.old).quiet (λ most. at + length bytes.now ≤ most → IsOk result) };
 
@@ -44,6 +47,7 @@ pub trait Disk {
     fn sync(&mut self) -> Result<(), Failed>
         ensures did { Did (Syncs (is_ok result)) (meaning self.old) (meaning self.new) }
         ensures kept { Kept (meaning self.old) (meaning self.new) }
+        ensures time { LeavesOnly (IsImage (meaning self.new).state) (meaning self.old) (meaning self.new) }
         ensures cause { HasCause (meaning self.old) (meaning self.new) result }
         ensures quiet { IsSome (meaning self.old).quiet → IsOk result };
 

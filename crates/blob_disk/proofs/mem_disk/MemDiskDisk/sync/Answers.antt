@@ -5,7 +5,7 @@ use Rattle.blob_disk.specs.Memory.{disk_of, IsGood}
 use Rattle.blob_disk.specs.Calls.{DidBy}
 use Rattle.blob_disk.specs.declared.call_kind.CallKind.TheVariants.{Sync}
 use Rattle.blob_disk.proofs.Memories.{synced_did, good_holding_all}
-use Rattle.blob_disk.proofs.Moments.{kept_same, kept_moved, agrees_moved, same_counted, more_counted, same_failed, more_failed}
+use Rattle.blob_disk.proofs.Moments.{kept_same, kept_moved, only_moved, agrees_moved, same_counted, more_counted, same_failed, more_failed}
 use Rattle.blob_disk.proofs.mem_disk.MemDiskDisk.sync.Goals as goal
 
 pub returns-then-not-has_room-clause-kept : goal.returns-then-not-has_room-clause-kept
@@ -50,3 +50,13 @@ returns-clause-kept c =
     (length-replicate (length d.content.marks) false) (omega arith)
     (same_counted Sync d.calls c.count-due.new.self c.count-due.ensures.counted)
     (more_counted Sync d.calls c.count-due.new.self c.count-due.ensures.counted)
+
+pub returns-then-due-clause-time : goal.returns-then-due-clause-time
+returns-then-due-clause-time c =
+    let d = c.args.self.now in
+    only_moved d.content d.content d.log c.note.new.log d.calls c.fail-then-due.new.self (Syncs false) 0 d.agrees refl c.note.ensures refl
+
+pub returns-clause-time : goal.returns-clause-time
+returns-clause-time c =
+    let d = c.args.self.now in
+    only_moved d.content c.sync.new.self d.log c.note-2.new.log d.calls c.count-due.new.self (Syncs true) 0 d.agrees c.sync.ensures c.note-2.ensures (length-replicate (length d.content.marks) false)

@@ -5,7 +5,7 @@ use Rattle.blob_disk.specs.Memory.{disk_of, IsGood}
 use Rattle.blob_disk.specs.Calls.{DidBy}
 use Rattle.blob_disk.specs.declared.call_kind.CallKind.TheVariants.{Write}
 use Rattle.blob_disk.proofs.Memories.{refused_did, tore_did, wrote_did, tore_is, tore_len, good_tore, good_wrote}
-use Rattle.blob_disk.proofs.Moments.{kept_same, kept_moved, agrees_moved, same_counted, more_counted, same_failed, more_failed}
+use Rattle.blob_disk.proofs.Moments.{kept_same, kept_moved, only_moved, agrees_moved, same_counted, more_counted, same_failed, more_failed}
 use Rattle.blob_disk.proofs.mem_disk.MemDiskDisk.write_at.Goals as goal
 
 pub returns-then-not-has_room-clause-did : goal.returns-then-not-has_room-clause-did
@@ -74,3 +74,19 @@ returns-clause-kept c =
     (write_at_len c.args.at c.args.bytes.now d.content.reads)
     (same_counted Write d.calls c.count-due.new.self c.count-due.ensures.counted)
     (more_counted Write d.calls c.count-due.new.self c.count-due.ensures.counted)
+
+pub returns-then-due-clause-time : goal.returns-then-due-clause-time
+returns-then-due-clause-time c =
+    let d = c.args.self.now in
+    let len = length c.args.bytes.now in
+    let place : c.args.at ≤ length d.content.reads = c.requires d.content.reads refl in
+    only_moved d.content c.tear.new.self d.log c.note.new.log d.calls c.fail-then-due.new.self _ 0 d.agrees
+    (c.tear.ensures ∙ tore_is c.args.at len d.content) c.note.ensures
+    (ap (λ m. length m.marks) (sym (tore_is c.args.at len d.content)) ∙ tore_len c.args.at len d.content d.good place)
+
+pub returns-clause-time : goal.returns-clause-time
+returns-clause-time c =
+    let d = c.args.self.now in
+    let place : c.args.at ≤ length d.content.reads = c.requires d.content.reads refl in
+    only_moved d.content c.write.new.self d.log c.note-2.new.log d.calls c.count-due.new.self _ _ d.agrees c.write.ensures c.note-2.ensures
+    (tore_len c.args.at (length c.args.bytes.now) d.content d.good place)
