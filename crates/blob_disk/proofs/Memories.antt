@@ -175,11 +175,11 @@ wrote_did at bytes m good place =
     let len = written_len at bytes m good in
     record {
       most = within (disk_of (wrote at bytes m)) (after_write at bytes (disk_of m)) len refl
-      (λ i inside out. marks i inside ∙ out)
-      (λ i inside out. (let here = in_marks m i good inside in still_reads at bytes m i here.0 here.1 (not_marked (disk_of m) at (length bytes) i out).1));
+          (λ i inside out. marks i inside ∙ out)
+          (λ i inside out. (let here = in_marks m i good inside in still_reads at bytes m i here.0 here.1 (not_marked (disk_of m) at (length bytes) i out).1));
       least = within (after_write at bytes (disk_of m)) (disk_of (wrote at bytes m)) (sym len) refl
-      (λ i inside out. sym (marks i (subst (λ n. i < n) (sym len) inside)) ∙ out)
-      (λ i inside out. (let before = subst (λ n. i < n) (sym len) inside in let here = in_marks m i good before in sym (still_reads at bytes m i here.0 here.1 (not_marked (disk_of m) at (length bytes) i (sym (marks i before) ∙ out)).1)));
+          (λ i inside out. sym (marks i (subst (λ n. i < n) (sym len) inside)) ∙ out)
+          (λ i inside out. (let before = subst (λ n. i < n) (sym len) inside in let here = in_marks m i good before in sym (still_reads at bytes m i here.0 here.1 (not_marked (disk_of m) at (length bytes) i (sym (marks i before) ∙ out)).1)));
     }
 
 pub disk_of-synced : (m : Memory) → disk_of (synced m) ≡ holding m.reads
@@ -266,7 +266,7 @@ crashed_is_image fill m left small good h =
       no_shorter = omega arith;
       no_longer = omega arith;
       kept = λ i inside out.
-        (let here : i < m.stable = omega arith in
-        let unmarked : (nat_le m.stable i || get_or m.marks i false) ≡ false = ap (λ b. b || get_or m.marks i false) (leb-not m.stable i here) ∙ (sym (is_written-disk_of m i) ∙ out) in
-        h.each i (omega arith) ∙ ap (λ b. cond b fill (slice_index m.reads i)) unmarked ∙ sym (get_or-take m.stable m.reads i 0 here));
+          (let here : i < m.stable = omega arith in
+          let unmarked : (nat_le m.stable i || get_or m.marks i false) ≡ false = ap (λ b. b || get_or m.marks i false) (leb-not m.stable i here) ∙ (sym (is_written-disk_of m i) ∙ out) in
+          h.each i (omega arith) ∙ ap (λ b. cond b fill (slice_index m.reads i)) unmarked ∙ sym (get_or-take m.stable m.reads i 0 here));
     }

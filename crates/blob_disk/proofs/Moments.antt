@@ -59,12 +59,12 @@ remembers_push old new ds before now t image left =
 only_push : (old new : Meaning) (ds : List Disk) → old.past ≡ Some ds → new.past ≡ Some (ds ++ new.state ∷ []) → length ds ≡ old.moment + 1 → LeavesOnly (IsImage new.state) old new
 only_push old new ds before now len = record {
   since = λ t image early left.
-    (let same : left.0 ≡ ds ++ new.state ∷ [] = (let is = left.1 in cc) in
-    let among : Contains (drop t ds ++ new.state ∷ []) left.2.0 = subst (λ es. Contains es left.2.0) (ap (λ es. drop t es) same ∙ drop-append-le t ds (new.state ∷ []) (omega arith)) left.2.1 in
-    elim (Contains-append_cases (drop t ds) (new.state ∷ []) left.2.0 among) [
-      | inl earlier ↦ inl (ds, before, (left.2.0, earlier, left.2.2))
-      | inr last ↦ inr (subst (λ d. IsImage d image) (only_one new.state left.2.0 last) left.2.2)
-    ]);
+      (let same : left.0 ≡ ds ++ new.state ∷ [] = (let is = left.1 in cc) in
+      let among : Contains (drop t ds ++ new.state ∷ []) left.2.0 = subst (λ es. Contains es left.2.0) (ap (λ es. drop t es) same ∙ drop-append-le t ds (new.state ∷ []) (omega arith)) left.2.1 in
+      elim (Contains-append_cases (drop t ds) (new.state ∷ []) left.2.0 among) [
+        | inl earlier ↦ inl (ds, before, (left.2.0, earlier, left.2.2))
+        | inr last ↦ inr (subst (λ d. IsImage d image) (only_one new.state left.2.0 last) left.2.2)
+      ]);
 }
 
 states_push : (m : Memory) (log : Log) (call : DiskCall) (k : ℕ) → AgreesWith m (Some log) → length (after m call).marks ≡ length m.marks → states_of (length (after m call).marks) (noted call k log) ≡ states_of (length m.marks) log ++ disk_of (after m call) ∷ []
@@ -108,11 +108,11 @@ quiet_turn (Some log) call k failing room = refl
 pub agrees_turn : (m : Memory) (log : Option Log) (call : DiskCall) (k : ℕ) → AgreesWith m log → length (after m call).marks ≡ length m.marks → AgreesWith (after m call) (option_map (noted call k) log)
 agrees_turn m None call k agrees room = λ l is. absurd (cc)
 agrees_turn m (Some log) call k agrees room = λ l is.
-  (let calls : log.calls ++ call ∷ [] ≡ l.calls = (let same : noted call k log ≡ l = cc in ap (λ x. x.calls) same) in
-  ap (λ cs. finally (blank (length (after m call).marks)) cs) (sym calls)
-  ∙ ap (λ r. finally (blank r) (log.calls ++ call ∷ [])) room
-  ∙ finally-push (blank (length m.marks)) log.calls call
-  ∙ ap (λ n. after n call) (agrees log refl))
+    (let calls : log.calls ++ call ∷ [] ≡ l.calls = (let same : noted call k log ≡ l = cc in ap (λ x. x.calls) same) in
+    ap (λ cs. finally (blank (length (after m call).marks)) cs) (sym calls)
+    ∙ ap (λ r. finally (blank r) (log.calls ++ call ∷ [])) room
+    ∙ finally-push (blank (length m.marks)) log.calls call
+    ∙ ap (λ n. after n call) (agrees log refl))
 
 -- a write or a sync that is recorded, where a record is kept
 pub kept_turn : (m : Memory) (log : Option Log) (t u : Tally) (call : DiskCall) (k : ℕ) → AgreesWith m log → length (after m call).marks ≡ length m.marks → length m.reads ≤ length (after m call).reads → u.failing ≡ t.failing → t.faults ≤ u.faults → Kept (meaning_of m log t) (meaning_of (after m call) (option_map (noted call k) log) u)

@@ -15,3 +15,6 @@ pub use call_kind::CallKind;
 pub use disk::Disk;
 pub use fault::Failed;
 pub use mem_disk::MemDisk;
+
+#[cfg(test)]
+mod tests;

@@ -31,11 +31,7 @@ impl MemDisk {
 
     /// An empty disk with room for `room` bytes. A call of the list fails: the nth, from 0, of its
     /// kind. So does a write past the room.
-    pub fn new(
-        alloc: Global,
-        room: u64,
-        failing: Vec<(CallKind, u64)>,
-    ) -> Result<Self, AllocError>
+    pub fn new(alloc: Global, room: u64, failing: Vec<(CallKind, u64)>) -> Result<Self, AllocError>
         ensures empty { IfOk result (λ disk. memory_of disk ≡ blank room) }
         ensures unrecorded { IfOk result (λ disk. log_of disk ≡ None) }
         ensures uncalled { IfOk result (λ disk. tally_of disk ≡ fresh failing.items) }
@@ -106,6 +102,13 @@ impl MemDisk {
             log: None,
             calls,
         }
+    }
+
+    /// What reads give.
+    pub fn bytes(&self) -> &[u8]
+        ensures { result.now ≡ (memory_of self.now).reads }
+    {
+        self.content.bytes()
     }
 
     /// How many calls of the kind there were, the failed ones too.

@@ -40,8 +40,8 @@ invariant_of-self-2 c =
 
 pub returns-clause-did : goal.returns-clause-did
 returns-clause-did c = λ honest.
-  (let d = c.args.self.now in
-  subst (λ m. DidBy (Syncs true) (disk_of d.content) (disk_of m)) (sym c.sync.ensures) (synced_did d.content))
+    (let d = c.args.self.now in
+    subst (λ m. DidBy (Syncs true) (disk_of d.content) (disk_of m)) (sym c.sync.ensures) (synced_did d.content))
 
 pub returns-clause-kept : goal.returns-clause-kept
 returns-clause-kept c =

@@ -31,9 +31,9 @@ invariant_of-self-then-due c =
 
 pub returns-then-due-clause-did : goal.returns-then-due-clause-did
 returns-then-due-clause-did c = λ honest.
-  (let d = c.args.self.now in
-  subst (λ m. DidBy (Writes c.args.at c.args.bytes.now false) (disk_of d.content) (disk_of m)) (sym c.tear.ensures)
-  (tore_did c.args.at c.args.bytes.now d.content d.good (c.requires d.content.reads refl)))
+    (let d = c.args.self.now in
+    subst (λ m. DidBy (Writes c.args.at c.args.bytes.now false) (disk_of d.content) (disk_of m)) (sym c.tear.ensures)
+    (tore_did c.args.at c.args.bytes.now d.content d.good (c.requires d.content.reads refl)))
 
 pub returns-then-due-clause-kept : goal.returns-then-due-clause-kept
 returns-then-due-clause-kept c =
@@ -61,9 +61,9 @@ invariant_of-self-2 c =
 
 pub returns-clause-did : goal.returns-clause-did
 returns-clause-did c = λ honest.
-  (let d = c.args.self.now in
-  subst (λ m. DidBy (Writes c.args.at c.args.bytes.now true) (disk_of d.content) (disk_of m)) (sym c.write.ensures)
-  (wrote_did c.args.at c.args.bytes.now d.content d.good (c.requires d.content.reads refl)))
+    (let d = c.args.self.now in
+    subst (λ m. DidBy (Writes c.args.at c.args.bytes.now true) (disk_of d.content) (disk_of m)) (sym c.write.ensures)
+    (wrote_did c.args.at c.args.bytes.now d.content d.good (c.requires d.content.reads refl)))
 
 pub returns-clause-kept : goal.returns-clause-kept
 returns-clause-kept c =
