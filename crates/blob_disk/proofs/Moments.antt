@@ -30,11 +30,10 @@ length-memories m [] = refl
 length-memories m (c ∷ calls) = ap (λ n. suc n) (length-memories (after m c) calls)
 
 -- a call that changes nothing but the counts
-pub kept_same : (m : Memory) (log : Option Log) (t u : Tally) → u.failing ≡ t.failing → t.faults ≤ u.faults → Kept (meaning_of m log t) (meaning_of m log u)
-kept_same m log t u same more = record {
+pub kept_same : (m : Memory) (log : Option Log) (t u : Tally) → u.failing ≡ t.failing → Kept (meaning_of m log t) (meaning_of m log u)
+kept_same m log t u same = record {
   honest = refl;
   quiet = ap (λ failing. quiet_of log failing (length m.marks)) same;
-  no_fewer = more;
   no_shorter = λ n long. long;
   later = omega arith;
   told = refl;
@@ -115,11 +114,10 @@ agrees_turn m (Some log) call k agrees room = λ l is.
     ∙ ap (λ n. after n call) (agrees log refl))
 
 -- a write or a sync that is recorded, where a record is kept
-pub kept_turn : (m : Memory) (log : Option Log) (t u : Tally) (call : DiskCall) (k : ℕ) → AgreesWith m log → length (after m call).marks ≡ length m.marks → length m.reads ≤ length (after m call).reads → u.failing ≡ t.failing → t.faults ≤ u.faults → Kept (meaning_of m log t) (meaning_of (after m call) (option_map (noted call k) log) u)
-kept_turn m log t u call k agrees room longer same more = record {
+pub kept_turn : (m : Memory) (log : Option Log) (t u : Tally) (call : DiskCall) (k : ℕ) → AgreesWith m log → length (after m call).marks ≡ length m.marks → length m.reads ≤ length (after m call).reads → u.failing ≡ t.failing → Kept (meaning_of m log t) (meaning_of (after m call) (option_map (noted call k) log) u)
+kept_turn m log t u call k agrees room longer same = record {
   honest = refl;
   quiet = quiet_turn log call k u.failing (length (after m call).marks) ∙ ap (λ failing. quiet_of log failing (length (after m call).marks)) same ∙ ap (λ r. quiet_of log t.failing r) room;
-  no_fewer = more;
   no_shorter = λ n long file is. (let before = long m.reads refl in let now : (after m call).reads ≡ file = cc in subst (λ f. n ≤ length f) now (omega arith));
   later = later_turn log call k;
   told = told_turn log call k (length m.marks) (length (after m call).marks);
@@ -134,29 +132,17 @@ failing-counted Read t = refl
 failing-counted Write t = refl
 failing-counted Sync t = refl
 
-faults-counted : (kind : CallKind) (t : Tally) → (counted kind t).faults ≡ t.faults
-faults-counted Size t = refl
-faults-counted Read t = refl
-faults-counted Write t = refl
-faults-counted Sync t = refl
-
 pub same_counted : (kind : CallKind) (t s : Tally) → s ≡ counted kind t → s.failing ≡ t.failing
 same_counted kind t s is = ap (λ x. x.failing) is ∙ failing-counted kind t
-
-pub more_counted : (kind : CallKind) (t s : Tally) → s ≡ counted kind t → t.faults ≤ s.faults
-more_counted kind t s is = let now = ap (λ x. x.faults) is in let before = faults-counted kind t in omega arith
 
 pub same_failed : (kind : CallKind) (t s u : Tally) → s ≡ counted kind t → u ≡ failed s → u.failing ≡ t.failing
 same_failed kind t s u is fails = ap (λ x. x.failing) fails ∙ same_counted kind t s is
 
-pub more_failed : (kind : CallKind) (t s u : Tally) → s ≡ counted kind t → s.faults ≤ u.faults → t.faults ≤ u.faults
-more_failed kind t s u is more = let now = more_counted kind t s is in omega arith
-
-pub kept_moved : (m n : Memory) (log later : Option Log) (t u : Tally) (call : DiskCall) (k : ℕ) → AgreesWith m log → n ≡ after m call → later ≡ option_map (noted call k) log → length (after m call).marks ≡ length m.marks → length m.reads ≤ length (after m call).reads → u.failing ≡ t.failing → t.faults ≤ u.faults → Kept (meaning_of m log t) (meaning_of n later u)
-kept_moved m n log later t u call k agrees is noting room longer same more =
+pub kept_moved : (m n : Memory) (log later : Option Log) (t u : Tally) (call : DiskCall) (k : ℕ) → AgreesWith m log → n ≡ after m call → later ≡ option_map (noted call k) log → length (after m call).marks ≡ length m.marks → length m.reads ≤ length (after m call).reads → u.failing ≡ t.failing → Kept (meaning_of m log t) (meaning_of n later u)
+kept_moved m n log later t u call k agrees is noting room longer same =
     subst (λ x. Kept (meaning_of m log t) (meaning_of x later u)) (sym is)
     (subst (λ l. Kept (meaning_of m log t) (meaning_of (after m call) l u)) (sym noting)
-    (kept_turn m log t u call k agrees room longer same more))
+    (kept_turn m log t u call k agrees room longer same))
 
 pub agrees_moved : (m n : Memory) (log later : Option Log) (call : DiskCall) (k : ℕ) → AgreesWith m log → n ≡ after m call → later ≡ option_map (noted call k) log → length (after m call).marks ≡ length m.marks → AgreesWith n later
 agrees_moved m n log later call k agrees is noting room =

@@ -1,28 +1,15 @@
 -- What the calls of a disk do to its meaning.
---     Rose before now      a count rose, or it stands at the last value of its type
 --     Kept old new      what each call keeps;  Looked old new      a call that changes nothing
 --     Did call old new      a write or a sync by the model, done or failed
 --     LeavesOnly P old new      a crash at a moment after old left what has P
-use Rattle.std.specs.Prelude.{◌≡◌, ◌⊎◌, ℕ, ◌+◌, ◌≤◌, min, if◌then◌else◌, is_some, IsTrue, List, IsErr, Result}
+use Rattle.std.specs.Prelude.{◌≡◌, ◌⊎◌, ℕ, ◌≤◌, if◌then◌else◌, is_some, IsTrue, List}
 use Rattle.disk_model.specs.Images.{Disk, DiskCall, Writes, Syncs, holding, after_write, after_call, IsImage}
 use Rattle.blob_disk.specs.Meaning.{Meaning, IsLong, LeftSince}
-
--- the last value of a count
-abbrev pub last_count : ℕ
-last_count = 18_446_744_073_709_551_615
-
-abbrev pub Rose : ℕ → ℕ → Type 0
-Rose before now = min (before + 1) last_count ≤ now
-
--- a call answers `Failed` only where the count rose in it
-abbrev pub HasCause : {T E : Type 0} → Meaning → Meaning → Result T E → Type 0
-HasCause old new result = IsErr result → Rose old.faults new.faults
 
 -- what every call keeps
 pub record Kept (old new : Meaning) : Type 0 where
   pub honest : new.honest ≡ old.honest
   pub quiet : new.quiet ≡ old.quiet
-  pub no_fewer : old.faults ≤ new.faults
   -- where reads are told, the file gets no shorter
   pub no_shorter : (n : ℕ) → IsLong old.reads n → IsLong new.reads n
   -- moments that were told stay told

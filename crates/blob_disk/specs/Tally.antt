@@ -2,9 +2,9 @@
 --     Tally      the calls that are to fail, how many of each kind there were, and how many failed
 --     made kind t      how many of this kind there were;  is_due kind t      the next of this kind is to fail
 --     counted kind t, failed t      one more call, one more fault
-use Rattle.std.specs.Prelude.{ℕ, ◌+◌, min, Bool, true, false, ◌&&◌, ◌==◌, List, []}
+use Rattle.std.specs.Prelude.{ℕ, Bool, true, false, ◌&&◌, ◌==◌, List, []}
 use Rattle.std.specs.List.{list_any}
-use Rattle.blob_disk.specs.Calls.{last_count}
+use Rattle.ports.specs.Memory.{raised}
 use Rattle.blob_disk.specs.declared.call_kind.CallKind.{CallKind}
 use Rattle.blob_disk.specs.declared.call_kind.CallKind.TheVariants.{Size, Read, Write, Sync}
 
@@ -29,17 +29,14 @@ made Read t = t.reads
 made Write t = t.writes
 made Sync t = t.syncs
 
-abbrev pub one_more : ℕ → ℕ
-one_more n = min (n + 1) last_count
-
 abbrev pub counted : CallKind → Tally → Tally
-counted Size t = record t { sizes = one_more t.sizes }
-counted Read t = record t { reads = one_more t.reads }
-counted Write t = record t { writes = one_more t.writes }
-counted Sync t = record t { syncs = one_more t.syncs }
+counted Size t = record t { sizes = raised t.sizes }
+counted Read t = record t { reads = raised t.reads }
+counted Write t = record t { writes = raised t.writes }
+counted Sync t = record t { syncs = raised t.syncs }
 
 abbrev pub failed : Tally → Tally
-failed t = record t { faults = one_more t.faults }
+failed t = record t { faults = raised t.faults }
 
 abbrev pub is_due : CallKind → Tally → Bool
 is_due kind t = list_any (λ f. is_kind f.0 kind && (f.1 == made kind t)) t.failing

@@ -3,7 +3,7 @@ ghost use Rattle.std.specs.Prelude.{◌≡◌, ◌≤◌, []};
 ghost use Rattle.blob_disk.specs.Tally.{counted, failed, fresh, is_due, is_kind, made};
 
 use crate::call_kind::CallKind;
-use crate::fault::Failed;
+use ports::Failed;
 use std::marker::Model;
 
 /// How many calls of each kind there were, and the list of those that are to fail: the nth call,

@@ -1,11 +1,13 @@
 //! The calls of a disk, with what they mean.
-ghost use Rattle.std.specs.Prelude.{◌≡◌, ◌≤◌, ◌+◌, length, take, drop, is_ok, IfOk, OnOk, IsOk, IsSome};
+ghost use Rattle.std.specs.Prelude.{◌≡◌, ◌≤◌, ◌+◌, length, take, drop, is_ok, is_err, IfOk, OnOk, IsOk, IsSome};
 ghost use Rattle.std.specs.Option.{ForSome};
+ghost use Rattle.ports.specs.Faults.{Counts};
 ghost use Rattle.disk_model.specs.Images.{IsImage, Writes, Syncs};
 ghost use Rattle.blob_disk.specs.Meaning.{Meaning, IsLong, IsSound};
-ghost use Rattle.blob_disk.specs.Calls.{HasCause, Kept, LeavesOnly, Looked, Did};
+ghost use Rattle.blob_disk.specs.Calls.{Kept, LeavesOnly, Looked, Did};
 
-use crate::fault::Failed;
+
+use ports::Failed;
 
 /// One file of bytes on a device that may fail, and that a crash may stop at any moment.
 /// No call takes memory.
@@ -20,7 +22,7 @@ pub trait Disk {
         ensures looked { Looked (meaning self.old) (meaning self.new) }
         ensures kept { Kept (meaning self.old) (meaning self.new) }
         ensures time { LeavesOnly (IsImage (meaning self.new).state) (meaning self.old) (meaning self.new) }
-        ensures cause { HasCause (meaning self.old) (meaning self.new) result }
+        ensures faults { Counts (meaning self.old).faults (meaning self.new).faults (is_err result) }
         ensures quiet { IsSome (meaning self.old).quiet → IsOk result };
 
     /// Fills `buf` with the bytes from `at` on.
@@ -30,7 +32,7 @@ pub trait Disk {
         ensures looked { Looked (meaning self.old) (meaning self.new) }
         ensures kept { Kept (meaning self.old) (meaning self.new) }
         ensures time { LeavesOnly (IsImage (meaning self.new).state) (meaning self.old) (meaning self.new) }
-        ensures cause { HasCause (meaning self.old) (meaning self.new) result }
+        ensures faults { Counts (meaning self.old).faults (meaning self.new).faults (is_err result) }
         ensures quiet { IsSome (meaning self.old).quiet → IsOk result };
 
     /// Writes over what is there, and past the end. Until a sync, a crash may leave any bytes in
@@ -40,7 +42,7 @@ pub trait Disk {
         ensures did { Did (Writes at bytes.now (is_ok result)) (meaning self.old) (meaning self.new) }
         ensures kept { Kept (meaning self.old) (meaning self.new) }
         ensures time { LeavesOnly (IsImage (meaning self.new).state) (meaning self.old) (meaning self.new) }
-        ensures cause { HasCause (meaning self.old) (meaning self.new) result }
+        ensures faults { Counts (meaning self.old).faults (meaning self.new).faults (is_err result) }
         ensures quiet { ForSome (meaning self.old).quiet (λ most. at + length bytes.now ≤ most → IsOk result) };
 
     /// After it, a crash leaves what reads give. One that fails makes nothing stable.
@@ -48,7 +50,7 @@ pub trait Disk {
         ensures did { Did (Syncs (is_ok result)) (meaning self.old) (meaning self.new) }
         ensures kept { Kept (meaning self.old) (meaning self.new) }
         ensures time { LeavesOnly (IsImage (meaning self.new).state) (meaning self.old) (meaning self.new) }
-        ensures cause { HasCause (meaning self.old) (meaning self.new) result }
+        ensures faults { Counts (meaning self.old).faults (meaning self.new).faults (is_err result) }
         ensures quiet { IsSome (meaning self.old).quiet → IsOk result };
 
     /// How many calls failed so far. It stands at the last value of its type.

@@ -6,15 +6,14 @@ mod call_kind;
 mod calls;
 mod content;
 pub mod disk;
-pub mod fault;
 mod mem_disk;
 mod record;
 mod recorder;
 
 pub use call_kind::CallKind;
 pub use disk::Disk;
-pub use fault::Failed;
 pub use mem_disk::MemDisk;
+pub use ports::Failed;
 
 #[cfg(test)]
 mod tests;

@@ -11,9 +11,9 @@ use crate::call_kind::CallKind;
 use crate::calls::Calls;
 use crate::content::Content;
 use crate::disk::Disk;
-use crate::fault::Failed;
 use crate::record::{Record, Turn};
 use crate::recorder;
+use ports::Failed;
 use std::alloc::{AllocError, Global};
 
 /// A disk in memory. It has all its room from the start.

@@ -5,7 +5,7 @@ use Rattle.blob_disk.specs.Memory.{disk_of, IsGood}
 use Rattle.blob_disk.specs.Calls.{DidBy}
 use Rattle.blob_disk.specs.declared.call_kind.CallKind.TheVariants.{Write}
 use Rattle.blob_disk.proofs.Memories.{refused_did, tore_did, wrote_did, tore_is, tore_len, good_tore, good_wrote}
-use Rattle.blob_disk.proofs.Moments.{kept_same, kept_moved, only_moved, agrees_moved, same_counted, more_counted, same_failed, more_failed}
+use Rattle.blob_disk.proofs.Moments.{kept_same, kept_moved, only_moved, agrees_moved, same_counted, same_failed}
 use Rattle.blob_disk.proofs.mem_disk.MemDiskDisk.write_at.Goals as goal
 
 pub returns-then-not-has_room-clause-did : goal.returns-then-not-has_room-clause-did
@@ -16,7 +16,6 @@ returns-then-not-has_room-clause-kept c =
     let was = c.args.self.now.calls in
     kept_same c.args.self.now.content c.args.self.now.log was c.fail.new.self
     (same_failed Write was c.count-due.new.self c.fail.new.self c.count-due.ensures.counted c.fail.ensures.failed)
-    (more_failed Write was c.count-due.new.self c.fail.new.self c.count-due.ensures.counted c.fail.ensures.no_fewer)
 
 pub invariant_of-self-then-due : goal.invariant_of-self-then-due
 invariant_of-self-then-due c =
@@ -46,7 +45,6 @@ returns-then-due-clause-kept c =
     (ap (λ m. length m.marks) (sym (tore_is c.args.at len d.content)) ∙ room)
     (omega arith)
     (same_failed Write d.calls c.count-due.new.self c.fail-then-due.new.self c.count-due.ensures.counted c.fail-then-due.ensures.failed)
-    (more_failed Write d.calls c.count-due.new.self c.fail-then-due.new.self c.count-due.ensures.counted c.fail-then-due.ensures.no_fewer)
 
 pub invariant_of-self-2 : goal.invariant_of-self-2
 invariant_of-self-2 c =
@@ -73,7 +71,6 @@ returns-clause-kept c =
     (tore_len c.args.at (length c.args.bytes.now) d.content d.good place)
     (write_at_len c.args.at c.args.bytes.now d.content.reads)
     (same_counted Write d.calls c.count-due.new.self c.count-due.ensures.counted)
-    (more_counted Write d.calls c.count-due.new.self c.count-due.ensures.counted)
 
 pub returns-then-due-clause-time : goal.returns-then-due-clause-time
 returns-then-due-clause-time c =
