@@ -3,3 +3,5 @@ pub mod Logs
 pub mod Walk
 pub mod Memories
 pub mod Moments
+pub mod Clients
+pub mod Torn

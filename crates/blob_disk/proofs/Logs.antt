@@ -1,7 +1,6 @@
 -- The record of a disk: one more turn is one more call.
-use Rattle.std.proofs.Common.{◌≡◌, ℕ, ◌+◌, ◌-◌, ◌≤◌, suc, List, [], ◌∷◌, ◌++◌, length, take, drop, refl, sym, ap, ◌∙◌, arith}
+use Rattle.std.proofs.Common.{◌≡◌, ℕ, ◌+◌, ◌-◌, ◌≤◌, suc, List, [], ◌∷◌, ◌++◌, length, take, drop, refl, ap, ◌∙◌, arith}
 use Rattle.std.proofs.lemmas.List.{length-append, length-drop, take-append-le, drop-append-le, take_all}
-use Rattle.disk_model.specs.Images.{DiskCall}
 use Rattle.blob_disk.specs.declared.record.Turn.{Turn}
 use Rattle.blob_disk.specs.Log.{Log, bytes_of, call_of, calls_of, bytes_in, noted}
 

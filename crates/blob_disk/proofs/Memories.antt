@@ -1,6 +1,6 @@
 -- A disk in memory and the model of its images: each call does to one what it does to the other.
 use Rattle.std.proofs.Common.{◌≡◌, ℕ, zero, suc, ◌+◌, ◌-◌, ◌<◌, ◌≤◌, min, Bool, true, false, ◌||◌, ◌&&◌, ◌⊎◌, List, [], ◌∷◌, ◌++◌, length, take, drop, replicate, get_or, refl, sym, ap, subst, ◌∙◌, inl, inr, arith, cond}
-use Rattle.std.specs.Prelude.{slice_index, nat_le, nat_lt, if◌then◌else◌}
+use Rattle.std.specs.Prelude.{slice_index, nat_le, nat_lt}
 use Rattle.std.specs.List.{list_any}
 use Rattle.std.proofs.lemmas.List.Folds.{list_any-append}
 use Rattle.std.proofs.lemmas.List.{length-append, length-take, length-drop, length-replicate, get_or-append_right, get_or-take, get_or-drop, get_or-replicate, get_or_past, take_all}
@@ -8,7 +8,7 @@ use Rattle.std.proofs.Math.ListN.{get_or-append}
 use Rattle.std.proofs.lemmas.Bool.{cases_lt, lt-ltb}
 use Rattle.std.proofs.lemmas.Bool.Decides.{nat_tests}
 use Rattle.byte_fields.specs.Bytes.{IsBytes}
-use Rattle.disk_model.specs.Images.{Range, Disk, Writes, Syncs, IsImage, holding, write_at, marked, after_write, after_call, is_written}
+use Rattle.disk_model.specs.Images.{Range, Disk, Writes, Syncs, IsImage, holding, write_at, marked, after_write, is_written}
 use Rattle.disk_model.proofs.Crashes.{covers, not_marked, untouched, write_at_len, bytes_written, still_image_marked}
 use Rattle.blob_disk.specs.Calls.{Within, DidBy}
 use Rattle.blob_disk.specs.MemMeaning.{IsCrashed}
@@ -270,3 +270,11 @@ crashed_is_image fill m left small good h =
           let unmarked : (nat_le m.stable i || get_or m.marks i false) ≡ false = ap (λ b. b || get_or m.marks i false) (leb-not m.stable i here) ∙ (sym (is_written-disk_of m i) ∙ out) in
           h.each i (omega arith) ∙ ap (λ b. cond b fill (slice_index m.reads i)) unmarked ∙ sym (get_or-take m.stable m.reads i 0 here));
     }
+
+-- a write reaches to its end
+pub reaches : (at : ℕ) (bytes file : List ℕ) → at ≤ length file → at + length bytes ≤ length (write_at at bytes file)
+reaches at bytes file place =
+    let whole = length-append (take at file) (bytes ++ drop (at + length bytes) file) in
+    let rest = length-append bytes (drop (at + length bytes) file) in
+    let front = length-take at file in
+    omega arith

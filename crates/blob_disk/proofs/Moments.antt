@@ -1,16 +1,16 @@
 -- The moments of a disk in memory that keeps a record.
-use Rattle.std.proofs.Common.{◌≡◌, ℕ, zero, suc, ◌+◌, ◌-◌, ◌<◌, ◌≤◌, Bool, true, false, ◌⊎◌, List, [], ◌∷◌, ◌++◌, length, map, take, drop, replicate, refl, sym, ap, subst, ◌∙◌, inl, inr, arith, Option, None, Some}
+use Rattle.std.proofs.Common.{◌≡◌, ℕ, suc, ◌+◌, ◌≤◌, List, [], ◌∷◌, ◌++◌, length, map, drop, refl, sym, ap, subst, ◌∙◌, inl, inr, arith, Option, None, Some}
 use Rattle.std.specs.Prelude.{Contains, is_some}
-use Rattle.std.specs.Option.{ForSome, option_map, option_map_or}
-use Rattle.std.proofs.lemmas.List.{length-append, length-drop, length-map, drop-append-le, map-append, drop-map}
+use Rattle.std.specs.Option.{option_map, option_map_or}
+use Rattle.std.proofs.lemmas.List.{length-append, length-drop, length-map, drop-append-le, map-append}
 use Rattle.std.proofs.lemmas.List.Elements.{Contains-append_left, Contains-append_cases}
 use Rattle.byte_fields.proofs.Lists.{each_of}
-use Rattle.disk_model.specs.Images.{Disk, DiskCall, IsImage, IsImageSince}
+use Rattle.disk_model.specs.Images.{Disk, DiskCall, IsImage}
 use Rattle.blob_disk.specs.declared.call_kind.CallKind.{CallKind}
-use Rattle.blob_disk.specs.Meaning.{Meaning, IsLong, LeftSince}
+use Rattle.blob_disk.specs.Meaning.{Meaning, LeftSince}
 use Rattle.blob_disk.specs.Calls.{Kept, LeavesOnly}
 use Rattle.blob_disk.specs.declared.call_kind.CallKind.TheVariants.{Size, Read, Write, Sync}
-use Rattle.blob_disk.specs.Memory.{Memory, IsGood, blank, after, finally, memories, disk_of}
+use Rattle.blob_disk.specs.Memory.{Memory, blank, after, finally, memories, disk_of}
 use Rattle.blob_disk.specs.Log.{Log, noted}
 use Rattle.blob_disk.specs.Tally.{Tally, counted, failed}
 use Rattle.blob_disk.specs.MemMeaning.{meaning_of, states_of, quiet_of, AgreesWith}

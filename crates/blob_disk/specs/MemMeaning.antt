@@ -2,7 +2,7 @@
 --     meaning_of m log t      of these bytes and marks, the record where one is kept, and the calls so far
 --     AgreesWith m log      the record tells the bytes and marks as they are
 --     IsCrashed fill m left      what is left where each byte written since the last sync holds fill, and all others read as they did
-use Rattle.std.specs.Prelude.{◌≡◌, ℕ, ◌<◌, ◌||◌, nat_le, Bool, true, false, if◌then◌else◌, List, [], ◌∷◌, ◌++◌, length, map, slice_index, slice_index_or, Option, None, Some}
+use Rattle.std.specs.Prelude.{◌≡◌, ℕ, ◌<◌, ◌||◌, nat_le, true, false, if◌then◌else◌, List, [], ◌∷◌, length, map, slice_index, slice_index_or, Option, None, Some}
 use Rattle.std.specs.Option.{ForSome, option_map, option_map_or}
 use Rattle.disk_model.specs.Images.{Disk}
 use Rattle.blob_disk.specs.declared.call_kind.CallKind.{CallKind}

@@ -1,8 +1,8 @@
 -- The parts of the meaning of a disk in memory hang together.
-use Rattle.std.specs.Prelude.{◌≡◌, ℕ, List, [], ◌∷◌, length, map, drop, Option, None, Some, refl, slice_index}
+use Rattle.std.specs.Prelude.{◌≡◌, List, [], ◌∷◌, length, map, drop, Option, None, Some, refl}
 use Rattle.std.proofs.Common.{sym, ap, subst, ◌∙◌, arith}
 use Rattle.std.proofs.lemmas.List.{length-take, get_or-take, drop-map}
-use Rattle.disk_model.specs.Images.{Disk, DiskCall, IsImage}
+use Rattle.disk_model.specs.Images.{DiskCall, IsImage}
 use Rattle.blob_disk.specs.Meaning.{IsSound}
 use Rattle.blob_disk.specs.Memory.{Memory, IsGood, blank, after, finally, memories, disk_of}
 use Rattle.blob_disk.specs.Log.{Log}

@@ -2,7 +2,7 @@
 --     Tally      the calls that are to fail, how many of each kind there were, and how many failed
 --     made kind t      how many of this kind there were;  is_due kind t      the next of this kind is to fail
 --     counted kind t, failed t      one more call, one more fault
-use Rattle.std.specs.Prelude.{ℕ, Bool, true, false, ◌&&◌, ◌==◌, List, []}
+use Rattle.std.specs.Prelude.{ℕ, Bool, true, false, ◌&&◌, ◌==◌, List}
 use Rattle.std.specs.List.{list_any}
 use Rattle.ports.specs.Memory.{raised}
 use Rattle.blob_disk.specs.declared.call_kind.CallKind.{CallKind}

@@ -6,7 +6,6 @@ ghost use Rattle.disk_model.specs.Images.{IsImage, Writes, Syncs};
 ghost use Rattle.blob_disk.specs.Meaning.{Meaning, IsLong, IsSound};
 ghost use Rattle.blob_disk.specs.Calls.{Kept, LeavesOnly, Looked, Did};
 
-
 use ports::Failed;
 
 /// One file of bytes on a device that may fail, and that a crash may stop at any moment.
@@ -39,6 +38,7 @@ pub trait Disk {
     /// the range, also where the call failed.
     fn write_at(&mut self, at: u64, bytes: &[u8]) -> Result<(), Failed>
         requires { IsLong (meaning self.old).reads at }
+        ensures long { OnOk result (IsLong (meaning self.new).reads (at + length bytes.now)) }
         ensures did { Did (Writes at bytes.now (is_ok result)) (meaning self.old) (meaning self.new) }
         ensures kept { Kept (meaning self.old) (meaning self.new) }
         ensures time { LeavesOnly (IsImage (meaning self.new).state) (meaning self.old) (meaning self.new) }

@@ -39,19 +39,19 @@ write_at_back at bytes file i in_file after =
 -- ---- bytes
 
 -- each of two lists is of bytes
-bytes_append : (a b : List ℕ) → IsBytes a → IsBytes b → IsBytes (a ++ b)
+pub bytes_append : (a b : List ℕ) → IsBytes a → IsBytes b → IsBytes (a ++ b)
 bytes_append a b p q i = elim (cases_lt i (length a)) [
   | inl within ↦ subst (λ n. n < 256) (sym (get_or-append a b 0 i within)) (p i)
   | inr after ↦ subst (λ n. n < 256) (sym (get_or-append_right a b (length a) i 0 refl after)) (q (i - length a))
 ]
 
-bytes_take : (n : ℕ) (a : List ℕ) → IsBytes a → IsBytes (take n a)
+pub bytes_take : (n : ℕ) (a : List ℕ) → IsBytes a → IsBytes (take n a)
 bytes_take n a p i = elim (cases_lt i n) [
   | inl within ↦ subst (λ n. n < 256) (sym (get_or-take n a i 0 within)) (p i)
   | inr after ↦ let len = length-take n a in subst (λ n. n < 256) (sym (get_or_past (take n a) i 0 (omega arith))) (omega arith)
 ]
 
-bytes_drop : (n : ℕ) (a : List ℕ) → IsBytes a → IsBytes (drop n a)
+pub bytes_drop : (n : ℕ) (a : List ℕ) → IsBytes a → IsBytes (drop n a)
 bytes_drop n a p i = subst (λ n. n < 256) (sym (get_or-drop n a i 0)) (p (n + i))
 
 pub bytes_written : (at : ℕ) (bytes file : List ℕ) → IsBytes bytes → IsBytes file → IsBytes (write_at at bytes file)

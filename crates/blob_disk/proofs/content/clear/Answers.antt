@@ -1,4 +1,4 @@
-use Rattle.std.proofs.Common.{◌≡◌, ◌+◌, ◌-◌, ◌<◌, ◌≤◌, false, length, replicate, take, drop, ap, arith, ◌∙◌, length-take, length-drop, inl, inr}
+use Rattle.std.proofs.Common.{◌≡◌, ◌+◌, ◌-◌, ◌≤◌, false, length, replicate, take, drop, ap, arith, ◌∙◌, length-take, length-drop, inl, inr}
 use Rattle.std.proofs.lemmas.Bool.{cases_lt}
 use Rattle.blob_disk.proofs.Marks.{cleared, none_marked}
 use Rattle.blob_disk.proofs.content.clear.Goals as goal

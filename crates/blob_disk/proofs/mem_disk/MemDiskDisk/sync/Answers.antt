@@ -1,4 +1,4 @@
-use Rattle.std.proofs.Common.{◌≡◌, ◌≤◌, length, ap, arith, refl, sym, subst, ◌∙◌, true, false}
+use Rattle.std.proofs.Common.{length, arith, refl, sym, subst, true, false}
 use Rattle.std.proofs.lemmas.List.{length-replicate}
 use Rattle.disk_model.specs.Images.{Syncs}
 use Rattle.blob_disk.specs.Memory.{disk_of, IsGood}

@@ -4,7 +4,7 @@ use Rattle.disk_model.proofs.Crashes.{write_at_len}
 use Rattle.blob_disk.specs.Memory.{disk_of, IsGood}
 use Rattle.blob_disk.specs.Calls.{DidBy}
 use Rattle.blob_disk.specs.declared.call_kind.CallKind.TheVariants.{Write}
-use Rattle.blob_disk.proofs.Memories.{refused_did, tore_did, wrote_did, tore_is, tore_len, good_tore, good_wrote}
+use Rattle.blob_disk.proofs.Memories.{refused_did, tore_did, wrote_did, tore_is, tore_len, good_tore, good_wrote, reaches}
 use Rattle.blob_disk.proofs.Moments.{kept_same, kept_moved, only_moved, agrees_moved, same_counted, same_failed}
 use Rattle.blob_disk.proofs.mem_disk.MemDiskDisk.write_at.Goals as goal
 
@@ -87,3 +87,10 @@ returns-clause-time c =
     let place : c.args.at ≤ length d.content.reads = c.requires d.content.reads refl in
     only_moved d.content c.write.new.self d.log c.note-2.new.log d.calls c.count-due.new.self _ _ d.agrees c.write.ensures c.note-2.ensures
     (tore_len c.args.at (length c.args.bytes.now) d.content d.good place)
+
+pub returns-clause-long : goal.returns-clause-long
+returns-clause-long c = λ file is.
+    (let d = c.args.self.now in
+    let now : c.write.new.self.reads ≡ file = cc in
+    let reads = ap (λ m. m.reads) c.write.ensures in
+    subst (λ f. c.args.at + length c.args.bytes.now ≤ length f) (sym reads ∙ now) (reaches c.args.at c.args.bytes.now d.content.reads (c.requires d.content.reads refl)))

@@ -1,5 +1,5 @@
-use Rattle.std.proofs.Common.{◌≡◌, ◌+◌, ◌≤◌, [], ◌∷◌, ◌++◌, length, ap, subst, ◌∙◌, arith, length-append}
-use Rattle.blob_disk.specs.Log.{bytes_of, bytes_in, call_of, noted}
+use Rattle.std.proofs.Common.{◌≡◌, [], ◌∷◌, ◌++◌, length, ap, ◌∙◌, arith, length-append}
+use Rattle.blob_disk.specs.Log.{bytes_in, call_of, noted}
 use Rattle.blob_disk.proofs.Logs.{bytes_in-push, noted-push}
 use Rattle.blob_disk.proofs.record.Record.note.Goals as goal
 
