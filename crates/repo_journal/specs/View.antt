@@ -1,0 +1,12 @@
+-- What contracts see of an open journal.
+use Rattle.std.specs.Prelude.{ℕ, Bool}
+use Rattle.repo_journal.specs.declared.opening.Opening.{Opening}
+
+pub record JournalView : Type 0 where
+  -- the most bytes that the file may have
+  pub capacity : ℕ
+  -- the place behind the closing gate
+  pub size : ℕ
+  -- a call of the disk failed in an append
+  pub broken : Bool
+  pub opening : Opening

@@ -1,0 +1,12 @@
+//! The journal of a repository: one file of records, each with a gate that is opened once the record is on the disk.
+//! So a crash at any moment leaves the records before an append, or those and the new one.
+#![tactic(auto)]
+
+pub mod fault;
+pub mod journal;
+pub mod opening;
+pub mod seal;
+
+pub use fault::AppendFault;
+pub use journal::Journal;
+pub use opening::Opening;
