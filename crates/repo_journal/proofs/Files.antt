@@ -1,13 +1,19 @@
 -- The bytes of a journal while a record is added.
 use Rattle.std.proofs.Common.{◌≡◌, ◌≢◌, ℕ, suc, ◌+◌, ◌-◌, ◌<◌, ◌≤◌, List, [], ◌∷◌, ◌++◌, length, take, drop, get_or, refl, sym, ap, subst, ◌∙◌, arith, append_assoc}
 use Rattle.std.specs.Prelude.{slice_index}
-use Rattle.std.proofs.lemmas.List.{length-append, length-take, length-drop, take-append-le, take-take, get_or-take}
+use Rattle.std.proofs.lemmas.List.{length-append, length-take, length-drop, take-append-le, take-take, get_or-take, get_or-append-add}
 use Rattle.std.proofs.Math.Seq.{drop-append_seam, take-append_seam, get_or-append_seam}
-use Rattle.std.specs.Int.{w32}
+use Rattle.std.specs.Int.{w32, to_be_bytes}
 use Rattle.byte_fields.specs.Bytes.{sized}
 use Rattle.disk_model.specs.Images.{write_at}
 use Rattle.history_model.specs.Journal.{framed, open_record}
 use Rattle.repo_journal.specs.Sealing.{IsClosed, KeepsRecords, AddsRecord}
+
+pub length-open_record : (payload : List ℕ) → length (open_record payload) ≡ length payload + 5
+length-open_record payload =
+    let width : length (to_be_bytes w32 (length payload)) ≡ 4 = refl in
+    let whole = length-append (to_be_bytes w32 (length payload)) payload in
+    omega arith
 
 -- a file that is the same up to the closing gate and with it
 pub same_front : (size : ℕ) (before image : List ℕ) → 0 < size → IsClosed size before → take size image ≡ take size before → size ≤ length image → KeepsRecords size before image
@@ -54,3 +60,27 @@ other_gate size gate file back image some long is closed =
         gate = λ one. closed (sym (ap (λ xs. slice_index xs (size - 1)) is ∙ ap (λ n. slice_index (take (size - 1) file ++ gate ∷ back) n) (sym len) ∙ get_or-append_seam (take (size - 1) file) gate back 0) ∙ one);
       };
     }
+
+-- behind a record that was added stands a closed gate
+pub adds_closed : (size : ℕ) (payload before image : List ℕ) → 0 < size → IsClosed size before → AddsRecord size payload before image → IsClosed (size + (length payload + 5)) image
+adds_closed size payload before image some closed added =
+    let long = closed.long in
+    let front = front_len (size - 1) before (omega arith) in
+    let rec = length-open_record payload in
+    let whole = length-append (take (size - 1) before) (open_record payload ++ 0 ∷ added.rest) in
+    let back = length-append (open_record payload) (0 ∷ added.rest) in
+    let image_len = ap (λ xs. length xs) added.is in
+    let place : size + (length payload + 5) - 1 ≡ length (take (size - 1) before) + length (open_record payload) = omega arith in
+    record {
+      long = omega arith;
+      gate = λ one. (let zero_there : slice_index image (size + (length payload + 5) - 1) ≡ 0 =
+      ap (λ xs. slice_index xs (size + (length payload + 5) - 1)) added.is
+      ∙ ap (λ i. slice_index (take (size - 1) before ++ (open_record payload ++ 0 ∷ added.rest)) i) place
+      ∙ get_or-append-add (take (size - 1) before) (open_record payload ++ 0 ∷ added.rest) (length (open_record payload)) 0
+      ∙ get_or-append_seam (open_record payload) 0 added.rest 0 in
+      omega arith);
+    }
+
+-- the records stay where nothing was done
+pub nothing_adds : (size : ℕ) (image : List ℕ) → IsClosed size image → KeepsRecords size image image
+nothing_adds size image closed = record { front = refl; closed = closed }

@@ -1,2 +1,3 @@
 pub mod Sealing
 pub mod View
+pub mod Answers

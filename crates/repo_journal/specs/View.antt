@@ -1,5 +1,5 @@
 -- What contracts see of an open journal.
-use Rattle.std.specs.Prelude.{ℕ, Bool}
+use Rattle.std.specs.Prelude.{ℕ, ◌≤◌, Bool}
 use Rattle.repo_journal.specs.declared.opening.Opening.{Opening}
 
 pub record JournalView : Type 0 where
@@ -10,3 +10,9 @@ pub record JournalView : Type 0 where
   -- a call of the disk failed in an append
   pub broken : Bool
   pub opening : Opening
+
+-- the capacity is within the limits, and the file within the capacity
+pub record IsOpen (capacity size : ℕ) : Type 0 where
+  pub least : 17 ≤ size
+  pub fits : size ≤ capacity
+  pub most : capacity ≤ 34_359_738_368

@@ -5,8 +5,8 @@
 pub mod fault;
 pub mod journal;
 pub mod opening;
-pub mod seal;
+mod seal;
 
-pub use fault::AppendFault;
+pub use fault::{AppendFault, DiskFault, InitFault, RecordsFault};
 pub use journal::Journal;
 pub use opening::Opening;
