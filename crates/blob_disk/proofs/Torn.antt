@@ -74,10 +74,10 @@ front_left d at bytes done image reads long left =
     )
 
 -- a list with the place `at` by itself
-abbrev split_at : ℕ → ℕ → List ℕ → List ℕ
+abbrev pub split_at : ℕ → ℕ → List ℕ → List ℕ
 split_at at byte image = take at image ++ byte ∷ drop (suc at) image
 
-split : (at : ℕ) (image : List ℕ) → at < length image → image ≡ split_at at (slice_index image at) image
+pub split : (at : ℕ) (image : List ℕ) → at < length image → image ≡ split_at at (slice_index image at) image
 split at image inside = sym (take-append-drop at image) ∙ ap (λ xs. take at image ++ xs) (drop-cons image at 0 inside)
 
 length-split_at : (at byte : ℕ) (image : List ℕ) → at < length image → length (split_at at byte image) ≡ length image

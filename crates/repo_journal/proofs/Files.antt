@@ -74,13 +74,9 @@ adds_closed size payload before image some closed added =
     record {
       long = omega arith;
       gate = λ one. (let zero_there : slice_index image (size + (length payload + 5) - 1) ≡ 0 =
-      ap (λ xs. slice_index xs (size + (length payload + 5) - 1)) added.is
-      ∙ ap (λ i. slice_index (take (size - 1) before ++ (open_record payload ++ 0 ∷ added.rest)) i) place
-      ∙ get_or-append-add (take (size - 1) before) (open_record payload ++ 0 ∷ added.rest) (length (open_record payload)) 0
-      ∙ get_or-append_seam (open_record payload) 0 added.rest 0 in
-      omega arith);
+          ap (λ xs. slice_index xs (size + (length payload + 5) - 1)) added.is
+          ∙ ap (λ i. slice_index (take (size - 1) before ++ (open_record payload ++ 0 ∷ added.rest)) i) place
+          ∙ get_or-append-add (take (size - 1) before) (open_record payload ++ 0 ∷ added.rest) (length (open_record payload)) 0
+          ∙ get_or-append_seam (open_record payload) 0 added.rest 0 in
+          omega arith);
     }
-
--- the records stay where nothing was done
-pub nothing_adds : (size : ℕ) (image : List ℕ) → IsClosed size image → KeepsRecords size image image
-nothing_adds size image closed = record { front = refl; closed = closed }

@@ -1,3 +1,4 @@
 pub mod Files
 pub mod Seals
 pub mod Frames
+pub mod Histories

@@ -57,15 +57,18 @@ gate_leaves m k n size gate byte payload done sound honest sound_k honest_k plac
     one_byte k.state gate byte done image (sound_k.image honest_k) only inside ((did honest_k).most.images image h)
     ∙ ap (λ f. take gate f ++ x ∷ drop (suc gate) f) is
     ∙ ap (λ i. take i (with_frame size payload m) ++ x ∷ drop (suc gate) (with_frame size payload m)) at_gate
-    ∙ ap (λ i. take (size - 1) (with_frame size payload m) ++ x ∷ drop i (with_frame size payload m)) behind in
-    (m.state.reads, sound.image honest, elim (gate_cases x) [
-      | inl one ↦ inr (record {
-        rest = drop (size + length (framed payload)) m.state.reads;
-        is = shape ∙ ap (λ b. take (size - 1) (with_frame size payload m) ++ b ∷ drop size (with_frame size payload m)) one ∙ opened size payload m.state.reads long;
-      })
-      | inr closed ↦ inl (other_gate size x m.state.reads (drop size (with_frame size payload m)) image (omega arith) long
-      (shape ∙ ap (λ xs. xs ++ x ∷ drop size (with_frame size payload m)) (written_front size (framed payload) m.state.reads long)) closed)
-    ])
+    ∙ ap (λ i. take (size - 1) (with_frame size payload m) ++ x ∷ drop i (with_frame size payload m)) behind in (
+      m.state.reads,
+      sound.image honest,
+      elim (gate_cases x) [
+        | inl one ↦ inr (record {
+          rest = drop (size + length (framed payload)) m.state.reads;
+          is = shape ∙ ap (λ b. take (size - 1) (with_frame size payload m) ++ b ∷ drop size (with_frame size payload m)) one ∙ opened size payload m.state.reads long;
+        })
+        | inr closed ↦ inl (other_gate size x m.state.reads (drop size (with_frame size payload m)) image (omega arith) long
+            (shape ∙ ap (λ xs. xs ++ x ∷ drop size (with_frame size payload m)) (written_front size (framed payload) m.state.reads long)) closed)
+      ],
+    )
 
 -- with the gate open, the file has the record
 pub gate_opens : (m : Meaning) (size gate : ℕ) (payload file image : List ℕ) → size ≡ gate + 1 → size ≤ length m.state.reads → file ≡ with_frame size payload m → image ≡ write_at gate (1 ∷ []) file → AddsRecord size payload m.state.reads image
@@ -75,9 +78,9 @@ gate_opens m size gate payload file image place long is written =
     record {
       rest = drop (size + length (framed payload)) m.state.reads;
       is = written ∙ ap (λ f. take gate f ++ 1 ∷ drop (gate + 1) f) is
-      ∙ ap (λ i. take i (with_frame size payload m) ++ 1 ∷ drop (gate + 1) (with_frame size payload m)) at_gate
-      ∙ ap (λ i. take (size - 1) (with_frame size payload m) ++ 1 ∷ drop i (with_frame size payload m)) behind
-      ∙ opened size payload m.state.reads long;
+          ∙ ap (λ i. take i (with_frame size payload m) ++ 1 ∷ drop (gate + 1) (with_frame size payload m)) at_gate
+          ∙ ap (λ i. take (size - 1) (with_frame size payload m) ++ 1 ∷ drop i (with_frame size payload m)) behind
+          ∙ opened size payload m.state.reads long;
     }
 
 -- ---- the calls in a row

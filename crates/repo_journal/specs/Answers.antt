@@ -27,6 +27,11 @@ is_init_fault (Ok x) = false
 is_init_fault (Err (Exists size)) = false
 is_init_fault (Err InitDiskFault) = true
 
+abbrev pub is_exists_answer : {T : Type 0} → Result T InitFault → Bool
+is_exists_answer (Ok x) = false
+is_exists_answer (Err (Exists size)) = true
+is_exists_answer (Err InitDiskFault) = false
+
 -- the file has bytes, as many as it says
 abbrev pub TellsBytes : Meaning → InitFault → Type 0
 TellsBytes m (Exists size) = (0 < size) × ForSome m.reads (λ file. size ≡ length file)

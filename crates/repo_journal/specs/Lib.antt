@@ -1,3 +1,4 @@
 pub mod Sealing
 pub mod View
 pub mod Answers
+pub mod Payloads

@@ -2,11 +2,14 @@
 //! So a crash at any moment leaves the records before an append, or those and the new one.
 #![tactic(auto)]
 
+mod create;
 pub mod fault;
 pub mod journal;
+pub mod laws;
 pub mod opening;
 mod seal;
 
+pub use create::init;
 pub use fault::{AppendFault, DiskFault, InitFault, RecordsFault};
 pub use journal::Journal;
 pub use opening::Opening;
