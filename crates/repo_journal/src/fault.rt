@@ -1,8 +1,4 @@
 //! Why a call of the journal fails.
-ghost use Rattle.std.specs.Prelude.{◌≡◌};
-ghost use Rattle.repo_journal.specs.declared.fault.RecordsFault.TheVariants.{Memory};
-
-use std::alloc::AllocError;
 use thiserror::Error;
 
 /// An append was refused or failed.
@@ -25,25 +21,6 @@ pub enum InitFault {
     /// A call of the disk failed. Nothing is promised of the file.
     #[error("the disk failed")]
     DiskFault,
-}
-
-/// The records weren't listed.
-#[derive(Clone, Copy, Debug, PartialEq, Eq, Error)]
-pub enum RecordsFault {
-    /// A call of the disk failed.
-    #[error("the disk failed")]
-    DiskFault,
-    /// No memory was left.
-    #[error("no memory")]
-    Memory,
-}
-
-impl From<AllocError> for RecordsFault {
-    ghost from_gives = { λ _ e. e ≡ Memory };
-
-    fn from(_: AllocError) -> Self {
-        RecordsFault::Memory
-    }
 }
 
 /// A call of the disk failed.

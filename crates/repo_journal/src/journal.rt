@@ -1,5 +1,5 @@
 //! An open journal: how far it reaches, and whether a record may be added.
-ghost use Rattle.std.specs.Prelude.{◌≡◌, ◌↔◌, ◌+◌, ◌≤◌, ◌<◌, ℕ, List, true, false, length, take, drop, is_err, IsOk, IsSome, IsTrue, IfErr, OnOk};
+ghost use Rattle.std.specs.Prelude.{◌≡◌, ◌↔◌, ◌+◌, ◌≤◌, ◌<◌, ◌^◌, ℕ, List, true, false, length, take, drop, is_err, IsOk, IsSome, IsTrue, IfErr, OnOk};
 ghost use Rattle.std.specs.Option.{ForSome};
 ghost use Rattle.ports.specs.Faults.{Counts};
 ghost use Rattle.disk_model.specs.Images.{IsImage};
@@ -53,7 +53,8 @@ impl Journal {
 
     /// The length of the file up to and with the closing gate, in bytes.
     pub fn size(&self) -> u64
-        ensures { result ≡ self.now.size }
+        ensures size { result ≡ self.now.size }
+        ensures small { result < 2 ^ 63 }
     {
         self.size
     }

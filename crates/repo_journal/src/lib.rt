@@ -10,6 +10,9 @@ pub mod opening;
 mod seal;
 
 pub use create::init;
-pub use fault::{AppendFault, DiskFault, InitFault, RecordsFault};
+pub use fault::{AppendFault, DiskFault, InitFault};
 pub use journal::Journal;
 pub use opening::Opening;
+
+#[cfg(test)]
+mod tests;
