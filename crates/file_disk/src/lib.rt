@@ -1,0 +1,6 @@
+//! A disk over a real file. It counts its failures, and tells nothing of what the file holds.
+#![tactic(auto)]
+
+pub mod disk;
+
+pub use disk::FileDisk;
