@@ -1,5 +1,5 @@
 -- The meaning of a disk that tells nothing but its faults.
-use Rattle.std.specs.Prelude.{◌≡◌, ℕ, false, true, [], None, Some, refl}
+use Rattle.std.specs.Prelude.{ℕ, false, [], None, refl}
 use mathlib.Core.Bool.{true≢false}
 use Rattle.std.proofs.Common.{sym}
 use Rattle.disk_model.specs.Images.{holding}

@@ -20,7 +20,6 @@ impl FileDisk {
     pub fn new(file: File) -> Self {
         FileDisk { file, faults: 0 }
     }
-
 }
 
 impl Disk for FileDisk {

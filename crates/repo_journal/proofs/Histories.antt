@@ -1,17 +1,15 @@
 -- Files of records and the histories that they stand for.
-use Rattle.std.proofs.Common.{◌≡◌, ◌≢◌, ℕ, suc, ◌+◌, ◌-◌, ◌<◌, ◌≤◌, ◌⊎◌, Bool, true, false, cond, List, [], ◌∷◌, ◌++◌, length, map, take, drop, refl, sym, ap, subst, ◌∙◌, inl, inr, arith, append_assoc}
+use Rattle.std.proofs.Common.{◌≡◌, ◌≢◌, ℕ, suc, ◌-◌, cond, List, [], ◌∷◌, ◌++◌, length, map, take, drop, refl, sym, ap, subst, ◌∙◌, arith, append_assoc}
 use Rattle.std.specs.Prelude.{slice_index, sum_by, filter, IsTrue}
-use Rattle.std.proofs.lemmas.List.{length-append, map-append, get_or-append-add}
+use Rattle.std.proofs.lemmas.List.{length-append, map-append}
 use Rattle.std.proofs.lemmas.List.Sums.{sum_by-cons}
 use Rattle.std.proofs.lemmas.List.Elements.{filter-append}
 use Rattle.std.proofs.Math.Seq.{take-append_seam, get_or-append_seam}
-use Rattle.std.specs.Int.{w32, w64, to_be_bytes}
-use Rattle.disk_model.specs.Images.{Disk, IsImage}
 use Rattle.history_model.specs.History.{Body, Content, Change, Book, Land, Fault, Entry, bodies, is_stored}
-use Rattle.history_model.specs.Journal.{Header, IsPayload, HoldsRecords, Keeps, Stands, header_bytes, is_header, open_record, payload_len, record_len, size}
+use Rattle.history_model.specs.Journal.{Header, IsPayload, HoldsRecords, Stands, header_bytes, is_header, open_record, payload_len, record_len, size}
 use Rattle.blob_disk.proofs.Torn.{split}
 use Rattle.repo_journal.specs.Payloads.{ArePayloads, records}
-use Rattle.repo_journal.specs.Sealing.{AllClosed, AddsRecord, IsAfter, IsBeforeOrAfter, IsClosed, KeepsRecords}
+use Rattle.repo_journal.specs.Sealing.{AddsRecord, IsClosed, KeepsRecords}
 use Rattle.repo_journal.proofs.Files.{length-open_record}
 
 -- records, and behind them a gate that isn't open

@@ -1,10 +1,10 @@
 -- The four calls of an append: what a crash may leave after each of them.
-use Rattle.std.proofs.Common.{◌≡◌, ◌≢◌, ℕ, suc, ◌+◌, ◌-◌, ◌<◌, ◌≤◌, ◌⊎◌, Bool, true, false, List, [], ◌∷◌, ◌++◌, length, take, drop, refl, sym, ap, subst, ◌∙◌, inl, inr, arith}
+use Rattle.std.proofs.Common.{◌≡◌, ◌≢◌, ℕ, suc, ◌+◌, ◌-◌, ◌<◌, ◌≤◌, ◌⊎◌, Bool, true, false, List, [], ◌∷◌, ◌++◌, length, take, drop, sym, ap, subst, ◌∙◌, inl, inr, arith}
 use Rattle.std.specs.Prelude.{slice_index, IsTrue}
 use Rattle.std.proofs.lemmas.Bool.{cases_lt}
-use Rattle.disk_model.specs.Images.{Disk, Writes, Syncs, IsImage, after_call, write_at}
+use Rattle.disk_model.specs.Images.{Writes, Syncs, IsImage, write_at}
 use Rattle.disk_model.proofs.Crashes.{only_reads}
-use Rattle.history_model.specs.Journal.{framed, open_record}
+use Rattle.history_model.specs.Journal.{framed}
 use Rattle.blob_disk.specs.Meaning.{Meaning, IsSound}
 use Rattle.blob_disk.specs.Calls.{Kept, LeavesOnly, Did}
 use Rattle.blob_disk.proofs.Torn.{front_left, one_byte}

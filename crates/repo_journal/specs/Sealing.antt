@@ -5,7 +5,7 @@
 --     AddsRecord size payload before image      they are those of before and one more, and a closed gate stands behind it
 --     IsBeforeOrAfter d size payload image, IsAfter d size payload image      one of these, or the second, for an image of d
 --     Appends size payload old new      a crash now, or at a moment since old, leaves the records before or after
-use Rattle.std.specs.Prelude.{◌≡◌, ◌≢◌, ◌⊎◌, ℕ, ◌+◌, ◌-◌, ◌≤◌, List, ◌∷◌, ◌++◌, length, take, drop, slice_index}
+use Rattle.std.specs.Prelude.{◌≡◌, ◌≢◌, ◌⊎◌, ℕ, ◌-◌, ◌≤◌, List, ◌∷◌, ◌++◌, length, take, drop, slice_index}
 use Rattle.disk_model.specs.Images.{Disk, IsImage}
 use Rattle.history_model.specs.Journal.{framed, open_record}
 use Rattle.blob_disk.specs.Meaning.{Meaning}

@@ -1,4 +1,4 @@
-use Rattle.std.proofs.Common.{◌≡◌, ◌+◌, [], true, length, ap, ◌∙◌, arith}
+use Rattle.std.proofs.Common.{length, ap, ◌∙◌, arith}
 use Rattle.disk_model.specs.Images.{write_at}
 use Rattle.history_model.specs.Journal.{mark}
 use Rattle.blob_disk.proofs.Clients.{kept_then}

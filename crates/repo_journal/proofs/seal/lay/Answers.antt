@@ -1,4 +1,4 @@
-use Rattle.std.proofs.Common.{◌≡◌, ◌+◌, true, false, length, ◌∙◌}
+use Rattle.std.proofs.Common.{true, false, ◌∙◌}
 use Rattle.blob_disk.proofs.Clients.{kept_then}
 use Rattle.repo_journal.specs.Sealing.{payload_in}
 use Rattle.repo_journal.proofs.Seals.{write_appends, sync_appends, sync_settles}

@@ -1,10 +1,9 @@
-use Rattle.std.proofs.Common.{◌≡◌, ◌+◌, ◌≤◌, [], ◌∷◌, true, false, length, refl, sym, ap, ◌∙◌, arith}
-use Rattle.std.specs.Prelude.{IsTrue}
+use Rattle.std.proofs.Common.{◌+◌, ◌≤◌, true, false, length, refl, ap, ◌∙◌, arith}
 use Rattle.blob_disk.proofs.Clients.{kept_then}
 use Rattle.disk_model.specs.Images.{write_at}
 use Rattle.repo_journal.specs.Sealing.{payload_in}
 use Rattle.repo_journal.proofs.Frames.{framed_again}
-use Rattle.repo_journal.proofs.Seals.{with_frame, sync_appends, gate_appends, sync_settles, gate_opens}
+use Rattle.repo_journal.proofs.Seals.{sync_appends, gate_appends, sync_settles, gate_opens}
 use Rattle.repo_journal.proofs.seal.seal.Goals as goal
 
 pub write_at-requires : goal.write_at-requires

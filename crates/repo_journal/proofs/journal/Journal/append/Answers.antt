@@ -1,4 +1,4 @@
-use Rattle.std.proofs.Common.{◌≡◌, ℕ, ◌+◌, ◌-◌, ◌≤◌, ◌<◌, List, length, ap, subst, sym, ◌∙◌, arith}
+use Rattle.std.proofs.Common.{◌≡◌, ℕ, ◌+◌, ◌-◌, ◌<◌, List, length, ap, subst, ◌∙◌, arith}
 use Rattle.disk_model.specs.Images.{IsImage}
 use Rattle.repo_journal.specs.Sealing.{AllClosed, Appends, IsAfter, IsClosed, payload_in}
 use Rattle.repo_journal.proofs.Files.{adds_closed}
