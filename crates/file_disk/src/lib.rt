@@ -2,5 +2,7 @@
 #![tactic(auto)]
 
 pub mod disk;
+pub mod opener;
 
 pub use disk::FileDisk;
+pub use opener::FileOpener;
