@@ -1,7 +1,7 @@
 -- What stands under names.
 --     Shelf D      each name with what it has, until that is taken out, and what new names are given
 --     given name create s      what opening a name gives
-use Rattle.std.specs.Prelude.{ℕ, Bool, false, if◌then◌else◌, List, [], ◌∷◌, bytes_eq, Option, None, Some}
+use Rattle.std.specs.Prelude.{ℕ, Bool, if◌then◌else◌, List, [], ◌∷◌, bytes_eq, Option, None, Some}
 
 pub record Shelf (D : Type 0) : Type 0 where
   pub named : List (List ℕ × Option D)

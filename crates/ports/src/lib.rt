@@ -3,6 +3,7 @@
 #![tactic(auto)]
 
 pub mod failed;
+pub mod mem_opener;
 pub mod mem_sink;
 pub mod mem_source;
 pub mod opener;
@@ -10,6 +11,7 @@ pub mod sink;
 pub mod source;
 
 pub use failed::Failed;
+pub use mem_opener::{MemOpener, Slot};
 pub use mem_sink::MemSink;
 pub use mem_source::MemSource;
 pub use opener::Opener;
