@@ -6,3 +6,6 @@ pub mod opener;
 
 pub use disk::FileDisk;
 pub use opener::FileOpener;
+
+#[cfg(test)]
+mod tests;
