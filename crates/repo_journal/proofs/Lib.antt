@@ -2,3 +2,4 @@ pub mod Files
 pub mod Seals
 pub mod Frames
 pub mod Histories
+pub mod Walks

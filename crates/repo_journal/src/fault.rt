@@ -23,6 +23,17 @@ pub enum InitFault {
     DiskFault,
 }
 
+/// The records weren't listed.
+#[derive(Clone, Copy, Debug, PartialEq, Eq, Error)]
+pub enum RecordsFault {
+    /// A call of the disk failed.
+    #[error("the disk failed")]
+    DiskFault,
+    /// No memory was left.
+    #[error("no memory")]
+    Memory,
+}
+
 /// A call of the disk failed.
 #[derive(Clone, Copy, Debug, PartialEq, Eq, Error)]
 #[error("the disk failed")]

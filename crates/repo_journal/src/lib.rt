@@ -7,12 +7,15 @@ pub mod fault;
 pub mod journal;
 pub mod laws;
 pub mod opening;
+mod records;
 mod seal;
+pub mod span;
 
 pub use create::init;
-pub use fault::{AppendFault, DiskFault, InitFault};
+pub use fault::{AppendFault, DiskFault, InitFault, RecordsFault};
 pub use journal::Journal;
 pub use opening::Opening;
+pub use span::Span;
 
 #[cfg(test)]
 mod tests;

@@ -2,7 +2,7 @@
 ghost use Rattle.std.specs.Prelude.{◌<◌, ◌^◌, length, IfOk};
 ghost use Rattle.repo_journal.specs.Sealing.{IsFramed};
 
-use crate::{AppendFault, InitFault, Journal, Opening, init};
+use crate::{AppendFault, InitFault, Journal, Opening, Span, init};
 use blob_disk::{CallKind, Disk, MemDisk};
 use std::alloc::{AllocError, Global};
 use std::process::Abort;
@@ -144,6 +144,9 @@ fn an_append_makes_four_calls(rt: HostRuntime) -> Result<(), Fail> {
     assert!(rt; journal.size() >= 25);
     assert_eq!(rt; journal.read(&mut disk, 22, &mut buf), Ok(()));
     assert_eq!(rt; buf, *b"abc");
+    assert!(rt; disk.bytes().len() as u64 >= journal.size());
+    let spans = journal.records(alloc, &mut disk)?;
+    assert_eq!(rt; spans.as_slice(), [Span { at: 21, length: 4 }].as_slice());
     Ok(())
 }
 
