@@ -10,7 +10,7 @@ use mathlib.Core.Bool.{true≢false}
 use Rattle.byte_fields.specs.Bytes.{IsBytes}
 use Rattle.disk_model.specs.Images.{Disk, DiskCall, Writes, Syncs, IsCall, holding, write_at, marked, after_write, after_call, disks, is_written, IsImage}
 
-write_at_len : (at : ℕ) (bytes file : List ℕ) → length file ≤ length (write_at at bytes file)
+pub write_at_len : (at : ℕ) (bytes file : List ℕ) → length file ≤ length (write_at at bytes file)
 write_at_len at bytes file =
     let whole = length-append (take at file) (bytes ++ drop (at + length bytes) file) in
     let rest = length-append bytes (drop (at + length bytes) file) in
@@ -39,33 +39,33 @@ write_at_back at bytes file i in_file after =
 -- ---- bytes
 
 -- each of two lists is of bytes
-bytes_append : (a b : List ℕ) → IsBytes a → IsBytes b → IsBytes (a ++ b)
+pub bytes_append : (a b : List ℕ) → IsBytes a → IsBytes b → IsBytes (a ++ b)
 bytes_append a b p q i = elim (cases_lt i (length a)) [
   | inl within ↦ subst (λ n. n < 256) (sym (get_or-append a b 0 i within)) (p i)
   | inr after ↦ subst (λ n. n < 256) (sym (get_or-append_right a b (length a) i 0 refl after)) (q (i - length a))
 ]
 
-bytes_take : (n : ℕ) (a : List ℕ) → IsBytes a → IsBytes (take n a)
+pub bytes_take : (n : ℕ) (a : List ℕ) → IsBytes a → IsBytes (take n a)
 bytes_take n a p i = elim (cases_lt i n) [
   | inl within ↦ subst (λ n. n < 256) (sym (get_or-take n a i 0 within)) (p i)
   | inr after ↦ let len = length-take n a in subst (λ n. n < 256) (sym (get_or_past (take n a) i 0 (omega arith))) (omega arith)
 ]
 
-bytes_drop : (n : ℕ) (a : List ℕ) → IsBytes a → IsBytes (drop n a)
+pub bytes_drop : (n : ℕ) (a : List ℕ) → IsBytes a → IsBytes (drop n a)
 bytes_drop n a p i = subst (λ n. n < 256) (sym (get_or-drop n a i 0)) (p (n + i))
 
-bytes_written : (at : ℕ) (bytes file : List ℕ) → IsBytes bytes → IsBytes file → IsBytes (write_at at bytes file)
+pub bytes_written : (at : ℕ) (bytes file : List ℕ) → IsBytes bytes → IsBytes file → IsBytes (write_at at bytes file)
 bytes_written at bytes file p q =
     bytes_append (take at file) (bytes ++ drop (at + length bytes) file) (bytes_take at file q)
     (bytes_append bytes (drop (at + length bytes) file) p (bytes_drop (at + length bytes) file q))
 
 -- ---- ranges
 
-abbrev covers : ℕ → ℕ → ℕ → Bool
+abbrev pub covers : ℕ → ℕ → ℕ → Bool
 covers at len i = nat_le at i && nat_lt i (at + len)
 
 -- a place out of a write's range keeps its byte
-untouched : (at : ℕ) (bytes file : List ℕ) (i : ℕ) → i < length file → covers at (length bytes) i ≡ false → slice_index (write_at at bytes file) i ≡ slice_index file i
+pub untouched : (at : ℕ) (bytes file : List ℕ) (i : ℕ) → i < length file → covers at (length bytes) i ≡ false → slice_index (write_at at bytes file) i ≡ slice_index file i
 untouched at bytes file i in_file out =
     elim (cases_lt i at) [
       | inl before ↦ write_at_front at bytes file i in_file before
@@ -80,7 +80,7 @@ either_false true b h = absurd (true≢false h)
 either_false false b h = (refl, h)
 
 -- a place that isn't written once a range more is isn't in the range, and wasn't written before
-not_marked : (d : Disk) (at len i : ℕ) → is_written (marked at len d) i ≡ false → (is_written d i ≡ false) × (covers at len i ≡ false)
+pub not_marked : (d : Disk) (at len i : ℕ) → is_written (marked at len d) i ≡ false → (is_written d i ≡ false) × (covers at len i ≡ false)
 not_marked d at len i h =
     let parts = either_false (is_written d i) (covers at len i || false) (sym (list_any-append (λ w. covers w.at w.len i) d.written (record { at = at; len = len } ∷ [])) ∙ h) in
     (parts.0, (either_false (covers at len i) false parts.1).0)

@@ -1,3 +1,6 @@
 pub mod Faults
 pub mod Streams
 pub mod Memory
+pub mod Openers
+pub mod Shelves
+pub mod MemOpeners

@@ -3,13 +3,17 @@
 #![tactic(auto)]
 
 pub mod failed;
+pub mod mem_opener;
 pub mod mem_sink;
 pub mod mem_source;
+pub mod opener;
 pub mod sink;
 pub mod source;
 
 pub use failed::Failed;
+pub use mem_opener::{MemOpener, Slot};
 pub use mem_sink::MemSink;
 pub use mem_source::MemSource;
+pub use opener::Opener;
 pub use sink::Sink;
 pub use source::Source;

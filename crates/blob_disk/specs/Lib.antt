@@ -1,0 +1,9 @@
+pub mod Meaning
+pub mod Calls
+pub mod Memory
+pub mod Inside
+pub mod Log
+pub mod Tally
+pub mod MemMeaning
+pub mod MemSound
+pub mod MemDisk

@@ -1,0 +1,5 @@
+pub mod Files
+pub mod Seals
+pub mod Frames
+pub mod Histories
+pub mod Walks

@@ -1,0 +1,5 @@
+pub mod Sealing
+pub mod View
+pub mod Answers
+pub mod Payloads
+pub mod Spans

@@ -1,0 +1,152 @@
+//! An open journal: how far it reaches, and whether a record may be added.
+ghost use Rattle.std.specs.Prelude.{◌≡◌, ◌↔◌, ◌+◌, ◌≤◌, ◌<◌, ◌^◌, ℕ, List, true, false, length, take, drop, is_err, IsOk, IsSome, IsTrue, IfErr, OnOk};
+ghost use Rattle.std.specs.Option.{ForSome};
+ghost use Rattle.ports.specs.Faults.{Counts};
+ghost use Rattle.disk_model.specs.Images.{IsImage};
+ghost use Rattle.history_model.specs.Journal.{is_header};
+ghost use Rattle.blob_disk.specs.Meaning.{IsLong};
+ghost use Rattle.blob_disk.specs.Calls.{Kept, LeavesOnly, Looked};
+ghost use Rattle.repo_journal.specs.Answers.{is_full_answer, is_disk_fault, TellsSizes};
+ghost use Rattle.repo_journal.specs.Sealing.{IsFramed, payload_in, AllClosed, Appends, IsAfter};
+
+use crate::fault::{AppendFault, DiskFault};
+use crate::opening::Opening;
+use crate::seal;
+use blob_disk::Disk;
+use std::marker::Model;
+
+/// The journal of an open file. After a fault of the disk in an append it is broken: nothing may be
+/// added, and what is there may still be read.
+#[derive(Drop)]
+pub struct Journal {
+    capacity: u64,
+    size: u64,
+    broken: bool,
+    opening: Opening,
+}
+
+impl Model for Journal {
+    ghost use Rattle.repo_journal.specs.View.{JournalView, IsOpen};
+
+    ghost Value = { JournalView };
+
+    ghost view = { λ j. record { capacity = j.capacity; size = j.size; broken = j.broken; opening = j.opening } };
+
+    ghost invariant = { λ j. IsOpen j.capacity j.size };
+}
+
+impl Journal {
+    /// A journal of a file with this capacity, whose closing gate stands directly before `size`.
+    pub fn new(capacity: u64, size: u64, opening: Opening) -> Self
+        requires header { IsTrue (is_header (record { capacity = capacity })) }
+        requires some { 17 ≤ size }
+        requires fits { size ≤ capacity }
+        ensures { result ≡ record { capacity = capacity; size = size; broken = false; opening = opening } }
+    {
+        Journal {
+            capacity,
+            size,
+            broken: false,
+            opening,
+        }
+    }
+
+    /// The length of the file up to and with the closing gate, in bytes.
+    pub fn size(&self) -> u64
+        ensures size { result ≡ self.now.size }
+        ensures small { result < 2 ^ 63 }
+    {
+        self.size
+    }
+
+    /// The most bytes that the file may have.
+    pub fn capacity(&self) -> u64
+        ensures { result ≡ self.now.capacity }
+    {
+        self.capacity
+    }
+
+    /// A call of the disk failed in an append.
+    pub fn is_broken(&self) -> bool
+        ensures { result ≡ self.now.broken }
+    {
+        self.broken
+    }
+
+    /// What was so at the opening.
+    pub fn opening(&self) -> Opening
+        ensures { result ≡ self.now.opening }
+    {
+        self.opening
+    }
+
+    /// Adds a record: two writes and two syncs. `frame` is a payload with its length of four bytes,
+    /// high byte first, before it, and a closed gate behind it. It takes no memory.
+    pub fn append<D: Disk>(&mut self, disk: &mut D, frame: &[u8]) -> Result<(), AppendFault>
+        requires whole { self.old.broken ≡ false }
+        requires framed { IsFramed frame.now }
+        requires long { IsLong (D.meaning disk.old).reads self.old.size }
+
+        ensures ok { OnOk result (self.new ≡ record self.old { size = self.old.size + 5 + length (payload_in frame.now) }) }
+
+        // It is refused exactly where the record doesn't fit, and then nothing changes.
+        ensures full { IsTrue (is_full_answer result) ↔ (self.old.capacity < self.old.size + 5 + length (payload_in frame.now)) }
+        ensures sizes { IfErr result (TellsSizes self.old.size (length (payload_in frame.now))) }
+        ensures refused { IsTrue (is_full_answer result) → (self.new ≡ self.old) × (D.meaning disk.new ≡ D.meaning disk.old) }
+
+        // It fails only where a call of the disk did, and then the journal is broken.
+        ensures faults { Counts (D.meaning disk.old).faults (D.meaning disk.new).faults (is_disk_fault result) }
+        ensures broken { IsTrue (is_disk_fault result) → self.new ≡ record self.old { broken = true } }
+        ensures quiet { ForSome (D.meaning disk.old).quiet (λ most. self.old.size + 5 + length (payload_in frame.now) ≤ most → is_disk_fault result ≡ false) }
+
+        ensures kept { Kept (D.meaning disk.old) (D.meaning disk.new) }
+        ensures long { OnOk result (IsLong (D.meaning disk.new).reads self.new.size) }
+
+        // A crash at any moment leaves the records before the call or after it.
+        ensures crash { IsTrue (D.meaning disk.old).honest → AllClosed self.old.size (D.meaning disk.old).state
+            → Appends self.old.size (payload_in frame.now) (D.meaning disk.old) (D.meaning disk.new) }
+
+        // Once it is done, a crash leaves those after it, a closed gate, and nothing but what reads give.
+        ensures sealed { OnOk result (IsTrue (D.meaning disk.old).honest → AllClosed self.old.size (D.meaning disk.old).state
+            → (image : List ℕ) → IsImage (D.meaning disk.new).state image → IsAfter (D.meaning disk.old).state self.old.size (payload_in frame.now) image) }
+        ensures closed { OnOk result (IsTrue (D.meaning disk.old).honest → AllClosed self.old.size (D.meaning disk.old).state
+            → AllClosed self.new.size (D.meaning disk.new).state) }
+        ensures settled { OnOk result (IsTrue (D.meaning disk.old).honest
+            → (image : List ℕ) → IsImage (D.meaning disk.new).state image → image ≡ (D.meaning disk.new).state.reads) }
+    {
+        let added = frame.len() as u64;
+        if added > self.capacity - self.size {
+            return Err(AppendFault::Full {
+                size: self.size,
+                length: added - 5,
+            });
+        }
+        match seal::seal(disk, self.size - 1, frame) {
+            Ok(()) => {
+                self.size += added;
+                Ok(())
+            }
+            Err(_) => {
+                self.broken = true;
+                Err(AppendFault::DiskFault)
+            }
+        }
+    }
+
+    /// Fills `buf` with the bytes from `at` on.
+    pub fn read<D: Disk>(&self, disk: &mut D, at: u64, buf: &mut [u8]) -> Result<(), DiskFault>
+        requires inside { at + length buf.old ≤ self.now.size }
+        requires long { IsLong (D.meaning disk.old).reads self.now.size }
+        ensures bytes { OnOk result (ForSome (D.meaning disk.old).reads (λ file. buf.new ≡ take (length buf.old) (drop at file))) }
+        ensures looked { Looked (D.meaning disk.old) (D.meaning disk.new) }
+        ensures kept { Kept (D.meaning disk.old) (D.meaning disk.new) }
+        ensures time { LeavesOnly (IsImage (D.meaning disk.new).state) (D.meaning disk.old) (D.meaning disk.new) }
+        ensures faults { Counts (D.meaning disk.old).faults (D.meaning disk.new).faults (is_err result) }
+        ensures quiet { IsSome (D.meaning disk.old).quiet → IsOk result }
+    {
+        match disk.read_at(at, buf) {
+            Ok(()) => Ok(()),
+            Err(_) => Err(DiskFault),
+        }
+    }
+}

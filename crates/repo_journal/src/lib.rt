@@ -1,0 +1,21 @@
+//! The journal of a repository: one file of records, each with a gate that is opened once the record is on the disk.
+//! So a crash at any moment leaves the records before an append, or those and the new one.
+#![tactic(auto)]
+
+mod create;
+pub mod fault;
+pub mod journal;
+pub mod laws;
+pub mod opening;
+mod records;
+mod seal;
+pub mod span;
+
+pub use create::init;
+pub use fault::{AppendFault, DiskFault, InitFault, RecordsFault};
+pub use journal::Journal;
+pub use opening::Opening;
+pub use span::Span;
+
+#[cfg(test)]
+mod tests;
