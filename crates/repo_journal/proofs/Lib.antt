@@ -3,3 +3,4 @@ pub mod Seals
 pub mod Frames
 pub mod Histories
 pub mod Walks
+pub mod RecordsLeft

@@ -1,10 +1,10 @@
 //! Goes over the records of an open journal.
-ghost use Rattle.std.specs.Prelude.{◌≡◌, ◌+◌, ◌≤◌, ◌<◌, ◌^◌, All, IfOk};
+ghost use Rattle.std.specs.Prelude.{◌≡◌, ℕ, ◌+◌, ◌≤◌, ◌<◌, ◌^◌, List, All, IfOk, IsTrue};
 ghost use Rattle.std.specs.Option.{ForSome};
 ghost use Rattle.ports.specs.Faults.{Counts};
 ghost use Rattle.blob_disk.specs.Meaning.{IsLong};
 ghost use Rattle.blob_disk.specs.Calls.{Kept, Looked};
-ghost use Rattle.repo_journal.specs.Spans.{IsInside, is_records_fault};
+ghost use Rattle.repo_journal.specs.Spans.{IsInside, HasRecords, spans_from, first_span, is_records_fault};
 
 use crate::fault::RecordsFault;
 use crate::journal::Journal;
@@ -19,9 +19,11 @@ const HEAD: u64 = 5;
 const FIRST: u64 = 16;
 
 impl Journal {
-    /// Where the payloads stand, in order.
+    /// Where the payloads stand, in order. A payload has less than 2^32 bytes.
     pub fn records<D: Disk>(&self, alloc: Global, disk: &mut D) -> Result<Vec<Span>, RecordsFault>
         requires { IsLong (D.meaning disk.old).reads self.now.size }
+        ensures all { IfOk result (λ spans. IsTrue (D.meaning disk.old).honest → (payloads : List (List ℕ))
+            → HasRecords 16 self.now.size payloads (D.meaning disk.old).state.reads → spans.items ≡ spans_from 16 payloads) }
         ensures inside { IfOk result (λ spans. All (IsInside self.now.size) spans.items) }
         ensures looked { Looked (D.meaning disk.old) (D.meaning disk.new) }
         ensures kept { Kept (D.meaning disk.old) (D.meaning disk.new) }
@@ -45,6 +47,8 @@ fn next_span<D: Disk>(disk: &mut D, gate: u64, size: u64) -> Result<Option<Span>
     requires behind { 16 ≤ gate }
     requires small { size < 2 ^ 63 }
     requires long { IsLong (D.meaning disk.old).reads size }
+    ensures first { IfOk result (λ span. IsTrue (D.meaning disk.old).honest → (payloads : List (List ℕ))
+        → HasRecords gate size payloads (D.meaning disk.old).state.reads → span ≡ first_span gate payloads) }
     ensures inside { IfOk result (λ span. ForSome span (λ s. IsInside size s × (s.at ≡ gate + 5))) }
     ensures looked { Looked (D.meaning disk.old) (D.meaning disk.new) }
     ensures kept { Kept (D.meaning disk.old) (D.meaning disk.new) }
