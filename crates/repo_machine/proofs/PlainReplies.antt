@@ -9,6 +9,7 @@ use Rattle.history_model.specs.Journal.{Header}
 use Rattle.history_model.specs.Journal as journal
 use Rattle.reply_model.specs.Reply.{PutContent, ContentPut, TooLong, Full}
 use Rattle.reply_model.specs.After.{Asks, Grants, Refuses, Replies, entry_by}
+use Rattle.reply_model.proofs.Histories.{size-push}
 use Rattle.repo_events.specs.declared.body.Body as code_body
 use Rattle.repo_events.specs.declared.body.Body.TheVariants as bodies
 use Rattle.repo_events.specs.declared.body.Entry as code
@@ -55,3 +56,10 @@ module _ (header : Header) (entries : List code.Entry) (who : ℕ) (bytes : List
           subst (Replies header (history_of entries) who (Asks (PutContent bytes)) (Grants (ContentPut x))) (sym (pushed entries entries after _ refl grows))
           (subst (λ y. Replies header (history_of entries) who (Asks (PutContent bytes)) (Grants (ContentPut y)) (history_of entries ++ entry_by who (Content y (length bytes)) ∷ [])) (sym e)
           (replies_made header (history_of entries) who (PutContent bytes) (ContentPut (sha256 bytes)) (Content (sha256 bytes) (length bytes)) (judged_made header (history_of entries) bytes (up entries) few (known_as false unknown) room)))
+
+      pub made_fits : size + 5 + payload ≤ header.capacity → (after : List code.Entry) → after ≡ entries ++ record { who = who; body = bodies.Content (record { 0 = x }) (length bytes) } ∷ [] → journal.size (history_of after) ≤ header.capacity
+      made_fits fits after grows =
+          let now = size_now in
+          let grown = ap journal.size (pushed entries entries after _ refl grows) in
+          let longer = size-push (history_of entries) (entry_by who (Content x (length bytes))) in
+          omega arith

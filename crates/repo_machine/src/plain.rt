@@ -56,6 +56,7 @@ pub fn put_content(
     requires header { is_header (record { capacity = capacity }) ≡ true }
     requires fits { journal.size (history_of entries.old.items) ≤ capacity }
     ensures reply { Replies (record { capacity = capacity }) (history_of entries.old.items) who (Asks (PutContent bytes.now)) (put_answer result) (history_of entries.new.items) }
+    ensures fits { journal.size (history_of entries.new.items) ≤ capacity }
 {
     if bytes.len() > MOST_CONTENT {
         return Err(Refusal::TooLong {
@@ -90,22 +91,27 @@ mod tests {
 
     #[test]
     fn the_machine_replies_as_going_through_the_history_does(rt: HostRuntime) -> Result<(), Fail> {
-        // Contents of as many bytes, put in order.
-        let lengths = [3, 0, 3, 1_000, 1_048_577, 2_000, 1_040, 1_016, 0, 1_000];
-        let capacity = 4096;
-        let mut machine = Machine::new(rt.alloc(), capacity);
+        let mut machine = Machine::new(rt.alloc(), 4096);
         let mut entries = Vec::new(rt.alloc());
-        let mut refusals = 0;
-        for length in lengths {
+        // The lengths of contents that are put in order, and whether each is answered by an id.
+        'contents: for (length, has_id) in [
+            (3, true),
+            (0, true),
+            (3, true),
+            (1_000, true),
+            (1_048_577, false),
+            (2_000, true),
+            (1_040, true),
+            (1_016, false),
+            (0, true),
+        ] {
             let bytes = vec![in rt.alloc(); b'x'; length]?;
-            let size = journal_size(entries.as_slice());
-            assert!(rt; size <= capacity);
-            let expected = put_content(capacity, &mut entries, 7, bytes.as_slice());
-            refusals += expected.is_err() as u64;
+            let expected = put_content(4096, &mut entries, 7, bytes.as_slice());
+            assert_eq!(rt; expected.is_ok(), has_id);
             assert_eq!(rt; machine.put_content(7, bytes.as_slice()), expected);
-            assert_eq!(rt; machine.history_length(), entries.len() as u64);
+            assert_eq!(rt; machine.size(), journal_size(entries.as_slice()));
         }
-        assert_eq!(rt; (refusals, entries.len()), (2, 5));
+        assert_eq!(rt; (machine.history_length(), entries.len()), (5, 5));
         Ok(())
     }
 }
