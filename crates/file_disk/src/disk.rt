@@ -17,7 +17,9 @@ pub struct FileDisk {
 
 impl FileDisk {
     /// A disk over this file. No call has failed.
-    pub fn new(file: File) -> Self {
+    pub fn new(file: File) -> Self
+        ensures { ⟦<Self as Disk>⟧.meaning result ≡ untold 0 }
+    {
         FileDisk { file, faults: 0 }
     }
 }

@@ -1,5 +1,5 @@
 //! Opens real files.
-ghost use Rattle.std.specs.Prelude.{None};
+ghost use Rattle.std.specs.Prelude.{◌≡◌, None};
 
 use crate::disk::FileDisk;
 use ports::{Failed, Opener};
@@ -13,9 +13,11 @@ pub struct FileOpener<R> {
     faults: u64,
 }
 
-impl<R> FileOpener<R> {
+impl<R: Files<File = File>> FileOpener<R> {
     /// An opener of this runtime's files. No call has failed.
-    pub fn new(rt: R) -> Self {
+    pub fn new(rt: R) -> Self
+        ensures { ⟦<Self as Opener<FileDisk>>⟧.faults result ≡ 0 }
+    {
         FileOpener { rt, faults: 0 }
     }
 }

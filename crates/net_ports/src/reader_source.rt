@@ -12,7 +12,10 @@ pub struct ReaderSource<R: Read> {
 }
 
 impl<R: Read> ReaderSource<R> {
-    pub fn new(reader: R) -> Self {
+    /// A source over this reader. No call has failed.
+    pub fn new(reader: R) -> Self
+        ensures { ⟦<Self as Source>⟧.faults result ≡ 0 }
+    {
         ReaderSource { reader, faults: 0 }
     }
 }

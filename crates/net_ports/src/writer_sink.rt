@@ -12,7 +12,10 @@ pub struct WriterSink<W: Write> {
 }
 
 impl<W: Write> WriterSink<W> {
-    pub fn new(writer: W) -> Self {
+    /// A sink over this writer. No call has failed.
+    pub fn new(writer: W) -> Self
+        ensures { ⟦<Self as Sink>⟧.faults result ≡ 0 }
+    {
         WriterSink { writer, faults: 0 }
     }
 }
