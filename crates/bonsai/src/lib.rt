@@ -3,6 +3,7 @@
 
 pub mod change;
 pub mod changeset;
+pub mod commit;
 mod conflict;
 pub mod decode_fault;
 pub mod decoding;
@@ -17,6 +18,7 @@ mod text;
 
 pub use change::{Change, FileKind};
 pub use changeset::Changeset;
+pub use commit::Commit;
 pub use decode_fault::DecodeFault;
 pub use decoding::decode;
 pub use edit::Edit;

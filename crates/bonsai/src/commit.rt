@@ -1,0 +1,92 @@
+//! A changeset with its id.
+ghost use Rattle.std.specs.Prelude.{◌≡◌, length, IfOk};
+ghost use Rattle.changeset_model.specs.Changeset as model;
+ghost use Rattle.changeset_model.specs.Decoding.{decoded};
+ghost use Rattle.history_model.specs.Pushrebase.{on_parent};
+ghost use Rattle.bonsai.specs.Decodes.{Decodes};
+
+use crate::changeset::Changeset;
+use crate::decode_fault::DecodeFault;
+use crate::decoding::decode;
+use crate::encoding::encode;
+use object_id::Id;
+use std::alloc::{AllocError, Global};
+use std::marker::Model;
+
+/// A changeset with its id and the length of its spelling, so that neither is worked out again. Contracts see the
+/// changeset, which both follow from.
+#[derive(Debug, Drop)]
+pub struct Commit {
+    id: Id,
+    encoded_length: usize,
+    changeset: Changeset,
+}
+
+impl Model for Commit {
+    ghost use Rattle.std.specs.Prelude.{◌≡◌, length};
+    ghost use Rattle.changeset_model.specs.Changeset as model;
+    ghost use Rattle.changeset_model.specs.Codes.{coded_changeset};
+
+    ghost Value = { model.Changeset };
+
+    ghost coded = { coded_changeset };
+
+    ghost view = { λ c. c.changeset };
+
+    ghost invariant = { λ c. (c.id.0 ≡ model.id_of c.changeset) × (c.encoded_length ≡ length (model.spelling c.changeset)) };
+}
+
+impl Commit {
+    /// The changeset that bytes spell. The bytes are hashed once.
+    pub fn decode(alloc: Global, bytes: &[u8]) -> Result<Commit, DecodeFault>
+        ensures { Decodes result (decoded bytes.now) }
+    {
+        let changeset = decode(alloc, bytes)?;
+        Ok(Commit {
+            id: Id::of(bytes),
+            encoded_length: bytes.len(),
+            changeset,
+        })
+    }
+
+    /// A changeset that was made and not read.
+    pub fn of(alloc: Global, changeset: Changeset) -> Result<Commit, AllocError>
+        ensures { IfOk result (λ c. c ≡ changeset) }
+    {
+        let bytes = encode(alloc, &changeset)?;
+        Ok(Commit {
+            id: Id::of(bytes.as_slice()),
+            encoded_length: bytes.len(),
+            changeset,
+        })
+    }
+
+    /// The id: the SHA-256 (FIPS 180-4) of the spelling.
+    pub fn id(&self) -> Id
+        ensures { result.0 ≡ model.id_of self.now }
+    {
+        self.id
+    }
+
+    /// The length of the spelling in bytes.
+    pub fn encoded_length(&self) -> usize
+        ensures { result ≡ length (model.spelling self.now) }
+    {
+        self.encoded_length
+    }
+
+    /// The changeset without its id.
+    pub fn changeset(&self) -> &Changeset
+        ensures { result.now ≡ self.now }
+    {
+        &self.changeset
+    }
+
+    /// The changeset with this one parent, in memory of its own.
+    pub fn with_parent(&self, alloc: Global, parent: Id) -> Result<Commit, AllocError>
+        ensures { IfOk result (λ c. c ≡ on_parent parent.0 self.now) }
+    {
+        let changeset = self.changeset.with_parent(alloc, parent)?;
+        Commit::of(alloc, changeset)
+    }
+}

@@ -1,0 +1,245 @@
+//! The store of known changesets.
+ghost use Rattle.std.specs.Prelude.{◌≡◌, ◌≤◌, ◌<◌, ◌+◌, ◌++◌, ◌∷◌, [], ◌↔◌, true, false, length, map, reverse, option_map, IsSome, IsNone, IsTrue, find, not, IsOk, OnOk, IfOk, IfSome};
+ghost use Rattle.std.specs.List.{AllByRecursion};
+ghost use Rattle.std.specs.Option.{option_and_then};
+ghost use Rattle.changeset_model.specs.Changeset as model;
+ghost use Rattle.history_model.specs.History as history;
+ghost use Rattle.history_model.specs.History.{with_id, each_id_once, changeset_of};
+ghost use Rattle.history_model.specs.Chain.{HasParents, changesets, first_parent};
+ghost use Rattle.history_model.specs.Pushrebase as pushrebase;
+ghost use Rattle.changeset_store.specs.Store.{number_in, known_at, changeset_at};
+ghost use Rattle.changeset_store.specs.Fork.{chain_at, fork_between, IsAncestor, IsFork};
+ghost use Rattle.changeset_store.specs.Numbers.{most};
+
+use crate::fork::Fork;
+use ancestry::Chain;
+use bonsai::{Changeset, Commit};
+use object_id::Id;
+use std::alloc::{AllocError, Global};
+use std::collections::HashMap;
+use std::marker::Model;
+
+/// The most known changesets.
+pub const MOST_CHANGESETS: usize = 2_147_483_648;
+
+/// The known changesets of a repository, each once, numbered from 0 in the order in which they came. All parents of a
+/// changeset came before it.
+#[derive(Drop)]
+pub struct ChangesetStore {
+    commits: Vec<Commit>,
+    numbers: HashMap<Id, u32>,
+    chain: Chain,
+}
+
+impl Model for ChangesetStore {
+    ghost use Rattle.changeset_store.specs.Store.{Store, coded_store};
+
+    ghost Value = { Store };
+
+    ghost coded = { coded_store };
+
+    ghost use Rattle.std.specs.Prelude.{reverse};
+    ghost use Rattle.std.specs.Vec.{vec_len, vec_capacity};
+    ghost use Rattle.std.specs.HashMap.{get, spare};
+    ghost use Rattle.changeset_store.specs.Numbers.{known_of, room_beside, AreNumbers};
+
+    ghost view = { λ s. record { known = known_of s.commits.items; room = room_beside (vec_len s.commits) (vec_capacity s.commits) (spare s.numbers) s.chain.room } };
+
+    ghost invariant = { λ s. AreNumbers (reverse (known_of s.commits.items)) (λ x. get ⟦<Id as PartialEq>⟧.eq s.numbers (record { 0 = x })) s.chain.parents };
+}
+
+impl ChangesetStore {
+    /// A store without a changeset.
+    pub fn new(alloc: Global) -> ChangesetStore
+        ensures { result.known ≡ [] }
+    {
+        ChangesetStore {
+            commits: Vec::new(alloc),
+            numbers: HashMap::new(alloc),
+            chain: Chain::new(alloc),
+        }
+    }
+
+    /// How many changesets are known, at most 2,147,483,648.
+    pub fn len(&self) -> u32
+        ensures len { result ≡ length self.now.known }
+        ensures few { length self.now.known ≤ most }
+
+        // Each stands under its id, and once, after its parents.
+        ensures ids { map with_id (changesets self.now.known) ≡ self.now.known }
+        ensures distinct { each_id_once self.now.known ≡ self.now.known }
+        ensures parents_known { HasParents (reverse self.now.known) }
+    {
+        self.commits.len() as u32
+    }
+
+    /// Whether no changeset is known.
+    pub fn is_empty(&self) -> bool
+        ensures { IsTrue result ↔ (self.now.known ≡ []) }
+    {
+        self.commits.is_empty()
+    }
+
+    /// The number of the changeset with this id.
+    pub fn number_of(&self, id: &Id) -> Option<u32>
+        ensures number { result ≡ number_in self.now.known id.now.0 }
+        ensures known { IsSome result ↔ (history.is_known self.now.known id.now.0 ≡ true) }
+        ensures in_range { IfSome result (λ number. number < length self.now.known) }
+        ensures has_id { IfSome result (λ number. model.id_of (changeset_at self.now.known number) ≡ id.now.0) }
+    {
+        self.numbers.get(id).copied()
+    }
+
+    /// Whether a changeset has this id.
+    pub fn is_known(&self, id: &Id) -> bool
+        ensures { result ≡ history.is_known self.now.known id.now.0 }
+    {
+        self.numbers.contains_key(id)
+    }
+
+    /// The changeset of a number.
+    pub fn at(&self, number: u32) -> &Commit
+        requires { number < length self.now.known }
+        ensures { result.now ≡ changeset_at self.now.known number }
+    {
+        &self.commits[number as usize]
+    }
+
+    /// The changeset with this id.
+    pub fn get(&self, id: &Id) -> Option<&Commit>
+        ensures found { option_map (λ c. c.now) result ≡ changeset_of self.now.known id.now.0 }
+        ensures known { IsSome result ↔ (history.is_known self.now.known id.now.0 ≡ true) }
+        ensures has_id { IfSome result (λ c. model.id_of c.now ≡ id.now.0) }
+    {
+        let number = self.number_of(id)?;
+        Some(self.at(number))
+    }
+
+    /// Makes room for more changesets, so that they are added without allocation. It answers want of memory also where
+    /// there would be more than 2,147,483,648 changesets, which the capacity of a journal doesn't let come about.
+    pub fn reserve(&mut self, more: u32) -> Result<(), AllocError>
+        ensures known { self.new.known ≡ self.old.known }
+        ensures kept { self.old.room ≤ self.new.room }
+        ensures room { OnOk result (more ≤ self.new.room) }
+        ensures ready { more ≤ self.old.room → IsOk result }
+    {
+        if more as usize > MOST_CHANGESETS - self.commits.len() {
+            return Err(AllocError);
+        }
+        self.commits.try_reserve(more as usize)?;
+        self.numbers.try_reserve(more as usize)?;
+        self.chain.reserve(more)?;
+        Ok(())
+    }
+
+    /// The first parent that isn't known.
+    pub fn unknown_parent<'a>(&self, commit: &'a Commit) -> Option<&'a Id>
+        ensures first { option_map (λ p. p.now.0) result ≡ find (λ p. not (history.is_known self.now.known p)) commit.now.parents }
+        ensures none { IsNone result → AllByRecursion (λ p. history.is_known self.now.known p ≡ true) commit.now.parents }
+    {
+        let parents = commit.changeset().parents();
+        parents.iter().find(|parent| !self.is_known(parent))
+    }
+
+    /// Adds a changeset, and answers its number.
+    pub fn add(&mut self, commit: Commit) -> u32
+        requires room { 0 < self.old.room }
+        requires new { history.is_known self.old.known (model.id_of commit) ≡ false }
+        requires parents { AllByRecursion (λ p. history.is_known self.old.known p ≡ true) commit.parents }
+        ensures known { self.new.known ≡ self.old.known ++ with_id commit ∷ [] }
+        ensures number { result ≡ length self.old.known }
+        ensures room { self.old.room ≤ self.new.room + 1 }
+    {
+        let parent = self.parent_of(&commit);
+        let number = self.chain.add_reserved(parent);
+        let Ok(_) = self.numbers.insert(commit.id(), number) else {
+            unreachable!();
+        };
+        self.commits.push_reserved(commit);
+        number
+    }
+
+    // The number of the first parent.
+    fn parent_of(&self, commit: &Commit) -> Option<u32>
+        ensures number { result ≡ option_and_then (number_in self.now.known) (first_parent commit.now) }
+        ensures in_range { IfSome result (λ number. number < length self.now.known) }
+    {
+        let parent = commit.changeset().parents().first()?;
+        self.number_of(parent)
+    }
+
+    /// Where the chain of a draft parts from that of a head, if they have a changeset in common. It costs at most a step
+    /// for each changeset from the two down to that one, and no memory.
+    pub fn fork(&self, head: &Id, draft: &Id) -> Option<Fork>
+        requires head { history.is_known self.now.known head.now.0 ≡ true }
+        requires draft { history.is_known self.now.known draft.now.0 ≡ true }
+        ensures fork { option_map (fork_between self.now.known) result ≡ pushrebase.fork self.now.known head.now.0 draft.now.0 }
+        ensures is_fork { IfSome result (IsFork self.now.known) }
+    {
+        let head = self.number_of(head).unwrap();
+        let draft = self.number_of(draft).unwrap();
+        let root = self.chain.nearest(head, draft)?;
+        Some(Fork { root, head, draft })
+    }
+
+    /// How many changesets of the draft's chain follow the root, at once.
+    pub fn stack_length(&self, fork: &Fork) -> u32
+        requires { IsFork self.now.known fork.now }
+        ensures { result ≡ length (fork_between self.now.known fork.now).stack }
+    {
+        self.distance(fork.root, fork.draft)
+    }
+
+    /// How many changesets of the head's chain follow the root, at once.
+    pub fn range_length(&self, fork: &Fork) -> u32
+        requires { IsFork self.now.known fork.now }
+        ensures { result ≡ length (fork_between self.now.known fork.now).range }
+    {
+        self.distance(fork.root, fork.head)
+    }
+
+    /// The changesets of the draft's chain that follow the root, oldest first, in one allocation of their number.
+    pub fn stack<'a>(&'a self, alloc: Global, fork: &Fork) -> Result<Vec<&'a Changeset>, AllocError>
+        requires { IsFork self.now.known fork.now }
+        ensures { IfOk result (λ stack. map (λ c. c.now) stack.items ≡ (fork_between self.now.known fork.now).stack) }
+    {
+        self.following(alloc, fork.root, fork.draft)
+    }
+
+    /// The changesets of the head's chain that follow the root, oldest first, in one allocation of their number.
+    pub fn range<'a>(&'a self, alloc: Global, fork: &Fork) -> Result<Vec<&'a Changeset>, AllocError>
+        requires { IsFork self.now.known fork.now }
+        ensures { IfOk result (λ range. map (λ c. c.now) range.items ≡ (fork_between self.now.known fork.now).range) }
+    {
+        self.following(alloc, fork.root, fork.head)
+    }
+
+    // How many changesets of the chain of a number follow an ancestor.
+    fn distance(&self, ancestor: u32, last: u32) -> u32
+        requires { IsAncestor self.now.known ancestor last }
+        ensures { result ≡ length (pushrebase.following (known_at self.now.known ancestor) (chain_at self.now.known last)) }
+    {
+        self.chain.distance(ancestor, last)
+    }
+
+    // These changesets, oldest first.
+    fn following<'a>(
+        &'a self,
+        alloc: Global,
+        ancestor: u32,
+        last: u32,
+    ) -> Result<Vec<&'a Changeset>, AllocError>
+        requires { IsAncestor self.now.known ancestor last }
+        ensures { IfOk result (λ found. map (λ c. c.now) found.items ≡ pushrebase.following (known_at self.now.known ancestor) (chain_at self.now.known last)) }
+    {
+        let count = self.chain.distance(ancestor, last);
+        let mut found = Vec::with_capacity(alloc, count as usize)?;
+        let mut number = last;
+        for _ in 0..count {
+            found.push_reserved(self.at(number).changeset());
+            number = self.chain.parent(number).unwrap();
+        }
+        found.reverse();
+        Ok(found)
+    }
+}

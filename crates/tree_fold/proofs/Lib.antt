@@ -1,0 +1,8 @@
+pub mod Ranges
+pub mod Files
+pub mod Steps
+pub mod AtOnce
+pub mod Trees
+pub mod Texts
+pub mod Children
+pub mod Accepted
