@@ -5,6 +5,8 @@ use crate::run::{Status, run};
 use ports::{Failed, MemSink, MemSource, Source};
 use std::test::Fail;
 
+mod commits;
+
 const STORED_ABC: &str =
     "HTTP/1.1 200 OK\r\nContent-Type: application/json\r\nContent-Length: 99\r\n\r\n{\"code\":\"content\",\"id\":\"ba7816bf8f01cfea414140de5dae2223b00361a396177a9cb410ff61f20015ad\",\"size\":3}";
 
@@ -64,7 +66,7 @@ fn session(
     let words = words(rt, &["hg_cli", "session", "repository"])?;
     let bytes = Vec::from_slice(alloc, input)?;
     let mut source = MemSource::new(bytes, piece.max(1), Vec::from_slice(alloc, reads)?);
-    let mut sink = MemSink::new(alloc, 4096, Vec::from_slice(alloc, writes)?)?;
+    let mut sink = MemSink::new(alloc, 65_536, Vec::from_slice(alloc, writes)?)?;
     let ran = run(alloc, words.as_slice(), &mut source, &mut sink);
     Ok(Outcome {
         status: ran.status,

@@ -1,5 +1,5 @@
 -- The steps of a session: each takes it on, or to its end.
-use Rattle.std.proofs.Common.{◌≡◌, ◌⊎◌, ℕ, ◌+◌, ◌-◌, ◌<◌, ◌≤◌, Bool, true, false, List, [], ◌∷◌, ◌++◌, length, take, drop, refl, sym, ap, subst, ◌∙◌, inl, inr, arith, append_assoc, length-append}
+use Rattle.std.proofs.Common.{◌≡◌, ℕ, ◌-◌, ◌<◌, ◌≤◌, true, false, List, [], ◌∷◌, ◌++◌, length, take, drop, refl, sym, ap, subst, ◌∙◌, inl, inr, arith, append_assoc, length-append}
 use Rattle.std.specs.Prelude.{Option, None, Some}
 use Rattle.std.specs.List.{concat}
 use Rattle.std.proofs.lemmas.List.{append-nil, take-append-drop, length-take-le}
@@ -11,12 +11,12 @@ use Rattle.http_model.specs.Refusals.{status_of}
 use Rattle.http_model.specs.Stream.{Request, Whole, Partial, Refuses, Begins, skip_blank}
 use Rattle.http_model.specs.Session as http
 use Rattle.ports.specs.Streams.{Puts, PutsFront, Takes}
-use Rattle.session_model.specs.Session.{Answers, Serves, Session, Broken, closing, closing_memory}
+use Rattle.session_model.specs.Session.{Answers, Serves, closing, closing_memory}
 use Rattle.http_front.specs.declared.ended.Ended.{Ended}
 use Rattle.http_front.specs.declared.ended.Ended.TheVariants as ended
 use Rattle.http_front.specs.Turns.{SentLast, Whole_text, Cut_text}
 use Rattle.http_model.proofs.Sessions.{takes_none, takes_more, takes_skipped, takes_one, ends_closed, ends_refused, ends_spent, ends_between, ends_cut}
-use Rattle.http_front.specs.Serving.{Start, Consumes, LeavesOf, IsDrained, Going, Finished}
+use Rattle.http_front.specs.Serving.{Start, Consumes, IsDrained, Going, Finished}
 
 -- ---- writes
 

@@ -1,5 +1,5 @@
 -- One turn, put together from its parts.
-use Rattle.std.proofs.Common.{◌≡◌, ℕ, ◌+◌, ◌-◌, ◌*◌, ◌<◌, ◌≤◌, Bool, true, false, cond, List, [], ◌∷◌, ◌++◌, length, take, drop, refl, sym, ap, subst, ◌∙◌, inl, inr, arith, length-append, length-drop}
+use Rattle.std.proofs.Common.{◌≡◌, ℕ, ◌+◌, ◌-◌, ◌*◌, ◌<◌, ◌≤◌, Bool, true, false, cond, List, ◌++◌, length, take, drop, refl, sym, ap, subst, ◌∙◌, inl, inr, arith, length-append, length-drop}
 use Rattle.std.specs.Prelude.{Option, None, Some, nat_le, IfNone}
 use Rattle.std.proofs.lemmas.List.{length-take-le}
 use Rattle.std.proofs.lemmas.Bool.{leb-true}
@@ -7,7 +7,7 @@ use Rattle.history_model.specs.Repository.{Repository}
 use Rattle.http_model.specs.declared.refusal.Refusal.{Refusal}
 use Rattle.http_model.specs.Refusals.{status_of}
 use Rattle.http_model.specs.Head.{Head, body_length, lengths_of, refusal_of}
-use Rattle.http_model.specs.Stream.{Request, Next, Whole, Partial, Refuses, Begins, skip_blank, after_head, unless_refused, with_body, request_of, most_head, is_head_only}
+use Rattle.http_model.specs.Stream.{Request, Whole, Partial, Refuses, Begins, skip_blank, after_head, unless_refused, with_body, request_of, most_head, is_head_only}
 use Rattle.http_model.proofs.Blank.{skip_shortens}
 use Rattle.http_model.proofs.Streams.{head_end_two}
 use Rattle.session_model.specs.Responses.{text_of}
@@ -15,7 +15,7 @@ use Rattle.session_model.specs.Bodies.{memory}
 use Rattle.session_model.specs.Session.{Answers, closing}
 use Rattle.http_front.specs.declared.ended.Ended.{Ended}
 use Rattle.http_front.specs.declared.ended.Ended.TheVariants as ended
-use Rattle.http_front.specs.Serving.{Start, Going, Finished, Goes, TurnGoes}
+use Rattle.http_front.specs.Serving.{Going, Finished, Goes, TurnGoes}
 use Rattle.http_front.specs.Turns.{Sent, SentLast, Whole_text, Cut_text, ReadMore, Fed}
 use Rattle.http_front.proofs.Steps.{answered, closes, cut_answer, refuses, cut_refusal, cut_read, reads, spends, ends_whole, ends_inside}
 

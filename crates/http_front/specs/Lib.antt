@@ -1,5 +1,4 @@
-pub mod Seen
-pub mod Asked
-pub mod Refusing
+pub mod Answered
+pub mod Reading
 pub mod Serving
 pub mod Turns

@@ -2,11 +2,10 @@
 #![tactic(auto)]
 
 mod answering;
-pub mod asking;
-mod bodies;
+mod changes;
 pub mod ended;
 mod link;
+mod reads;
 mod refusing;
-pub mod response;
 pub mod room;
 pub mod session;

@@ -1,19 +1,20 @@
 //! The text of one response, in room that is taken when the session begins.
-ghost use Rattle.std.specs.Prelude.{◌≡◌, ◌≤◌, ◌<◌, ◌^◌, [], length, codes, decimal, None, OnOk, IfOk};
-ghost use Rattle.session_model.specs.Responses.{text_of};
-ghost use Rattle.session_model.specs.Bodies.{json, of_code, coded};
-ghost use Rattle.session_model.specs.Asking.{content_body};
-ghost use Rattle.http_front.specs.Seen.{response_of, coded_response};
+ghost use Rattle.std.specs.Prelude.{◌≡◌, ◌+◌, ◌≤◌, [], length, None, OnOk, IfOk, vec_capacity};
+ghost use Rattle.session_model.specs.Responses.{text_of, Json};
+ghost use Rattle.session_model.specs.Bodies.{json, coded, content_body, changeset_body, bookmark_body, landed_body, memory};
+ghost use Rattle.repo_machine.specs.Answering.{id_seen, ids_seen};
+ghost use Rattle.repo_text.specs.Seen.{media_of, allow_of};
 
-use crate::bodies::put_content_body;
-use crate::response::{HEAD_ROOM, Methods, Response, put, put_response};
 use object_id::Id;
-use session_model::Status;
+use repo_path::BookName;
+use repo_text::bodies::{
+    MOST_CHANGE_BODY, MOST_LANDED, put_bookmark_body, put_changeset_body, put_code_body,
+    put_content_body, put_landed_body,
+};
+use repo_text::response::{HEAD_ROOM, Media, Response, put_response};
+use session_model::{Method, Status};
 use std::alloc::{AllocError, Global};
 use std::marker::Model;
-
-/// Room for a body whose length is bounded: a code of at most 64 bytes, or a content's id and size.
-const BODY_ROOM: usize = 256;
 
 /// How a response goes out.
 #[derive(Clone, Copy, Debug, PartialEq, Eq)]
@@ -38,17 +39,17 @@ impl Model for Room {
 
     ghost view = { λ r. r.text.items };
 
-    ghost invariant = { λ r. (256 ≤ vec_capacity r.body) × (512 ≤ vec_capacity r.text) };
+    ghost invariant = { λ r. (8192 ≤ vec_capacity r.body) × (8448 ≤ vec_capacity r.text) };
 }
 
 impl Room {
-    /// Takes the room at once.
+    /// Takes the room at once: that of the longest response to a change that is granted.
     pub fn new(alloc: Global) -> Result<Room, AllocError>
         ensures { IfOk result (λ r. r ≡ []) }
     {
         Ok(Room {
-            body: Vec::with_capacity(alloc, BODY_ROOM)?,
-            text: Vec::with_capacity(alloc, HEAD_ROOM + BODY_ROOM)?,
+            body: Vec::with_capacity(alloc, MOST_CHANGE_BODY)?,
+            text: Vec::with_capacity(alloc, HEAD_ROOM + MOST_CHANGE_BODY)?,
         })
     }
 
@@ -60,21 +61,20 @@ impl Room {
     }
 
     /// Puts a response whose body is its code alone. It takes no memory.
-    pub fn put_code(&mut self, status: Status, code: &str, allow: Option<Methods>, form: Form)
+    pub fn put_code(&mut self, status: Status, code: &str, allow: Option<Method>, form: Form)
         requires { length code.now ≤ 64 }
-        ensures { self.new ≡ text_of (coded_response status code.now allow) form.close form.head_only }
+        ensures { self.new ≡ text_of (record { status = status; media = Json; allow = allow_of allow; body = coded code.now [] }) form.close form.head_only }
     {
         self.body.clear();
-        put(&mut self.body, b"{\"code\":\"");
-        put(&mut self.body, code.as_bytes());
-        put(&mut self.body, b"\"}");
-        self.text.clear();
-        let response = Response {
-            status,
-            allow,
-            body: self.body.as_slice(),
-        };
-        put_response(&mut self.text, &response, form.close, form.head_only);
+        put_code_body(&mut self.body, code);
+        put_json(&mut self.text, status, allow, self.body.as_slice(), form);
+    }
+
+    /// Puts the response where memory ran out. It takes none.
+    pub fn put_memory(&mut self, form: Form)
+        ensures { self.new ≡ text_of memory form.close form.head_only }
+    {
+        self.put_code(Status::ServiceUnavailable, "memory", None, form);
     }
 
     /// Puts the response to a content that was stored. It takes no memory.
@@ -83,27 +83,96 @@ impl Room {
     {
         self.body.clear();
         put_content_body(&mut self.body, id, size);
-        self.text.clear();
-        let response = Response {
-            status: Status::Fine,
-            allow: None,
-            body: self.body.as_slice(),
-        };
-        put_response(&mut self.text, &response, form.close, form.head_only);
+        put_json(
+            &mut self.text,
+            Status::Fine,
+            None,
+            self.body.as_slice(),
+            form,
+        );
     }
 
-    /// Puts a response with this body of JSON, for which it takes more room where it has to.
-    pub fn put_json(&mut self, status: Status, body: &str, form: Form) -> Result<(), AllocError>
-        ensures { OnOk result (self.new ≡ text_of (json status body.now) form.close form.head_only) }
+    /// Puts the response to a changeset that was stored. It takes no memory.
+    pub fn put_changeset(&mut self, id: &Id, form: Form)
+        ensures { self.new ≡ text_of (json Status.Fine (changeset_body id.now.0)) form.close form.head_only }
+    {
+        self.body.clear();
+        put_changeset_body(&mut self.body, id);
+        put_json(
+            &mut self.text,
+            Status::Fine,
+            None,
+            self.body.as_slice(),
+            form,
+        );
+    }
+
+    /// Puts the response that tells where a bookmark stands. It takes no memory.
+    pub fn put_bookmark(&mut self, head: Option<Id>, name: &BookName, form: Form)
+        ensures { self.new ≡ text_of (json Status.Fine (bookmark_body (id_seen head) name.now)) form.close form.head_only }
+    {
+        self.body.clear();
+        put_bookmark_body(&mut self.body, head, name);
+        put_json(
+            &mut self.text,
+            Status::Fine,
+            None,
+            self.body.as_slice(),
+            form,
+        );
+    }
+
+    /// Puts the response to a landing. It takes no memory.
+    pub fn put_landed(&mut self, old: &Id, ids: &[Id], form: Form)
+        requires { length ids.now ≤ MOST_LANDED }
+        ensures { self.new ≡ text_of (json Status.Fine (landed_body old.now.0 (ids_seen ids.now))) form.close form.head_only }
+    {
+        self.body.clear();
+        put_landed_body(&mut self.body, old, ids);
+        put_json(
+            &mut self.text,
+            Status::Fine,
+            None,
+            self.body.as_slice(),
+            form,
+        );
+    }
+
+    /// Puts a response with this body, for which it takes more room where it has to.
+    pub fn put_large(
+        &mut self,
+        status: Status,
+        media: Media,
+        body: &[u8],
+        form: Form,
+    ) -> Result<(), AllocError>
+        ensures { OnOk result (self.new ≡ text_of (record { status = status; media = media_of media; allow = None; body = body.now }) form.close form.head_only) }
     {
         self.text.clear();
         self.text.reserve(HEAD_ROOM.saturating_add(body.len()))?;
         let response = Response {
             status,
+            media,
             allow: None,
-            body: body.as_bytes(),
+            body,
         };
         put_response(&mut self.text, &response, form.close, form.head_only);
         Ok(())
     }
+}
+
+// Puts a response with this body of JSON in the place of the text.
+fn put_json(text: &mut Vec<u8>, status: Status, allow: Option<Method>, body: &[u8], form: Form)
+    requires { 256 + length body.now ≤ vec_capacity text.old }
+    ensures text { text.new.items ≡ text_of (record { status = status; media = Json; allow = allow_of allow; body = body.now }) form.close form.head_only }
+    ensures room { vec_capacity text.old ≤ vec_capacity text.new }
+{
+    text.clear();
+    let response = Response {
+        status,
+        media: Media::Json,
+        allow,
+        body,
+    };
+    put_response(text, &response, form.close, form.head_only);
 }

@@ -18,6 +18,7 @@ use crate::room::{Form, Room};
 use http_wire::{Cutter, MOST_PIECE, Next, Refusal, Request};
 use ports::{Failed, Sink, Source};
 use repo_machine::Machine;
+use routes::Routes;
 use session_model::Status;
 use std::alloc::{AllocError, Global};
 
@@ -32,6 +33,7 @@ const CLOSING_MEMORY: &[u8] =
 #[derive(Drop)]
 struct Desk {
     cutter: Cutter,
+    routes: Routes,
     room: Room,
     piece: Vec<u8>,
     // How many more bytes may be read.
@@ -44,6 +46,7 @@ impl Desk {
     {
         Ok(Desk {
             cutter: Cutter::new(alloc)?,
+            routes: Routes::new(alloc)?,
             room: Room::new(alloc)?,
             piece: vec![in alloc; 0; MOST_PIECE]?,
             budget: MOST_READ,
@@ -55,6 +58,7 @@ impl Desk {
 fn serve_request<K: Sink>(
     alloc: Global,
     who: u64,
+    routes: &Routes,
     machine: &mut Machine,
     room: &mut Room,
     sink: &mut K,
@@ -68,7 +72,7 @@ fn serve_request<K: Sink>(
     ensures faults { K.faults sink.old ≤ K.faults sink.new }
     ensures cause { result ≡ Some Ended.LinkFault → Rose (K.faults sink.old) (K.faults sink.new) }
 {
-    answer(alloc, who, machine, room, request);
+    answer(alloc, who, routes, machine, room, request);
     send(room, sink, request.close)
 }
 
@@ -79,7 +83,7 @@ fn serve_unread<K: Sink>(room: &mut Room, sink: &mut K, form: Form) -> Option<En
     ensures faults { K.faults sink.old ≤ K.faults sink.new }
     ensures cause { result ≡ Some Ended.LinkFault → Rose (K.faults sink.old) (K.faults sink.new) }
 {
-    room.put_code(Status::ServiceUnavailable, "memory", None, form);
+    room.put_memory(form);
     send(room, sink, form.close)
 }
 
@@ -142,7 +146,15 @@ fn turn<S: Source, K: Sink>(
 {
     match desk.cutter.next(alloc) {
         Next::Message(request) => {
-            serve_request(alloc, who, machine, &mut desk.room, sink, &request)
+            serve_request(
+                alloc,
+                who,
+                &desk.routes,
+                machine,
+                &mut desk.room,
+                sink,
+                &request,
+            )
         }
         Next::Memory { close, head_only } => {
             serve_unread(&mut desk.room, sink, Form { close, head_only })

@@ -1,16 +1,31 @@
 -- The entries of the code as those of the definitions.
---     body_of body, entry_of entry, entries_of entries      what they say, without where they lie in memory
-use Rattle.std.specs.Prelude.{List, map}
+--     id_of_option x      the bytes of an id that may be absent
+--     move_of, landing_of, body_of      what they say, without where they lie in memory
+--     commits_length cs      the bytes of the spellings, each behind its length
+use Rattle.std.specs.Prelude.{ℕ, ◌+◌, List, length, sum_by, Option, option_map}
+use Rattle.byte_fields.specs.Bytes as bytes
+use Rattle.object_id.specs.declared.id.Id.{Id}
+use Rattle.changeset_model.specs.Changeset.{Changeset, spelling}
 use Rattle.history_model.specs.History as model
 use Rattle.repo_events.specs.declared.body.Body.{Body}
-use Rattle.repo_events.specs.declared.body.Body.TheVariants.{Content}
-use Rattle.repo_events.specs.declared.body.Entry.{Entry}
+use Rattle.repo_events.specs.declared.body.Body.TheVariants.{Content, Change, Book, Land}
+use Rattle.repo_events.specs.declared.body.Move.{Move}
+use Rattle.repo_events.specs.declared.body.Landing.{Landing}
+
+abbrev pub id_of_option : Option Id → Option bytes.Id
+id_of_option x = option_map (λ id. id.0) x
+
+abbrev pub move_of : Move → model.Move
+move_of m = record { name = m.name; from = id_of_option m.from; to = id_of_option m.to }
+
+abbrev pub landing_of : Landing → model.Landing
+landing_of l = record { name = l.name; old = l.old.0; draft = l.draft.0; new = l.new.items }
 
 abbrev pub body_of : Body → model.Body
 body_of (Content id length) = model.Content id.0 length
+body_of (Change commit) = model.Change commit
+body_of (Book movement) = model.Book (move_of movement)
+body_of (Land landing) = model.Land (landing_of landing)
 
-abbrev pub entry_of : Entry → model.Entry
-entry_of e = record { who = e.who; body = body_of e.body }
-
-abbrev pub history_of : List Entry → List model.Entry
-history_of es = map entry_of es
+abbrev pub commits_length : List Changeset → ℕ
+commits_length cs = sum_by (λ c. 4 + length (spelling c)) cs

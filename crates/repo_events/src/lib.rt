@@ -3,7 +3,14 @@
 #![tactic(auto)]
 
 pub mod body;
-pub mod payload;
+pub mod decoding;
+pub mod encoding;
+mod field_fault;
+mod mark;
+mod parts;
+pub mod payload_fault;
 
-pub use body::{Body, Entry};
-pub use payload::{BadPayload, MOST_PAYLOAD, decode_payload, encode_entry};
+pub use body::{Body, Landing, Move};
+pub use decoding::{MOST_PAYLOAD, decode_payload};
+pub use encoding::encode_entry;
+pub use payload_fault::PayloadFault;

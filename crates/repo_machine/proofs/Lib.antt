@@ -1,2 +1,21 @@
+pub mod Within
+pub mod KnownOnce
+pub mod Growing
+pub mod Judging
+pub mod Entering
 pub mod Putting
-mod PlainReplies
+pub mod Moving
+pub mod PlainReplies
+pub mod Once
+pub mod Checks
+pub mod Uploading
+pub mod Logging
+pub mod LandingSteps
+pub mod LandingPaths
+pub mod LandingAlone
+pub mod LandingAdding
+pub mod LandingLengths
+pub mod LandingPlans
+pub mod LandingLaws
+pub mod LandingEntry
+pub mod LastThat

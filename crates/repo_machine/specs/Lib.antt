@@ -1,2 +1,9 @@
 pub mod Answering
+pub mod Entering
 pub mod Indexes
+pub mod Landings
+pub mod Records
+pub mod Plain
+pub mod Checking
+pub mod Faults
+pub mod Lines

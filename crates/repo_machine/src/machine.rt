@@ -1,17 +1,21 @@
 //! The machine.
-ghost use Rattle.std.specs.Prelude.{◌≡◌, ◌≤◌, [], length, IsTrue};
+ghost use Rattle.std.specs.Prelude.{◌≡◌, ◌≤◌, ◌<◌, ◌+◌, ◌^◌, [], None, length, IsTrue, IfOk, IfErr};
 ghost use Rattle.history_model.specs.Journal.{is_header};
 ghost use Rattle.history_model.specs.Journal as journal;
+ghost use Rattle.history_model.specs.History.{Content, content_len};
 ghost use Rattle.reply_model.specs.Reply.{PutContent};
 ghost use Rattle.reply_model.specs.After.{Asks, Replies};
 ghost use Rattle.reply_model.specs.Legal.{IsLegal};
 ghost use Rattle.repo_machine.specs.Answering.{put_answer};
+ghost use Rattle.repo_machine.specs.Entering.{CanMake, Enters};
 
+use crate::records::{Entry, Record};
 use crate::refusal::Refusal;
+use changeset_store::ChangesetStore;
 use object_id::Id;
-use repo_events::{Body, Entry};
+use repo_path::BookName;
 use std::alloc::Global;
-use std::collections::HashMap;
+use std::collections::{BTreeMap, HashMap};
 use std::marker::Model;
 
 /// The most bytes of a content.
@@ -26,25 +30,33 @@ pub(crate) const FRAME: u64 = 5;
 /// A repository of one thread: its capacity, its entries, and what is looked up in them.
 #[derive(Drop)]
 pub struct Machine {
-    capacity: u64,
-    size: u64,
-    entries: Vec<Entry>,
-    lengths: HashMap<Id, u64>,
+    pub(crate) capacity: u64,
+    pub(crate) size: u64,
+    pub(crate) entries: Vec<Entry>,
+    pub(crate) lengths: HashMap<Id, u64>,
+    pub(crate) changesets: ChangesetStore,
+    pub(crate) heads: BTreeMap<BookName, Id>,
 }
 
 impl Model for Machine {
+    ghost use Rattle.std.specs.Prelude.{length};
+    ghost use Rattle.std.specs.List.{AllByRecursion};
     ghost use Rattle.std.specs.HashMap.{get};
+    ghost use Rattle.std.specs.BTreeMap.{get as get_ordered};
     ghost use Rattle.history_model.specs.Repository.{Repository, coded_repository};
-    ghost use Rattle.repo_events.specs.Entries.{history_of};
+    ghost use Rattle.repo_machine.specs.Answering.{id_seen};
+    ghost use Rattle.repo_machine.specs.Records.{history_of, IsWithin};
     ghost use Rattle.repo_machine.specs.Indexes.{AreIndexes};
 
     ghost Value = { Repository };
 
     ghost coded = { coded_repository };
 
-    ghost view = { λ m. record { header = record { capacity = m.capacity }; history = history_of m.entries.items } };
+    ghost view = { λ m. record { header = record { capacity = m.capacity }; history = history_of m.changesets.known m.entries.items } };
 
-    ghost invariant = { λ m. AreIndexes (record { capacity = m.capacity }) (history_of m.entries.items) (λ x. get ⟦<Id as PartialEq>⟧.eq m.lengths (record { 0 = x })) m.size };
+    ghost invariant = { λ m. AllByRecursion (IsWithin (length m.changesets.known)) m.entries.items ×
+        AreIndexes (record { capacity = m.capacity }) (history_of m.changesets.known m.entries.items) m.changesets.known
+        (λ name. id_seen (get_ordered ⟦<BookName as Ord>⟧.cmp m.heads name)) (λ x. get ⟦<Id as PartialEq>⟧.eq m.lengths (record { 0 = x })) m.size };
 }
 
 impl Machine {
@@ -58,6 +70,8 @@ impl Machine {
             size: EMPTY_SIZE,
             entries: Vec::new(alloc),
             lengths: HashMap::new(alloc),
+            changesets: ChangesetStore::new(alloc),
+            heads: BTreeMap::new(alloc),
         }
     }
 
@@ -67,30 +81,55 @@ impl Machine {
         ensures legal { IsLegal self.new.header self.new.history }
         ensures header { self.new.header ≡ self.old.header }
     {
-        let size = self.size;
+        let lengths = &self.lengths;
         if bytes.len() > MOST_CONTENT {
             return Err(Refusal::TooLong {
                 length: bytes.len() as u64,
             });
         }
         let id = Id::of(bytes);
-        if self.lengths.contains_key(&id) {
+        if lengths.contains_key(&id) {
             return Ok(id);
         }
-        let length = bytes.len() as u64;
-        let body = Body::Content { id, length };
-        let payload = body.payload_length();
-        if size + FRAME + payload > self.capacity {
+        self.enter_content(who, id, bytes.len() as u64)?;
+        Ok(id)
+    }
+
+    // Enters a content that isn't stored.
+    fn enter_content(&mut self, who: u64, id: Id, length: u64) -> Result<(), Refusal>
+        requires short { length ≤ 1_048_576 }
+        requires new { content_len self.old.history id.0 ≡ None }
+        requires made { CanMake self.old.header self.old.history (Content id.0 length) }
+        ensures reply { Enters self.old.header self.old.history who (Content id.0 length) result self.new.history }
+        ensures legal { IsLegal self.new.header self.new.history }
+        ensures header { self.new.header ≡ self.old.header }
+    {
+        let payload = 1 + length;
+        let size = self.size_with(payload)?;
+        self.entries.try_reserve(1)?;
+        self.lengths.insert(id, length)?;
+        self.entries.push_reserved(Entry {
+            who,
+            record: Record::Content { id, length },
+        });
+        self.size = size;
+        Ok(())
+    }
+
+    // The journal's size with a payload of this length more, if it fits.
+    pub(crate) fn size_with(&self, payload: u64) -> Result<u64, Refusal>
+        requires { payload < 2 ^ 63 }
+        ensures ok { IfOk result (λ size. (size ≡ journal.size self.now.history + 5 + payload) × (size ≤ self.now.header.capacity)) }
+        ensures err { IfErr result (λ e. (e ≡ Refusal.Full (journal.size self.now.history) payload) × (self.now.header.capacity < journal.size self.now.history + 5 + payload)) }
+    {
+        let size = self.size + FRAME + payload;
+        if size > self.capacity {
             return Err(Refusal::Full {
-                size,
+                size: self.size,
                 length: payload,
             });
         }
-        self.entries.try_reserve(1)?;
-        self.lengths.insert(id, length)?;
-        self.entries.push_reserved(Entry { who, body });
-        self.size = size + FRAME + payload;
-        Ok(id)
+        Ok(size)
     }
 
     /// The bytes of the journal that would stand for the history: a header, a record for each entry, and a closing gate.
@@ -105,69 +144,5 @@ impl Machine {
         ensures { result ≡ length self.now.history }
     {
         self.entries.len() as u64
-    }
-}
-
-#[cfg(test)]
-mod tests {
-    use super::*;
-    use std::test::Fail;
-
-    // Puts a content of this many bytes `x`.
-    fn put(
-        rt: &HostRuntime,
-        machine: &mut Machine,
-        length: usize,
-    ) -> Result<Result<Id, Refusal>, Fail> {
-        let bytes = vec![in rt.alloc(); b'x'; length]?;
-        Ok(machine.put_content(0, bytes.as_slice()))
-    }
-
-    #[test]
-    fn contents_are_stored_once_while_they_fit(rt: HostRuntime) -> Result<(), Fail> {
-        // The lengths of contents that are put in order, and the last one's refusal.
-        let table: [(u64, &[usize], Option<Refusal>, u64, u64); 5] = [
-            (4096, &[4073], None, 4096, 1),
-            (
-                4096,
-                &[4074],
-                Some(Refusal::Full {
-                    size: 17,
-                    length: 4075,
-                }),
-                17,
-                0,
-            ),
-            (4096, &[3, 3], None, 26, 1),
-            (
-                4096,
-                &[4073, 4073, 0],
-                Some(Refusal::Full {
-                    size: 4096,
-                    length: 1,
-                }),
-                4096,
-                1,
-            ),
-            (
-                34_359_738_368,
-                &[1_048_576, 1_048_577],
-                Some(Refusal::TooLong { length: 1_048_577 }),
-                1_048_599,
-                1,
-            ),
-        ];
-        for (capacity, lengths, refusal, size, entries) in table {
-            assert!(rt; 4096 <= capacity && capacity <= 34_359_738_368);
-            let mut machine = Machine::new(rt.alloc(), capacity);
-            let mut last = None;
-            for &length in lengths {
-                last = put(&rt, &mut machine, length)?.err();
-            }
-            assert_eq!(rt; last, refusal);
-            assert_eq!(rt; machine.size(), size);
-            assert_eq!(rt; machine.history_length(), entries);
-        }
-        Ok(())
     }
 }

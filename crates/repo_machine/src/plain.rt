@@ -5,28 +5,34 @@ ghost use Rattle.history_model.specs.Journal.{record_len, is_header};
 ghost use Rattle.history_model.specs.Journal as journal;
 ghost use Rattle.reply_model.specs.Reply.{PutContent};
 ghost use Rattle.reply_model.specs.After.{Asks, Replies};
-ghost use Rattle.repo_events.specs.Entries.{history_of, body_of};
+ghost use Rattle.repo_machine.specs.Plain.{history_of, body_of};
 ghost use Rattle.repo_machine.specs.Answering.{put_answer};
 
 use crate::machine::{EMPTY_SIZE, FRAME, MOST_CONTENT};
 use crate::refusal::Refusal;
 use object_id::Id;
-use repo_events::{Body, Entry};
 
-/// The length of the content with this id, if this body stores it.
-fn length_in(body: &Body, id: &Id) -> Option<u64>
-    ensures { result ≡ length_in id.now.0 (body_of body.now) }
+/// A content that was stored: the number of the seat that stored it, its id, and its length in bytes.
+#[derive(Clone, Copy, Debug, PartialEq, Eq)]
+pub struct StoredContent {
+    pub who: u64,
+    pub id: Id,
+    pub length: u64,
+}
+
+// The content's length, if it has this id.
+fn length_in(content: &StoredContent, id: &Id) -> Option<u64>
+    ensures { result ≡ length_in id.now.0 (body_of content.now) }
 {
-    let Body::Content { id: stored, length } = body;
-    (*stored == *id).then_some(*length)
+    (content.id == *id).then_some(content.length)
 }
 
 /// The length of the content with this id.
-pub fn content_length(entries: &[Entry], id: &Id) -> Option<u64>
-    ensures { result ≡ content_len (history_of entries.now) id.now.0 }
+pub fn content_length(contents: &[StoredContent], id: &Id) -> Option<u64>
+    ensures { result ≡ content_len (history_of contents.now) id.now.0 }
 {
-    'entries: for entry in entries {
-        let found = length_in(&entry.body, id);
+    'contents: for content in contents {
+        let found = length_in(content, id);
         if found.is_some() {
             return found;
         }
@@ -34,14 +40,14 @@ pub fn content_length(entries: &[Entry], id: &Id) -> Option<u64>
     None
 }
 
-/// The bytes of the journal that would stand for the entries, which are fewer than 2^63.
-pub fn journal_size(entries: &[Entry]) -> u64
-    requires { journal.size (history_of entries.now) < 2 ^ 63 }
-    ensures { result ≡ journal.size (history_of entries.now) }
+/// The bytes of the journal that would stand for the contents, which are fewer than 2^63.
+pub fn journal_size(contents: &[StoredContent]) -> u64
+    requires { journal.size (history_of contents.now) < 2 ^ 63 }
+    ensures { result ≡ journal.size (history_of contents.now) }
 {
     let mut size = EMPTY_SIZE;
-    'entries: for entry in entries {
-        size += FRAME + entry.body.payload_length();
+    'contents: for content in contents {
+        size += FRAME + 1 + content.length;
     }
     size
 }
@@ -49,14 +55,14 @@ pub fn journal_size(entries: &[Entry]) -> u64
 /// Stores a content for the seat `who`, and answers its id.
 pub fn put_content(
     capacity: u64,
-    entries: &mut Vec<Entry>,
+    contents: &mut Vec<StoredContent>,
     who: u64,
     bytes: &[u8],
 ) -> Result<Id, Refusal>
     requires header { is_header (record { capacity = capacity }) ≡ true }
-    requires fits { journal.size (history_of entries.old.items) ≤ capacity }
-    ensures reply { Replies (record { capacity = capacity }) (history_of entries.old.items) who (Asks (PutContent bytes.now)) (put_answer result) (history_of entries.new.items) }
-    ensures fits { journal.size (history_of entries.new.items) ≤ capacity }
+    requires fits { journal.size (history_of contents.old.items) ≤ capacity }
+    ensures reply { Replies (record { capacity = capacity }) (history_of contents.old.items) who (Asks (PutContent bytes.now)) (put_answer result) (history_of contents.new.items) }
+    ensures fits { journal.size (history_of contents.new.items) ≤ capacity }
 {
     if bytes.len() > MOST_CONTENT {
         return Err(Refusal::TooLong {
@@ -64,22 +70,19 @@ pub fn put_content(
         });
     }
     let id = Id::of(bytes);
-    if content_length(entries.as_slice(), &id).is_some() {
+    if content_length(contents.as_slice(), &id).is_some() {
         return Ok(id);
     }
-    let body = Body::Content {
-        id,
-        length: bytes.len() as u64,
-    };
-    let size = journal_size(entries.as_slice());
-    let payload = body.payload_length();
+    let size = journal_size(contents.as_slice());
+    let length = bytes.len() as u64;
+    let payload = 1 + length;
     if size + FRAME + payload > capacity {
         return Err(Refusal::Full {
             size,
             length: payload,
         });
     }
-    entries.push(Entry { who, body })?;
+    contents.push(StoredContent { who, id, length })?;
     Ok(id)
 }
 
@@ -92,9 +95,9 @@ mod tests {
     #[test]
     fn the_machine_replies_as_going_through_the_history_does(rt: HostRuntime) -> Result<(), Fail> {
         let mut machine = Machine::new(rt.alloc(), 4096);
-        let mut entries = Vec::new(rt.alloc());
+        let mut contents = Vec::new(rt.alloc());
         // The lengths of contents that are put in order, and whether each is answered by an id.
-        'contents: for (length, has_id) in [
+        'asks: for (length, has_id) in [
             (3, true),
             (0, true),
             (3, true),
@@ -106,12 +109,12 @@ mod tests {
             (0, true),
         ] {
             let bytes = vec![in rt.alloc(); b'x'; length]?;
-            let expected = put_content(4096, &mut entries, 7, bytes.as_slice());
+            let expected = put_content(4096, &mut contents, 7, bytes.as_slice());
             assert_eq!(rt; expected.is_ok(), has_id);
             assert_eq!(rt; machine.put_content(7, bytes.as_slice()), expected);
-            assert_eq!(rt; machine.size(), journal_size(entries.as_slice()));
+            assert_eq!(rt; machine.size(), journal_size(contents.as_slice()));
         }
-        assert_eq!(rt; (machine.history_length(), entries.len()), (5, 5));
+        assert_eq!(rt; (machine.history_length(), contents.len()), (5, 5));
         Ok(())
     }
 }

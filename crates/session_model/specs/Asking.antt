@@ -1,52 +1,74 @@
 -- What a request asks for, and the response to each answer.
---     asked q      the change that a request asks for, or the response to one that asks for nothing
---     response_to ask answer      the response to a change that is answered so
-use Rattle.std.specs.Prelude.{ℕ, nat_eq, Bool, ◌&&◌, if◌then◌else◌, List, [], ◌∷◌, ◌++◌, length, bytes_eq, codes, decimal, Option, None, Some}
-use Rattle.std.specs.List.{starts_with}
-use Rattle.byte_fields.specs.Bytes.{is_text}
-use Rattle.reply_model.specs.Reply.{Ask, PutContent, PutChangeset, SetBookmark, LandDraft, Granted, ContentPut, ChangesetPut, BookmarkSet, Landed, Refusal, Down, TooLong, BadEncoding, SelfConflict, Merge, NoParent, NoContent, WrongSize, Collision, NoChangeset, Moved, NoBookmark, NoRoot, TooFarBehind, AlreadyIn, StackTooLong, Clash, TooLarge, Full}
+--     asked q      the change or the read that a request asks for, or the response to one that asks for nothing
+--     granted ask g, refused refusal      the response to a change that is granted and that is refused
+--     seen question s, absent a      the response to a read that shows something, and to one that doesn't
+--     change_response ask answer, read_response question answer      the response to each answer
+use Rattle.std.specs.Prelude.{ℕ, if◌then◌else◌, List, [], ◌∷◌, length, bytes_eq, codes, decimal, Option, None, Some, Result, Ok, Err}
+use Rattle.reply_model.specs.Log.{lines_of}
+use Rattle.reply_model.specs.Reply.{◌>>=◌, Ask, PutContent, PutChangeset, SetBookmark, LandDraft, Granted, ContentPut, ChangesetPut, BookmarkSet, Landed, Refusal, Down, TooLong, BadEncoding, SelfConflict, Merge, NoParent, NoContent, WrongSize, Collision, NoChangeset, Moved, NoBookmark, NoRoot, TooFarBehind, AlreadyIn, StackTooLong, Clash, TooLarge, Full, Question, HeadOf, ChangesetOf, LogFrom, Seen, SeenHead, SeenBytes, SeenLog, Absent, AbsentContent, AbsentChangeset, NoPath, NotADir, NotAFile}
 use Rattle.reply_model.specs.After.{Answer, Grants, Refuses, Shows, Lacks, Roots, DiskFault, ReadFault, BadBytes, NodeCollision, Memory}
 use Rattle.http_model.specs.Head.{path_of}
 use Rattle.http_model.specs.Stream.{Request}
 use Rattle.session_model.specs.declared.status.Status.TheVariants.{Fine, BadRequest, NotFound, MethodNotAllowed, Conflict, ContentTooLarge, UnprocessableContent, InternalServerError, InsufficientStorage}
+use Rattle.session_model.specs.Methods.{method_text}
 use Rattle.session_model.specs.Responses.{Response, Json}
-use Rattle.session_model.specs.Bodies.{coded, id_text, maybe_id_text, path_text, json, of_code, memory}
+use Rattle.session_model.specs.Bodies.{coded, id_text, maybe_id_text, path_text, content_body, changeset_body, bookmark_body, landed_body, log_body, json, of_code, octets, memory}
+use Rattle.session_model.specs.Routes.{Route, ContentsRoute, ChangesetsRoute, ChangesetRoute, HeadRoute, MoveRoute, LandRoute, LogRoute, is_target, route_of, method_of}
+use Rattle.session_model.specs.Parameters.{name_parameter, id_parameter, maybe_id_parameter, number_parameter}
 
 -- ---- requests
 
 pub data Asked : Type 0 where
   Changes : Ask → Asked
+  Looks : Question → Asked
   Fails : Response → Asked
 
-pub data Route : Type 0 where
-  ContentRoute : Route
+-- the parameters from left to right: the first that is refused decides
+abbrev pub by_route : Route → List ℕ → Result Asked Response
+by_route ContentsRoute body = Ok (Changes (PutContent body))
+by_route ChangesetsRoute body = Ok (Changes (PutChangeset body))
+by_route (ChangesetRoute id) body = do
+  x ← id_parameter id
+  Ok (Looks (ChangesetOf x))
+by_route (HeadRoute name) body = do
+  m ← name_parameter name
+  Ok (Looks (HeadOf m))
+by_route (MoveRoute name from to) body = do
+  m ← name_parameter name
+  before ← maybe_id_parameter from
+  after ← maybe_id_parameter to
+  Ok (Changes (SetBookmark m before after))
+by_route (LandRoute name draft) body = do
+  m ← name_parameter name
+  d ← id_parameter draft
+  Ok (Changes (LandDraft m d))
+by_route (LogRoute from) body = do
+  n ← number_parameter from
+  Ok (Looks (LogFrom n))
 
--- the target before any `?` begins with a slash and is UTF-8
-abbrev pub is_target : List ℕ → Bool
-is_target path = starts_with nat_eq path (codes "/") && is_text path
-
-abbrev pub route_of : List ℕ → Option Route
-route_of path = if bytes_eq path (codes "/content") then Some ContentRoute else None
+abbrev pub asked_or : Result Asked Response → Asked
+asked_or (Ok asked) = asked
+asked_or (Err r) = Fails r
 
 -- the route has another method
 abbrev pub not_allowed : List ℕ → Response
 not_allowed methods = record { status = MethodNotAllowed; media = Json; allow = Some methods; body = coded (codes "method") [] }
 
-abbrev pub by_route : Option Route → Request → Asked
-by_route None q = Fails (of_code NotFound (codes "no-route"))
-by_route (Some ContentRoute) q = if bytes_eq q.method (codes "PUT") then Changes (PutContent q.body) else Fails (not_allowed (codes "PUT"))
+abbrev pub on_route : Option Route → Request → Asked
+on_route None q = Fails (of_code NotFound (codes "no-route"))
+on_route (Some route) q = if bytes_eq q.method (method_text (method_of route)) then asked_or (by_route route q.body) else Fails (not_allowed (method_text (method_of route)))
 
 abbrev pub asked : Request → Asked
-asked q = let path = path_of q.target in if is_target path then by_route (route_of path) q else Fails (of_code BadRequest (codes "bad-target"))
+asked q = let path = path_of q.target in if is_target path then on_route (route_of path) q else Fails (of_code BadRequest (codes "bad-target"))
 
--- ---- responses
+-- ---- responses to changes
 
-abbrev pub content_body : List ℕ → ℕ → List ℕ
-content_body x size = coded (codes "content") ((codes "id", id_text x) ∷ (codes "size", decimal size) ∷ [])
-
+-- no change is granted what another one asks for
 abbrev pub granted : Ask → Granted → Response
 granted (PutContent bytes) (ContentPut x) = json Fine (content_body x (length bytes))
--- nothing else is granted to a request yet
+granted (PutChangeset bytes) (ChangesetPut x) = json Fine (changeset_body x)
+granted (SetBookmark name from to) BookmarkSet = json Fine (bookmark_body to name)
+granted (LandDraft name draft) (Landed old ids) = json Fine (landed_body old ids)
 granted _ _ = of_code Fine []
 
 abbrev pub refused : Refusal → Response
@@ -70,15 +92,45 @@ refused (Clash left right) = json Conflict (coded (codes "clash") ((codes "left"
 refused (TooLarge n) = json ContentTooLarge (coded (codes "too-large") ((codes "length", decimal n) ∷ []))
 refused (Full size n) = json InsufficientStorage (coded (codes "full") ((codes "length", decimal n) ∷ (codes "size", decimal size) ∷ []))
 
-abbrev pub response_to : Ask → Answer → Response
-response_to ask (Grants g) = granted ask g
-response_to ask (Refuses refusal) = refused refusal
-response_to ask DiskFault = of_code InternalServerError (codes "disk-fault")
-response_to ask Memory = memory
+abbrev pub change_response : Ask → Answer → Response
+change_response ask (Grants g) = granted ask g
+change_response ask (Refuses refusal) = refused refusal
+change_response ask DiskFault = of_code InternalServerError (codes "disk-fault")
+change_response ask Memory = memory
 -- no other answer is given to a change
-response_to ask (Shows seen) = memory
-response_to ask (Lacks absent) = memory
-response_to ask (Roots fs un) = memory
-response_to ask ReadFault = memory
-response_to ask (BadBytes wanted found) = memory
-response_to ask (NodeCollision x) = memory
+change_response ask (Shows s) = memory
+change_response ask (Lacks a) = memory
+change_response ask (Roots fs un) = memory
+change_response ask ReadFault = memory
+change_response ask (BadBytes wanted found) = memory
+change_response ask (NodeCollision x) = memory
+
+-- ---- responses to reads
+
+-- no read shows what another one asks for
+abbrev pub seen : Question → Seen → Response
+seen (HeadOf name) (SeenHead None) = of_code NotFound (codes "no-bookmark")
+seen (HeadOf name) (SeenHead (Some x)) = json Fine (bookmark_body (Some x) name)
+seen (ChangesetOf x) (SeenBytes bytes) = octets bytes
+seen (LogFrom n) (SeenLog page total) = json Fine (log_body n (lines_of page) total)
+seen _ _ = of_code Fine []
+
+abbrev pub absent : Absent → Response
+absent (AbsentContent x) = json NotFound (coded (codes "no-content") ((codes "id", id_text x) ∷ []))
+absent (AbsentChangeset x) = json NotFound (coded (codes "no-changeset") ((codes "id", id_text x) ∷ []))
+absent NoPath = of_code NotFound (codes "no-path")
+absent NotADir = of_code NotFound (codes "not-a-dir")
+absent NotAFile = of_code NotFound (codes "not-a-file")
+
+abbrev pub read_response : Question → Answer → Response
+read_response question (Shows s) = seen question s
+read_response question (Lacks a) = absent a
+read_response question ReadFault = of_code InternalServerError (codes "read-fault")
+read_response question (BadBytes wanted found) = json InternalServerError (coded (codes "bad-bytes") ((codes "found", id_text found) ∷ (codes "wanted", id_text wanted) ∷ []))
+read_response question (NodeCollision x) = json Conflict (coded (codes "collision") ((codes "id", id_text x) ∷ []))
+read_response question Memory = memory
+-- no other answer is given to a read
+read_response question (Grants g) = memory
+read_response question (Refuses refusal) = memory
+read_response question (Roots fs un) = memory
+read_response question DiskFault = memory

@@ -9,8 +9,7 @@ use Rattle.std.specs.List.{concat}
 use mathlib.Core.List.{IsPrefix}
 use Rattle.history_model.specs.History.{Entry}
 use Rattle.history_model.specs.Journal.{Header}
-use Rattle.reply_model.specs.Reply.{Ask}
-use Rattle.reply_model.specs.After.{Answer, Asks, Replies}
+use Rattle.reply_model.specs.After.{Answer, Call, Asks, Looks, Replies}
 use Rattle.http_model.specs.declared.refusal.Refusal.{Refusal}
 use Rattle.http_model.specs.declared.refusal.Refusal.TheVariants as refusals
 use Rattle.http_model.specs.Refusals.{code_of, status_of}
@@ -20,26 +19,28 @@ use Rattle.session_model.specs.declared.status.Status.{Status}
 use Rattle.session_model.specs.declared.status.Status.TheVariants.{BadRequest, LengthRequired, ContentTooLarge, HeaderFieldsTooLarge, NotImplemented}
 use Rattle.session_model.specs.Responses.{Response, text_of}
 use Rattle.session_model.specs.Bodies.{of_code, memory}
-use Rattle.session_model.specs.Asking.{Asked, Changes, Fails, asked, response_to}
+use Rattle.session_model.specs.Asking as asking
+use Rattle.session_model.specs.Asking.{Asked, asked, change_response, read_response}
 
 -- ---- one request
 
 abbrev pub text_for : Request → Response → List ℕ
 text_for q r = text_of r q.close (is_head_only q)
 
--- a change is answered as the repository of one thread answers it at h
-pub record AnswersChange (header : Header) (who : ℕ) (h : List Entry) (ask : Ask) (q : Request) (out : List ℕ) (after : List Entry) : Type 0 where
+-- a call is answered as the repository of one thread answers it at h
+pub record AnswersCall (header : Header) (who : ℕ) (h : List Entry) (call : Call) (respond : Answer → Response) (q : Request) (out : List ℕ) (after : List Entry) : Type 0 where
   pub answer : Answer
-  pub replies : Replies header h who (Asks ask) answer after
-  pub text : out ≡ text_for q (response_to ask answer)
+  pub replies : Replies header h who call answer after
+  pub text : out ≡ text_for q (respond answer)
 
 pub record AnswersAlone (h : List Entry) (q : Request) (r : Response) (out : List ℕ) (after : List Entry) : Type 0 where
   pub same : after ≡ h
   pub text : out ≡ text_for q r
 
 abbrev pub AnswersAsked : Header → ℕ → List Entry → Asked → Request → List ℕ → List Entry → Type 0
-AnswersAsked header who h (Changes ask) q out after = AnswersChange header who h ask q out after
-AnswersAsked header who h (Fails r) q out after = AnswersAlone h q r out after
+AnswersAsked header who h (asking.Changes ask) q out after = AnswersCall header who h (Asks ask) (change_response ask) q out after
+AnswersAsked header who h (asking.Looks question) q out after = AnswersCall header who h (Looks question) (read_response question) q out after
+AnswersAsked header who h (asking.Fails r) q out after = AnswersAlone h q r out after
 
 -- want of memory may stand in place of an answer, and changes nothing
 abbrev pub Answers : Header → ℕ → List Entry → Request → List ℕ → List Entry → Type 0

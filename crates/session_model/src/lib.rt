@@ -2,6 +2,8 @@
 //! and what bytes go out for the bytes that came in.
 #![tactic(auto)]
 
+pub mod method;
 pub mod status;
 
+pub use method::Method;
 pub use status::Status;

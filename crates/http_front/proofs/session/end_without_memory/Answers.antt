@@ -1,4 +1,4 @@
-use Rattle.std.proofs.Common.{◌≡◌, List, ℕ, refl, sym, subst, codes}
+use Rattle.std.proofs.Common.{◌≡◌, refl, subst, codes}
 use Rattle.std.specs.Fmt.{digits}
 use Rattle.ports.specs.Streams.{Puts, PutsFront}
 use Rattle.session_model.specs.Session.{closing_memory}

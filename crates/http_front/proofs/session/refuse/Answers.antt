@@ -1,8 +1,8 @@
-use Rattle.std.proofs.Common.{◌≡◌, ℕ, List, Option, None, true, false, subst, ◌∙◌}
+use Rattle.std.proofs.Common.{◌≡◌, ℕ, List, Option, true, false, subst, ◌∙◌}
 use Rattle.session_model.specs.Responses.{text_of}
 use Rattle.session_model.specs.Session.{closing}
 use Rattle.http_front.specs.declared.ended.Ended.TheVariants.{Refused}
-use Rattle.http_front.specs.Seen.{coded_response}
+use Rattle.session_model.specs.Bodies.{of_code}
 use Rattle.http_front.specs.Turns.{SentLast}
 use Rattle.http_model.specs.Refusals.{status_of}
 use Rattle.http_front.specs.declared.ended.Ended.{Ended}
@@ -14,6 +14,6 @@ told end n m text other before after e f s = subst (λ t. SentLast end (Refused 
 pub returns-clause-sent : goal.returns-clause-sent
 returns-clause-sent g c =
     let text : c.put_code.new.self ≡ closing c.args.refusal =
-    c.put_code.ensures ∙ (λ i. text_of (coded_response (c.status_for.ensures i) (c.code.ensures i) None) true false) in
+    c.put_code.ensures ∙ (λ i. text_of (of_code (c.status_for.ensures i) (c.code.ensures i)) true false) in
     told c.send_last.result c.as_u16-status.result (status_of c.args.refusal) c.put_code.new.self (closing c.args.refusal) (g.K.Sink.written c.args.sink.now) (g.K.Sink.written c.send_last.new.sink)
     (c.as_u16-status.ensures.value ∙ c.status.ensures) text c.send_last.ensures.sent

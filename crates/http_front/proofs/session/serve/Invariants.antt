@@ -1,6 +1,6 @@
 use Rattle.std.proofs.Common.{◌≡◌, ◌≤◌, ◌+◌, ◌*◌, length, vec_len}
 use Rattle.reply_model.specs.Legal.{IsLegal}
-use Rattle.http_front.specs.Serving.{Start, Going}
+use Rattle.http_front.specs.Serving.{Going}
 use Rattle.http_front.proofs.session.serve.Given as goal
 
 abbrev pub invariant-turns : goal.invariant-turns

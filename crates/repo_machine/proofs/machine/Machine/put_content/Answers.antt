@@ -1,37 +1,26 @@
-use Rattle.std.proofs.Common.{sym, ap, ◌∙◌, arith}
-use Rattle.repo_events.specs.Entries.{history_of}
-use Rattle.repo_machine.proofs.Putting.{answers_known, answers_full, answers_memory, answers_made, indexes_grow, pushed}
+use Rattle.std.proofs.Common.{refl, sym, ◌∙◌, arith}
+use Rattle.reply_model.specs.Reply.{PutContent, ContentPut}
+use Rattle.repo_machine.specs.Answering.{put_answer}
+use Rattle.repo_machine.proofs.Judging.{replies_unchanged}
+use Rattle.repo_machine.proofs.Putting.{judged_known, judged_new, can_put}
+use Rattle.repo_machine.proofs.Entering.{passes_on}
 use Rattle.repo_machine.proofs.machine.Machine.put_content.Goals as goal
 
 pub returns-then-contains_key-clause-reply : goal.returns-then-contains_key-clause-reply
 returns-then-contains_key-clause-reply c =
-    answers_known c.self.invariant c.args.self.now c.self.view_is c.args.who c.args.bytes.now c.of-id.result.0 c.of-id.ensures c.if-bytes-gt-MOST_CONTENT.false (sym c.contains_key.ensures ∙ c.if-contains_key.true)
+    replies_unchanged _ _ c.args.who (PutContent c.args.bytes.now) (ContentPut c.of-id.result.0)
+    (judged_known c.self.invariant.1 c.args.self.now c.self.view_is c.args.bytes.now c.of-id.result.0 c.of-id.ensures c.if-bytes-gt-MOST_CONTENT.false (sym c.contains_key.ensures ∙ c.if-contains_key.true))
 
-pub returns-then-size-payload-clause-reply : goal.returns-then-size-payload-clause-reply
-returns-then-size-payload-clause-reply c =
-    answers_full c.self.invariant c.args.self.now c.self.view_is c.args.who c.args.bytes.now c.of-id.result.0 c.payload_length-payload.result c.of-id.ensures c.if-bytes-gt-MOST_CONTENT.false (sym c.contains_key.ensures ∙ c.if-contains_key.false) c.payload_length-payload.ensures c.if-size-payload.true
+pub enter_content-requires-clause-made : goal.enter_content-requires-clause-made
+enter_content-requires-clause-made c =
+    can_put c.self.invariant.1 c.args.self.now c.self.view_is c.args.bytes.now c.of-id.result.0 c.of-id.ensures c.if-bytes-gt-MOST_CONTENT.false (sym c.contains_key.ensures ∙ c.if-contains_key.false) (λ i. omega (arith, c.type_inv.bytes i))
 
-pub returns-in_err-try_reserve-clause-reply : goal.returns-in_err-try_reserve-clause-reply
-returns-in_err-try_reserve-clause-reply c =
-    answers_memory c.self.invariant c.args.self.now c.self.view_is c.args.who c.args.bytes.now _ c.from_residual.result c.from_residual.ensures.1 (ap history_of c.try_reserve.ensures.items)
-
-pub returns-in_err-insert-clause-reply : goal.returns-in_err-insert-clause-reply
-returns-in_err-insert-clause-reply c =
-    answers_memory c.self.invariant c.args.self.now c.self.view_is c.args.who c.args.bytes.now _ c.from_residual-in_err-insert.result c.from_residual-in_err-insert.ensures.1 (ap history_of c.try_reserve.ensures.items)
-
-pub invariant_of-self-2 : goal.invariant_of-self-2
-invariant_of-self-2 c =
-    indexes_grow c.self.invariant c.args.self.now c.self.view_is c.args.who c.args.bytes.now c.of-id.result.0 c.payload_length-payload.result c.of-id.ensures c.if-bytes-gt-MOST_CONTENT.false (sym c.contains_key.ensures ∙ c.if-contains_key.false) c.payload_length-payload.ensures c.if-size-payload.false
-    _ (pushed _ _ _ _ c.try_reserve.ensures.items c.push_reserved.ensures.items)
-    (λ i. omega (arith, c.type_inv.bytes i)) _ (λ y. c.in_ok-insert.ensures.updates.0 (record { 0 = y }))
+pub returns-in_err-enter_content-clause-reply : goal.returns-in_err-enter_content-clause-reply
+returns-in_err-enter_content-clause-reply c =
+    passes_on put_answer (λ e. refl) _ _ c.args.who _ _ (PutContent c.args.bytes.now) (ContentPut c.of-id.result.0) _ c.from_residual.result c.from_residual.ensures.1 c.in_err-enter_content.ensures.reply
+    (judged_new c.self.invariant.1 c.args.self.now c.self.view_is c.args.bytes.now c.of-id.result.0 c.of-id.ensures c.if-bytes-gt-MOST_CONTENT.false (sym c.contains_key.ensures ∙ c.if-contains_key.false))
 
 pub returns-clause-reply : goal.returns-clause-reply
 returns-clause-reply c =
-    answers_made c.self.invariant c.args.self.now c.self.view_is c.args.who c.args.bytes.now c.of-id.result.0 c.payload_length-payload.result c.of-id.ensures c.if-bytes-gt-MOST_CONTENT.false (sym c.contains_key.ensures ∙ c.if-contains_key.false) c.payload_length-payload.ensures c.if-size-payload.false
-    _ (pushed _ _ _ _ c.try_reserve.ensures.items c.push_reserved.ensures.items)
-
-pub returns-clause-legal : goal.returns-clause-legal
-returns-clause-legal c =
-    (indexes_grow c.self.invariant c.args.self.now c.self.view_is c.args.who c.args.bytes.now c.of-id.result.0 c.payload_length-payload.result c.of-id.ensures c.if-bytes-gt-MOST_CONTENT.false (sym c.contains_key.ensures ∙ c.if-contains_key.false) c.payload_length-payload.ensures c.if-size-payload.false
-    _ (pushed _ _ _ _ c.try_reserve.ensures.items c.push_reserved.ensures.items)
-    (λ i. omega (arith, c.type_inv.bytes i)) _ (λ y. c.in_ok-insert.ensures.updates.0 (record { 0 = y }))).legal
+    c.in_ok-enter_content.ensures.reply.replies (PutContent c.args.bytes.now) (ContentPut c.of-id.result.0)
+    (judged_new c.self.invariant.1 c.args.self.now c.self.view_is c.args.bytes.now c.of-id.result.0 c.of-id.ensures c.if-bytes-gt-MOST_CONTENT.false (sym c.contains_key.ensures ∙ c.if-contains_key.false))

@@ -1,7 +1,7 @@
 use Rattle.std.proofs.Common.{◌≤◌}
 use Rattle.history_model.specs.Journal as journal
-use Rattle.repo_events.specs.Entries.{history_of}
+use Rattle.repo_machine.specs.Plain.{history_of}
 use Rattle.repo_machine.proofs.plain.tests.the_machine_replies_as_going_through_the_history_does.Given as goal
 
-abbrev pub invariant-contents : goal.invariant-contents
-invariant-contents g l = journal.size (history_of l.entries.items) ≤ 4_096
+abbrev pub invariant-asks : goal.invariant-asks
+invariant-asks g l = journal.size (history_of l.contents.items) ≤ 4_096

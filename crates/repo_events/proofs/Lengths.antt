@@ -1,0 +1,40 @@
+-- The lengths of payloads.
+use Rattle.std.proofs.Common.{◌≡◌, ℕ, suc, ◌+◌, List, [], ◌∷◌, ◌++◌, length, map, refl, sym, ap, ◌∙◌, arith, length-append}
+use Rattle.std.specs.Prelude.{sum_by}
+use Rattle.std.specs.List.{concat}
+use Rattle.std.specs.Int.{w16, w32, to_be_bytes}
+use Rattle.std.proofs.lemmas.List.Sums.{sum_by-cons}
+use Rattle.byte_fields.specs.Bytes.{sized}
+use Rattle.changeset_model.specs.Changeset.{Changeset, spelling}
+use Rattle.history_model.specs.History as model
+use Rattle.history_model.specs.Journal.{payload_len}
+use Rattle.repo_events.specs.Entries.{commits_length}
+
+length-sized : (bytes more : List ℕ) → length (sized w32 bytes ++ more) ≡ 4 + length bytes + length more
+length-sized bytes more = let both = length-append bytes more in omega arith
+
+length-sized_all : {A : Type 0} (f : A → List ℕ) (xs : List A) → length (concat (map (λ x. sized w32 (f x)) xs)) ≡ sum_by (λ x. 4 + length (f x)) xs
+length-sized_all f [] = refl
+length-sized_all f (x ∷ xs) =
+    length-sized (f x) (concat (map (λ x. sized w32 (f x)) xs))
+    ∙ ap (λ n. 4 + length (f x) + n) (length-sized_all f xs)
+    ∙ sym (sum_by-cons (λ x. 4 + length (f x)) x xs)
+
+-- a mark, a name behind its length of one byte, two ids and what follows them
+length-landing : (name old draft rest : List ℕ) (n : ℕ) → length rest ≡ n → suc (suc (length (name ++ (old ++ (draft ++ rest))))) ≡ 2 + length name + (length old + length draft) + n
+length-landing name old draft rest n rest_is = simp length-append (omega arith)
+
+two_more : (m n : ℕ) → m ≡ n → suc (suc m) ≡ 2 + n
+two_more m n e = omega arith
+
+pub payload_len-Land : (l : model.Landing) → payload_len (model.Land l) ≡ 4 + length l.name + (length l.old + length l.draft) + commits_length l.new
+payload_len-Land l =
+    let rest = concat (map (λ c. sized w32 (spelling c)) l.new) in
+    let count_more = two_more (length rest) (commits_length l.new) (length-sized_all spelling l.new) in
+    let parts = length-landing l.name l.old l.draft (to_be_bytes w16 (length l.new) ++ rest) (2 + commits_length l.new) count_more in
+    omega arith
+
+-- the length of a landing by its parts, as the code reads them
+pub length_by_parts : (l : model.Landing) (name old draft : List ℕ) (new : List Changeset) → name ≡ l.name → old ≡ l.old → draft ≡ l.draft → new ≡ l.new → 4 + length name + (length old + length draft) + commits_length new ≡ payload_len (model.Land l)
+length_by_parts l name old draft new name_is old_is draft_is new_is =
+    (λ i. 4 + length (name_is i) + (length (old_is i) + length (draft_is i)) + commits_length (new_is i)) ∙ sym (payload_len-Land l)

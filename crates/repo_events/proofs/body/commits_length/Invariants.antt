@@ -1,0 +1,8 @@
+use Rattle.std.proofs.Common.{◌≡◌, ◌+◌}
+use Rattle.std.proofs.Common.{drop}
+use Rattle.repo_events.specs.Entries.{commits_length}
+use Rattle.repo_events.proofs.body.commits_length.Given as goal
+
+-- the length so far and that of the rest
+abbrev pub invariant-commits : goal.invariant-commits
+invariant-commits l = l.length + commits_length (drop l.commit-index l.commits) ≡ commits_length l.commits

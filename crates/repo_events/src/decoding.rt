@@ -1,0 +1,108 @@
+//! Entries, read of payloads.
+ghost use Rattle.std.specs.Prelude.{◌≡◌, ◌-◌, ◌^◌, ◌<◌, [], length, Ok, IfOk};
+ghost use Rattle.history_model.specs.History.{changesets_in};
+ghost use Rattle.history_model.specs.Journal.{IsPayload, payload_len};
+ghost use Rattle.history_model.specs.Payload as payload;
+ghost use Rattle.repo_events.specs.Decodes.{Decodes};
+ghost use Rattle.repo_events.specs.Entries.{body_of};
+ghost use Rattle.repo_events.specs.Reads.{Reads};
+
+use crate::body::{Body, Landing, Move};
+use crate::field_fault::FieldFault;
+use crate::mark;
+use crate::parts::{commit_of, commits_at, name_at, optional_at};
+use crate::payload_fault::PayloadFault;
+use byte_fields::fields::{id_at, u16_at};
+use object_id::Id;
+use std::alloc::Global;
+
+/// The most bytes of a payload.
+pub const MOST_PAYLOAD: usize = 16_777_216;
+
+/// The entry that a payload stands for.
+pub fn decode_payload(alloc: Global, bytes: &[u8]) -> Result<Body, PayloadFault>
+    ensures exact { Decodes result (payload.payload_body bytes.now) }
+    // What is read is a payload of the entry, and can be encoded again.
+    ensures spelled { IfOk result (λ body. IsPayload (body_of body) bytes.now) }
+    ensures measured { IfOk result (λ body. payload_len (body_of body) ≡ length bytes.now) }
+    ensures counted { IfOk result (λ body. length (changesets_in (body_of body)) < 2 ^ 16) }
+{
+    read_all(alloc, bytes)
+}
+
+// The entry that all of the bytes stand for.
+fn read_all(alloc: Global, bytes: &[u8]) -> Result<Body, PayloadFault>
+    ensures { Decodes result (payload.payload_body bytes.now) }
+{
+    if bytes.len() > MOST_PAYLOAD {
+        return Err(PayloadFault::BadPayload {
+            at: MOST_PAYLOAD as u64,
+        });
+    }
+    match body_at(alloc, bytes) {
+        Ok((body, [])) => Ok(body),
+        Ok((_, rest)) => Err(bad_payload(bytes, rest.len())),
+        Err(FieldFault::Bad { left }) => Err(bad_payload(bytes, left)),
+        Err(FieldFault::Memory) => Err(PayloadFault::Memory),
+    }
+}
+
+// The fault at a field before which all but these bytes were read.
+fn bad_payload(bytes: &[u8], left: usize) -> PayloadFault
+    ensures { result ≡ PayloadFault.BadPayload (length bytes.now - left) }
+{
+    PayloadFault::BadPayload {
+        at: bytes.len().saturating_sub(left) as u64,
+    }
+}
+
+// A mark, and the entry that it tells of.
+fn body_at(alloc: Global, bytes: &[u8]) -> Result<(Body, &[u8]), FieldFault>
+    ensures { Reads (λ x. (body_of x.0, x.1.now)) result (payload.body bytes.now) }
+{
+    match bytes {
+        [mark::CONTENT, content @ ..] => Ok((content_of(content), &[])),
+        [mark::CHANGESET, rest @ ..] => match commit_of(alloc, bytes)? {
+            Some(commit) => Ok((Body::Change(commit), &[])),
+            None => Err(FieldFault::Bad { left: rest.len() }),
+        },
+        [mark::MOVE, rest @ ..] => move_at(alloc, rest),
+        [mark::LANDING, rest @ ..] => landing_at(alloc, rest),
+        _ => Err(FieldFault::Bad { left: bytes.len() }),
+    }
+}
+
+fn content_of(content: &[u8]) -> Body
+    ensures { payload.content content.now ≡ Ok (body_of result, []) }
+{
+    Body::Content {
+        id: Id::of(content),
+        length: content.len() as u64,
+    }
+}
+
+fn move_at(alloc: Global, bytes: &[u8]) -> Result<(Body, &[u8]), FieldFault>
+    ensures { Reads (λ x. (body_of x.0, x.1.now)) result (payload.book bytes.now) }
+{
+    let (name, rest) = name_at(alloc, bytes)?;
+    let (from, rest) = optional_at(rest)?;
+    let (to, rest) = optional_at(rest)?;
+    Ok((Body::Book(Move { name, from, to }), rest))
+}
+
+fn landing_at(alloc: Global, bytes: &[u8]) -> Result<(Body, &[u8]), FieldFault>
+    ensures { Reads (λ x. (body_of x.0, x.1.now)) result (payload.landing bytes.now) }
+{
+    let (name, rest) = name_at(alloc, bytes)?;
+    let (old, rest) = id_at(rest)?;
+    let (draft, rest) = id_at(rest)?;
+    let (count, rest) = u16_at(rest)?;
+    let (new, rest) = commits_at(alloc, count, rest)?;
+    let landing = Landing {
+        name,
+        old: Id(old),
+        draft: Id(draft),
+        new,
+    };
+    Ok((Body::Land(landing), rest))
+}

@@ -1,0 +1,85 @@
+-- What one entry more makes of the heads, the lengths of contents and the known changesets.
+use Rattle.std.proofs.Common.{◌≡◌, ℕ, Bool, true, false, cond, not, List, [], ◌∷◌, ◌++◌, refl, sym, ap, ◌∙◌}
+use Rattle.std.specs.Prelude.{Option, None, Some, option_map, bytes_eq}
+use Rattle.std.specs.Option.{option_or, option_flatten}
+use Rattle.std.proofs.lemmas.Slice.Eq.{bytes_eq-Decides}
+use Rattle.std.proofs.lemmas.List.{append-nil}
+use Rattle.std.specs.Cmp.{nat_eq_equiv}
+use Rattle.std.specs.Cmp.Lexicographic.{lists_equiv}
+use Rattle.std.specs.Ordering.{is_eq, nat_cmp}
+use Rattle.std.specs.Cmp.Lexicographic.{slice_cmp}
+use Rattle.std.proofs.lemmas.Map.Text.{is_eq-slice_cmp}
+use Rattle.object_id.specs.declared.id.Id as ids
+use Rattle.repo_machine.specs.Answering.{id_seen}
+use Rattle.byte_fields.specs.Bytes.{Id, last_of, last_some}
+use Rattle.byte_fields.proofs.Lists.{first_some-append, option_or-None, option_or-assoc}
+use Rattle.changeset_model.specs.Changeset.{Changeset, id_of}
+use Rattle.history_model.specs.History.{Body, Content, Change, Book, Land, Move, Landing, Entry, with_id, known, is_known, content_len, length_in}
+use Rattle.history_model.specs.Bookmark.{moved_to, head}
+use Rattle.reply_model.specs.After.{entry_by}
+use Rattle.reply_model.proofs.Parents.{brought}
+use Rattle.reply_model.proofs.Lines.{known-append}
+use Rattle.repo_machine.proofs.KnownOnce.{is_known-once}
+
+-- ---- heads
+
+last_some-push : {X Y : Type 0} (f : X → Option Y) (xs : List X) (x : X) → last_some f (xs ++ x ∷ []) ≡ option_or (f x) (last_some f xs)
+last_some-push f [] x = sym (option_or-None (f x))
+last_some-push f (y ∷ xs) x = ap (λ o. option_or o (f y)) (last_some-push f xs x) ∙ option_or-assoc (f x) (last_some f xs) (f y)
+
+pub head-push : (h : List Entry) (who : ℕ) (body : Body) (name : List ℕ) → head (h ++ entry_by who body ∷ []) name ≡ option_flatten (option_or (moved_to name body) (last_some (λ e. moved_to name e.body) h))
+head-push h who body name = ap option_flatten (last_some-push (λ e. moved_to name e.body) h (entry_by who body))
+
+moves_by : (b : Bool) (to : Option Id) (rest : Option (Option Id)) → option_flatten (option_or (cond b (Some to) None) rest) ≡ cond b to (option_flatten rest)
+moves_by true to rest = refl
+moves_by false to rest = refl
+
+pub head-move : (h : List Entry) (who : ℕ) (move : Move) (name : List ℕ) → head (h ++ entry_by who (Book move) ∷ []) name ≡ cond (bytes_eq name move.name) move.to (head h name)
+head-move h who move name = head-push h who (Book move) name ∙ moves_by (bytes_eq name move.name) move.to (last_some (λ e. moved_to name e.body) h)
+
+pub head-land : (h : List Entry) (who : ℕ) (landing : Landing) (name : List ℕ) → head (h ++ entry_by who (Land landing) ∷ []) name ≡ cond (bytes_eq name landing.name) (option_map id_of (last_of landing.new)) (head h name)
+head-land h who landing name = head-push h who (Land landing) name ∙ moves_by (bytes_eq name landing.name) (option_map id_of (last_of landing.new)) (last_some (λ e. moved_to name e.body) h)
+
+pub bytes_eq-symm : (x y : List ℕ) → bytes_eq x y ≡ bytes_eq y x
+bytes_eq-symm x y = (lists_equiv nat_eq_equiv).symm x y
+
+seen_by : (b : Bool) (to before : Option ids.Id) → id_seen (cond b to before) ≡ cond b (id_seen to) (id_seen before)
+seen_by true to before = refl
+seen_by false to before = refl
+
+-- the heads of an ordered map, with one of them set
+pub heads_set : (before after : List ℕ → Option ids.Id) (h : List Entry) (name : List ℕ) (to : Option ids.Id) → ((q : List ℕ) → id_seen (before q) ≡ head h q) → ((q : List ℕ) → after q ≡ cond (is_eq (slice_cmp nat_cmp name q)) to (before q)) → (q : List ℕ) → id_seen (after q) ≡ cond (bytes_eq q name) (id_seen to) (head h q)
+heads_set before after h name to are sets q =
+    ap id_seen (sets q) ∙ seen_by (is_eq (slice_cmp nat_cmp name q)) to (before q)
+    ∙ (λ i. cond ((is_eq-slice_cmp name q ∙ bytes_eq-symm name q) i) (id_seen to) (are q i))
+
+-- ---- contents
+
+pub content_len-push : (h : List Entry) (who : ℕ) (body : Body) (y : Id) → content_len (h ++ entry_by who body ∷ []) y ≡ option_or (content_len h y) (length_in y body)
+content_len-push h who body y = first_some-append (λ e. length_in y e.body) h (entry_by who body ∷ []) ∙ ap (option_or (content_len h y)) (option_or-None (length_in y body))
+
+-- the length that a content has, with one more
+pub content_len-content : (h : List Entry) (who : ℕ) (x : Id) (n : ℕ) (y : Id) → content_len h x ≡ None → content_len (h ++ entry_by who (Content x n) ∷ []) y ≡ cond (bytes_eq x y) (Some n) (content_len h y)
+content_len-content h who x n y none = content_len-push h who (Content x n) y ∙ by (bytes_eq x y) refl
+  where
+    symm : bytes_eq y x ≡ bytes_eq x y
+    symm = bytes_eq-symm y x
+
+    by : (b : Bool) → bytes_eq x y ≡ b → option_or (content_len h y) (cond (bytes_eq y x) (Some n) None) ≡ cond b (Some n) (content_len h y)
+    by true e =
+        let same : x ≡ y = (bytes_eq-Decides x y).0 e in
+        (λ i. option_or (content_len h (sym same i)) (cond (symm i) (Some n) None)) ∙ (λ i. option_or (none i) (cond (e i) (Some n) None))
+    by false e = (λ i. option_or (content_len h y) (cond (symm i) (Some n) None)) ∙ (λ i. option_or (content_len h y) (cond (e i) (Some n) None)) ∙ option_or-None (content_len h y)
+
+-- ---- known changesets
+
+pub known-content : (h : List Entry) (who : ℕ) (x : Id) (n : ℕ) → known (h ++ entry_by who (Content x n) ∷ []) ≡ known h
+known-content h who x n = known-append h (entry_by who (Content x n) ∷ []) ∙ append-nil (known h)
+
+pub known-move : (h : List Entry) (who : ℕ) (move : Move) → known (h ++ entry_by who (Book move) ∷ []) ≡ known h
+known-move h who move = known-append h (entry_by who (Book move) ∷ []) ∙ append-nil (known h)
+
+pub known-change : (h : List Entry) (who : ℕ) (c : Changeset) → is_known (known h) (id_of c) ≡ false → known (h ++ entry_by who (Change c) ∷ []) ≡ known h ++ with_id c ∷ []
+known-change h who c new =
+    known-append h (entry_by who (Change c) ∷ [])
+    ∙ ap (λ b. known h ++ cond (not b) (with_id c ∷ []) []) (sym (is_known-once (brought h) (id_of c)) ∙ new)

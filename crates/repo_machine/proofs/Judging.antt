@@ -1,0 +1,92 @@
+-- The reply to a change, by what is judged.
+use Rattle.std.proofs.Common.{◌≡◌, ℕ, ◌+◌, ◌<◌, ◌≤◌, lt-ltb, le-ltb, Bool, true, false, cond, List, [], ◌∷◌, ◌++◌, length, refl, sym, ap, ◌∙◌}
+use Rattle.std.specs.Prelude.{Option, None, Some, Result, Ok, Err, not, is_some, find, bytes_eq}
+use Rattle.std.specs.Option.{option_eq, option_to_list}
+use Rattle.std.proofs.lemmas.List.{append-nil}
+use Rattle.sha2.specs.Sha256.{sha256}
+use Rattle.byte_fields.specs.Bytes.{Id}
+use Rattle.changeset_model.specs.Changeset.{most_content}
+use Rattle.history_model.specs.History.{Body, Content, Book, Entry, is_down, known, is_known, content_len}
+use Rattle.history_model.specs.Bookmark.{head}
+use Rattle.history_model.specs.Journal.{Header, payload_len, is_full}
+use Rattle.history_model.specs.Journal as journal
+use Rattle.reply_model.specs.Reply.{PutContent, SetBookmark, ContentPut, BookmarkSet, TooLong, NoChangeset, Moved, refuse_some, Full, Down, Ask, Granted, Refusal, Judged, by_ask, judge, refuse_if, unchanged, entered, put_content, ◌>>=◌}
+use Rattle.reply_model.specs.After.{Asks, Grants, Refuses, Memory, nothing, Replies, entry_by}
+
+-- ---- what is answered
+
+pub replies_refused : (header : Header) (h : List Entry) (who : ℕ) (ask : Ask) (refusal : Refusal) → judge header h ask ≡ Err refusal → Replies header h who (Asks ask) (Refuses refusal) h
+replies_refused header h who ask refusal e = record { made = nothing; answers = (refl, e); new_is = sym (append-nil h) }
+
+pub replies_unchanged : (header : Header) (h : List Entry) (who : ℕ) (ask : Ask) (granted : Granted) → judge header h ask ≡ unchanged granted → Replies header h who (Asks ask) (Grants granted) h
+replies_unchanged header h who ask granted e = record { made = nothing; answers = (refl, e); new_is = sym (append-nil h) }
+
+pub replies_memory : (header : Header) (h : List Entry) (who : ℕ) (ask : Ask) → Replies header h who (Asks ask) Memory h
+replies_memory header h who ask = record { made = nothing; answers = refl; new_is = sym (append-nil h) }
+
+pub replies_made : (header : Header) (h : List Entry) (who : ℕ) (ask : Ask) (granted : Granted) (body : Body) → judge header h ask ≡ Ok (record { granted = granted; made = Some body }) → Replies header h who (Asks ask) (Grants granted) (h ++ entry_by who body ∷ [])
+replies_made header h who ask granted body e = record { made = record { entry = Some body; fault = None }; answers = (refl, e); new_is = refl }
+
+-- ---- what is judged
+
+pub judged_up : (header : Header) (h : List Entry) (ask : Ask) → is_down h ≡ false → judge header h ask ≡ by_ask header h ask
+judged_up header h ask up = (λ i. refuse_if (up i) Down >>= λ _. by_ask header h ask)
+
+abbrev made_of : Granted → Body → Judged
+made_of granted body = record { granted = granted; made = Some body }
+
+by_room : (header : Header) (h : List Entry) (granted : Granted) (body : Body) (full : Bool) → is_full header h (payload_len body) ≡ full → entered header h granted body ≡ cond full (Err (Full (journal.size h) (payload_len body))) (Ok (made_of granted body))
+by_room header h granted body true e = (λ i. refuse_if (e i) (Full (journal.size h) (payload_len body)) >>= λ _. Ok (made_of granted body))
+by_room header h granted body false e = (λ i. refuse_if (e i) (Full (journal.size h) (payload_len body)) >>= λ _. Ok (made_of granted body))
+
+pub entered_full : (header : Header) (h : List Entry) (granted : Granted) (body : Body) → header.capacity < journal.size h + 5 + payload_len body → entered header h granted body ≡ Err (Full (journal.size h) (payload_len body))
+entered_full header h granted body full = by_room header h granted body true (lt-ltb _ _ full)
+
+pub entered_made : (header : Header) (h : List Entry) (granted : Granted) (body : Body) → journal.size h + 5 + payload_len body ≤ header.capacity → entered header h granted body ≡ Ok (made_of granted body)
+entered_made header h granted body room = by_room header h granted body false (le-ltb _ _ room)
+
+-- ---- a content
+
+abbrev put_short : Header → List Entry → List ℕ → Bool → Result Judged Refusal
+put_short header h bytes known = cond known (unchanged (ContentPut (sha256 bytes))) (entered header h (ContentPut (sha256 bytes)) (Content (sha256 bytes) (length bytes)))
+
+not_long : (header : Header) (h : List Entry) (bytes : List ℕ) → length bytes ≤ most_content → put_content header h bytes ≡ put_short header h bytes (is_some (content_len h (sha256 bytes)))
+not_long header h bytes few = (λ i. refuse_if (le-ltb most_content (length bytes) few i) (TooLong (length bytes)) >>= λ _. put_short header h bytes (is_some (content_len h (sha256 bytes))))
+
+pub judged_short : (header : Header) (h : List Entry) (bytes : List ℕ) (known : Bool) → is_down h ≡ false → length bytes ≤ most_content → is_some (content_len h (sha256 bytes)) ≡ known → judge header h (PutContent bytes) ≡ put_short header h bytes known
+judged_short header h bytes known up few e = judged_up header h (PutContent bytes) up ∙ not_long header h bytes few ∙ ap (put_short header h bytes) e
+
+pub judged_long : (header : Header) (h : List Entry) (bytes : List ℕ) → is_down h ≡ false → most_content < length bytes → judge header h (PutContent bytes) ≡ Err (TooLong (length bytes))
+judged_long header h bytes up long =
+    judged_up header h (PutContent bytes) up
+    ∙ (λ i. refuse_if (lt-ltb most_content (length bytes) long i) (TooLong (length bytes)) >>= λ _. put_short header h bytes (is_some (content_len h (sha256 bytes))))
+
+-- ---- a bookmark
+
+module _ (header : Header) (h : List Entry) (name : List ℕ) (from to : Option Id) (up : is_down h ≡ false) where
+  abbrev unknown : Option Id
+  unknown = find (λ x. not (is_known (known h) x)) (option_to_list to)
+
+  abbrev moving : Result Judged Refusal
+  moving = cond (option_eq bytes_eq from to) (unchanged BookmarkSet) (entered header h BookmarkSet (Book (record { name = name; from = from; to = to })))
+
+  abbrev from_head : Bool → Result Judged Refusal
+  from_head same = refuse_if (not same) (Moved (head h name)) >>= λ _. moving
+
+  abbrev to_target : Option Id → Result Judged Refusal
+  to_target none = refuse_some none NoChangeset >>= λ _. from_head (option_eq bytes_eq (head h name) from)
+
+  pub judged_unknown : (x : Id) → unknown ≡ Some x → judge header h (SetBookmark name from to) ≡ Err (NoChangeset x)
+  judged_unknown x e = judged_up header h (SetBookmark name from to) up ∙ ap to_target e
+
+  known_target : unknown ≡ None → judge header h (SetBookmark name from to) ≡ from_head (option_eq bytes_eq (head h name) from)
+  known_target e = judged_up header h (SetBookmark name from to) up ∙ ap to_target e
+
+  pub judged_moved : unknown ≡ None → option_eq bytes_eq (head h name) from ≡ false → judge header h (SetBookmark name from to) ≡ Err (Moved (head h name))
+  judged_moved e other = known_target e ∙ ap from_head other
+
+  pub judged_same : unknown ≡ None → option_eq bytes_eq (head h name) from ≡ true → option_eq bytes_eq from to ≡ true → judge header h (SetBookmark name from to) ≡ unchanged BookmarkSet
+  judged_same e there same = known_target e ∙ ap from_head there ∙ ap (λ b. cond b (unchanged BookmarkSet) (entered header h BookmarkSet (Book (record { name = name; from = from; to = to })))) same
+
+  pub judged_moving : unknown ≡ None → option_eq bytes_eq (head h name) from ≡ true → option_eq bytes_eq from to ≡ false → judge header h (SetBookmark name from to) ≡ entered header h BookmarkSet (Book (record { name = name; from = from; to = to }))
+  judged_moving e there apart = known_target e ∙ ap from_head there ∙ ap (λ b. cond b (unchanged BookmarkSet) (entered header h BookmarkSet (Book (record { name = name; from = from; to = to })))) apart

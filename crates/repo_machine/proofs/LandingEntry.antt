@@ -1,0 +1,122 @@
+-- A landing is entered.
+use Rattle.std.proofs.Common.{◌≡◌, ℕ, ◌+◌, ◌<◌, ◌≤◌, Bool, true, false, List, [], ◌∷◌, ◌++◌, map, length, inl, inr, refl, sym, ap, subst, ◌∙◌, arith}
+use Rattle.std.specs.Prelude.{Option, None, Some, Result, Ok, Err, IsErrAnd}
+use Rattle.std.specs.List.{AllByRecursion}
+use Rattle.std.specs.Borrow.{Bor}
+use Rattle.std.proofs.lemmas.List.{append_assoc, append-nil}
+use Rattle.byte_fields.specs.Bytes.{Id}
+use Rattle.changeset_model.specs.Changeset.{Changeset, id_of}
+use Rattle.history_model.specs.History as model
+use Rattle.history_model.specs.Pushrebase.{fork, on_parent, rewrite}
+use Rattle.history_model.specs.Journal.{Header}
+use Rattle.history_model.specs.Repository.{Repository}
+use Rattle.reply_model.specs.Reply as reply
+use Rattle.reply_model.specs.Reply.{LandDraft, judge, enter_landing}
+use Rattle.reply_model.specs.After.{Answer, Asks, Refuses, Replies, entry_by}
+use Rattle.changeset_store.specs.Store.{changeset_at}
+use Rattle.changeset_store.specs.Fork.{IsFork, fork_between}
+use Rattle.repo_machine.specs.declared.records.LandRecord.{LandRecord}
+use Rattle.repo_machine.specs.declared.records.Record.TheVariants.{Land}
+use Rattle.repo_machine.specs.declared.records.Entry.{Entry}
+use Rattle.repo_machine.specs.declared.landings.Planned.{Planned}
+use Rattle.repo_machine.specs.declared.refusal.Refusal.{Refusal}
+use Rattle.repo_machine.specs.Answering.{refused}
+use Rattle.repo_machine.specs.Records.{landing_of, history_of, IsWithin}
+use Rattle.repo_machine.specs.Landings.{IsRefusal, Checked, payload_checked, collisions_checked, IsPlanned, IsLandable, AreAlone, adding_one, adding, CanAdd}
+use Rattle.repo_machine.proofs.Judging.{replies_refused, replies_memory}
+use Rattle.repo_machine.proofs.Within.{history_pushed, within_pushed}
+use Rattle.repo_machine.proofs.LandingAdding.{adds_some, can_add}
+use Rattle.repo_machine.proofs.LandingSteps.{payload_refused, collision_refused, judged_landing}
+
+-- ---- what is entered
+
+pub length-rewrite : (stack : List Changeset) (head : Id) → length (rewrite stack head) ≡ length stack
+length-rewrite [] head = refl
+length-rewrite (c ∷ cs) head = let rest = length-rewrite cs (id_of (on_parent head c)) in omega arith
+
+pub rewritten : (given items : List (Bor Changeset)) (stack : List Changeset) (head : Id) (new : List Changeset) → new ≡ rewrite (map (λ c. c.now) given) head → given ≡ items → map (λ c. c.now) items ≡ stack → new ≡ rewrite stack head
+rewritten given items stack head new is same are = is ∙ (λ i. rewrite (map (λ (c : Bor Changeset). c.now) (same i)) head) ∙ ap (λ cs. rewrite cs head) are
+
+module _ (header : Header) (h : List model.Entry) (name : List ℕ) (draft : Id) (planned : Planned) (p : IsPlanned header h name draft planned) (l : model.Landing) (names : l.name ≡ name) (olds : l.old ≡ planned.old.0) (drafts : l.draft ≡ draft) (new : l.new ≡ rewrite (fork_between (model.known h) planned.fork).stack planned.old.0) where
+  abbrev stack : List Changeset
+  stack = (fork_between (model.known h) planned.fork).stack
+
+  long : length l.new ≡ length stack
+  long = ap length new ∙ length-rewrite stack planned.old.0
+
+  pub few : length l.new ≤ 100
+  few = let same = long in let few = p.few in omega arith
+
+  judged : judge header h (LandDraft name draft) ≡ enter_landing header h l.name l.old l.draft l.new
+  judged = p.judged ∙ (λ i. enter_landing header h (sym names i) (sym olds i) (sym drafts i) (sym new i))
+
+  pub payload_refused_as : (e : Refusal) → IsRefusal (payload_checked l) e → IsRefusal (judge header h (LandDraft name draft)) e
+  payload_refused_as e refusal = payload_refused header h (LandDraft name draft) l.name l.old l.draft l.new judged e refusal
+
+  module _ (short : payload_checked l ≡ Ok tt) where
+    pub collision_refused_as : (e : Refusal) → IsRefusal (collisions_checked (model.known h) l.new) e → IsRefusal (judge header h (LandDraft name draft)) e
+    collision_refused_as e refusal = collision_refused header h (LandDraft name draft) l.name l.old l.draft l.new judged short e refusal
+
+    pub landable : collisions_checked (model.known h) l.new ≡ Ok tt → AreAlone (model.known h) l.new → IsLandable header h name draft l
+    landable apart alone = record {
+      names = names;
+      drafts = drafts;
+      head_is = p.head_is ∙ ap Some (sym olds);
+      old_known = ap (model.is_known (model.known h)) olds ∙ p.old_known;
+      fork_is = fork_between (model.known h) planned.fork;
+      forks = ap (λ old. fork (model.known h) old draft) olds ∙ p.forks;
+      rewritten = new ∙ ap (rewrite stack) (sym olds);
+      some = (let same = long in let some = p.some in omega arith);
+      few = few;
+      apart = p.apart;
+      alone = alone;
+      judged = judged_landing header h (LandDraft name draft) l.name l.old l.draft l.new judged short apart;
+    }
+
+-- ---- the entry
+
+adding_some : (ks : List model.Known) (cs : List Changeset) → (more : List model.Known) × (adding ks cs ≡ ks ++ more)
+adding_some ks [] = ([], sym (append-nil ks))
+adding_some ks (c ∷ cs) =
+    let one = adds_some ks c in
+    let later = adding_some (adding_one ks c) cs in
+    (one.0 ++ later.0, later.1 ∙ ap (λ (ks : List model.Known). ks ++ later.0) one.1 ∙ append_assoc ks one.0 later.0)
+
+module _ (ks : List model.Known) (es : List Entry) (within : AllByRecursion (IsWithin (length ks)) es) (seen : List Entry) (same : seen ≡ es) (who : ℕ) (l : LandRecord) (new : List Changeset) (before ks' : List model.Known) (kept : before ≡ ks) (added : ks' ≡ adding before new) (noted : map (changeset_at ks') l.numbers.items ≡ new) (after : List Entry) (grows : after ≡ seen ++ record { who = who; «record» = Land l } ∷ []) where
+  pub added_as : ks' ≡ adding ks new
+  added_as = added ∙ ap (λ ks. adding ks new) kept
+
+  abbrev more : List model.Known
+  more = (adding_some ks new).0
+
+  grown : ks' ≡ ks ++ more
+  grown = added_as ∙ (adding_some ks new).1
+
+  news : map (changeset_at (ks ++ more)) l.numbers.items ≡ new
+  news = ap (λ ks. map (changeset_at ks) l.numbers.items) (sym grown) ∙ noted
+
+  pub history_landed : history_of ks' after ≡ history_of ks es ++ entry_by who (model.Land (record { name = l.name; old = l.old.0; draft = l.draft.0; new = new })) ∷ []
+  history_landed =
+      ap (λ ks. history_of ks after) grown
+      ∙ history_pushed ks es within (record { who = who; «record» = Land l }) seen same after grows more
+      ∙ (λ i. history_of ks es ++ entry_by who (model.Land (record { name = l.name; old = l.old.0; draft = l.draft.0; new = news i })) ∷ [])
+
+  pub within_landed : AllByRecursion (λ n. n < length ks') l.numbers.items → AllByRecursion (IsWithin (length ks')) after
+  within_landed fits =
+      subst (λ ks. AllByRecursion (IsWithin (length ks)) after) (sym grown)
+      (within_pushed ks es within (record { who = who; «record» = Land l }) seen same after grows more (subst (λ ks. AllByRecursion (λ n. n < length ks) l.numbers.items) grown fits))
+
+-- they can be added
+pub can_as : (header : Header) (h : List model.Entry) (name : List ℕ) (draft : Id) (l : model.Landing) (ks before : List model.Known) → IsLandable header h name draft l → ks ≡ model.known h → before ≡ ks → CanAdd before l.new
+can_as header h name draft l ks before able known_are kept =
+    subst (λ ks. CanAdd ks l.new) (sym (kept ∙ known_are))
+    (subst (CanAdd (model.known h)) (sym able.rewritten) (can_add (model.known h) able.fork_is.stack l.old able.old_known (subst (AreAlone (model.known h)) able.rewritten able.alone)))
+
+-- ---- the answer
+
+pub answers_refusal : {X : Type 0} (answer : Result X Refusal → Answer) (errs : (e : Refusal) → answer (Err e) ≡ refused e) (header : Header) (h : List model.Entry) (who : ℕ) (ask : reply.Ask) (result : Result X Refusal) (e : Refusal) → IsErrAnd result (λ x. x ≡ e) → IsRefusal (judge header h ask) e → Replies header h who (Asks ask) (answer result) h
+answers_refusal answer errs header h who ask (Ok x) e err refusal = absurd err
+answers_refusal answer errs header h who ask (Err x) e err (inl memory) =
+    subst (λ a. Replies header h who (Asks ask) a h) (sym (errs x ∙ ap refused (err ∙ memory))) (replies_memory header h who ask)
+answers_refusal answer errs header h who ask (Err x) e err (inr (r, is, same)) =
+    subst (λ a. Replies header h who (Asks ask) a h) (sym (errs x ∙ ap refused err ∙ same)) (replies_refused header h who ask r is)

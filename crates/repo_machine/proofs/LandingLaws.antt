@@ -1,0 +1,214 @@
+-- The trees after a landing.
+use Rattle.std.proofs.Common.{◌≡◌, ℕ, suc, ◌+◌, Bool, true, false, cond, not, ◌||◌, List, [], ◌∷◌, ◌++◌, map, length, drop, reverse, refl, sym, ap, subst, ◌∙◌, arith, add-one}
+use Rattle.std.specs.Prelude.{Option, None, Some, option_map, unwrap_or, Contains, bytes_eq}
+use Rattle.std.specs.List.{AllByRecursion, after_first, position_or_len, list_any, last_or}
+use Rattle.std.specs.Option.{option_map_or}
+use mathlib.Core.Bool.{true≢false}
+use mathlib.Core.List.{reverse-cons}
+use Rattle.std.proofs.lemmas.List.{append_assoc, append-nil, map-append, reverse-append}
+use Rattle.std.proofs.lemmas.Slice.Eq.{bytes_eq-Decides}
+use Rattle.byte_fields.specs.Bytes.{Id, last_of, last_that}
+use Rattle.changeset_model.specs.Path.{Path}
+use Rattle.changeset_model.specs.Changeset.{Changeset, id_of, touched_paths}
+use Rattle.history_model.specs.History.{Entry, Known, Landing, Land, with_id, is_known, known}
+use Rattle.history_model.specs.Chain.{first_parent, line_among, line, chain, changesets}
+use Rattle.history_model.specs.Tree.{decides, tree}
+use Rattle.history_model.specs.Pushrebase.{Fork, fork, fork_at, clash, rewrite}
+use Rattle.history_model.specs.Journal.{Header}
+use Rattle.history_model.proofs.Trees.{tree-landed}
+use Rattle.history_model.proofs.Touched.{unchanged_since_root}
+use Rattle.repo_machine.proofs.LastThat.{last_that_passes}
+use Rattle.reply_model.specs.After.{entry_by}
+use Rattle.reply_model.specs.Legal.{IsLegal}
+use Rattle.reply_model.proofs.Parents.{or_case, or_left, or_right, known_reverse}
+use Rattle.reply_model.proofs.Lines.{AreOnce, known_once}
+use Rattle.reply_model.proofs.Landed.{chain_landed}
+use Rattle.object_id.specs.declared.id.Id as ids
+use Rattle.repo_machine.specs.Answering.{ids_seen}
+use Rattle.repo_machine.specs.Landings.{IsLandable, IsLanding}
+use Rattle.repo_machine.proofs.LandingAdding.{known-land, alone_after}
+
+-- ---- a line, from one of its members on
+
+abbrev tail : List Known → Known → List Known
+tail older k = option_map_or (line_among older) (first_parent k.changeset) []
+
+tail_known : (older : List Known) (r : Id) → ((x : Id) → is_known (line_among older x) r ≡ true → is_known older r ≡ true) → (o : Option Id) → is_known (option_map_or (line_among older) o []) r ≡ true → is_known older r ≡ true
+tail_known older r ih None h = absurd (true≢false (sym h))
+tail_known older r ih (Some p) h = ih p h
+
+line_known_by : (k : Known) (older : List Known) (x r : Id) → ((x : Id) → is_known (line_among older x) r ≡ true → is_known older r ≡ true) → (b : Bool) → is_known (cond b (k ∷ tail older k) (line_among older x)) r ≡ true → is_known (k ∷ older) r ≡ true
+line_known_by k older x r ih true h = or_case (bytes_eq k.id r) (is_known (tail older k) r) (or_left (bytes_eq k.id r) (is_known older r)) (λ e. or_right (bytes_eq k.id r) (is_known older r) (tail_known older r ih (first_parent k.changeset) e)) h
+line_known_by k older x r ih false h = or_right (bytes_eq k.id r) (is_known older r) (ih x h)
+
+line_known : (js : List Known) (r x : Id) → is_known (line_among js x) r ≡ true → is_known js r ≡ true
+line_known [] r x h = h
+line_known (k ∷ older) r x h = line_known_by k older x r (line_known older r) (bytes_eq k.id x) h
+
+-- the line of the member ends it, and begins with the member
+record Splits (js : List Known) (x r : Id) : Type 0 where
+  before : List Known
+  line_is : line_among js x ≡ before ++ line_among js r
+
+abbrev SplitsAt : List Known → Id → Type 0
+SplitsAt js r = (x : Id) → is_known (line_among js x) r ≡ true → Splits js x r
+
+skip_first : (k : Known) (older : List Known) (x : Id) (b : Bool) → bytes_eq k.id x ≡ b → line_among (k ∷ older) x ≡ cond b (k ∷ tail older k) (line_among older x)
+skip_first k older x b e = ap (λ b. cond b (k ∷ tail older k) (line_among older x)) e
+
+tail_splits : (older : List Known) (r : Id) → SplitsAt older r → (o : Option Id) → is_known (option_map_or (line_among older) o []) r ≡ true → (before : List Known) × (option_map_or (line_among older) o [] ≡ before ++ line_among older r)
+tail_splits older r ih None h = absurd (true≢false (sym h))
+tail_splits older r ih (Some p) h = let s = ih p h in (s.before, s.line_is)
+
+splits_by : (k : Known) (older : List Known) (x r : Id) → (is_known older k.id ≡ true → ⊥) → SplitsAt older r → (b c : Bool) → bytes_eq k.id x ≡ b → bytes_eq k.id r ≡ c → is_known (cond b (k ∷ tail older k) (line_among older x)) r ≡ true → Splits (k ∷ older) x r
+splits_by k older x r once ih true true is_x is_r h = record { before = []; line_is = skip_first k older x true is_x ∙ sym (skip_first k older r true is_r) }
+splits_by k older x r once ih true false is_x is_r h =
+    let s = tail_splits older r ih (first_parent k.changeset) (or_case (bytes_eq k.id r) (is_known (tail older k) r) (λ e. absurd (true≢false (sym e ∙ is_r))) (λ e. e) h) in
+    record { before = k ∷ s.0; line_is = skip_first k older x true is_x ∙ ap (λ l. k ∷ l) (s.1 ∙ ap (λ (l : List Known). s.0 ++ l) (sym (skip_first k older r false is_r))) }
+splits_by k older x r once ih false true is_x is_r h = absurd (once (ap (is_known older) ((bytes_eq-Decides k.id r).0 is_r) ∙ line_known older r x h))
+splits_by k older x r once ih false false is_x is_r h =
+    let s = ih x h in
+    record { before = s.before; line_is = skip_first k older x false is_x ∙ s.line_is ∙ ap (λ (l : List Known). s.before ++ l) (sym (skip_first k older r false is_r)) }
+
+splits : (js : List Known) → AreOnce js → (r : Id) → SplitsAt js r
+splits [] once r x h = absurd (true≢false (sym h))
+splits (k ∷ older) once r x h = splits_by k older x r once.0 (splits older once.1 r) (bytes_eq k.id x) (bytes_eq k.id r) refl refl h
+
+record Begins (js : List Known) (r : Id) : Type 0 where
+  first : Known
+  above : List Known
+  line_is : line_among js r ≡ first ∷ above
+  id_is : bytes_eq first.id r ≡ true
+  above_out : is_known above r ≡ false
+
+out_by : (b : Bool) → (b ≡ true → ⊥) → b ≡ false
+out_by true never = absurd (never refl)
+out_by false never = refl
+
+begins_by : (k : Known) (older : List Known) (r : Id) → (is_known older k.id ≡ true → ⊥) → (is_known older r ≡ true → Begins older r) → (b : Bool) → bytes_eq k.id r ≡ b → (b || is_known older r) ≡ true → Begins (k ∷ older) r
+begins_by k older r once ih true is_r h = record {
+  first = k;
+  above = tail older k;
+  line_is = skip_first k older r true is_r;
+  id_is = is_r;
+  above_out = out_by (is_known (tail older k) r) (λ e. once (ap (is_known older) ((bytes_eq-Decides k.id r).0 is_r) ∙ tail_known older r (line_known older r) (first_parent k.changeset) e));
+}
+begins_by k older r once ih false is_r h =
+    let b = ih h in
+    record { first = b.first; above = b.above; line_is = skip_first k older r false is_r ∙ b.line_is; id_is = b.id_is; above_out = b.above_out }
+
+begins : (js : List Known) → AreOnce js → (r : Id) → is_known js r ≡ true → Begins js r
+begins [] once r h = absurd (true≢false (sym h))
+begins (k ∷ older) once r h = begins_by k older r once.0 (begins older once.1 r) (bytes_eq k.id r) refl h
+
+-- ---- a chain, up to one of its members
+
+place_by : (k : Known) (xs : List Known) (r : Id) (n : ℕ) → n ≡ length xs → (b : Bool) → (b || is_known xs r) ≡ false → cond (not b) (1 + n) 0 ≡ length (k ∷ xs)
+place_by k xs r n is true out = absurd (true≢false out)
+place_by k xs r n is false out = let e = is in omega arith
+
+rest_out : (b c : Bool) → (b || c) ≡ false → c ≡ false
+rest_out true c e = absurd (true≢false e)
+rest_out false c e = e
+
+place_at : (r : Id) (xs : List Known) (y : Known) (ys : List Known) → is_known xs r ≡ false → bytes_eq y.id r ≡ true → position_or_len (λ k. bytes_eq k.id r) (xs ++ y ∷ ys) ≡ length xs
+place_at r [] y ys out here = ap (λ b. cond (not b) (1 + position_or_len (λ k. bytes_eq k.id r) ys) 0) here
+place_at r (x ∷ xs) y ys out here = place_by x xs r (position_or_len (λ k. bytes_eq k.id r) (xs ++ y ∷ ys)) (place_at r xs y ys (rest_out (bytes_eq x.id r) (is_known xs r) out) here) (bytes_eq x.id r) out
+
+drop_past : (xs : List Known) (y : Known) (ys : List Known) → drop (suc (length xs)) (xs ++ y ∷ ys) ≡ ys
+drop_past [] y ys = refl
+drop_past (x ∷ xs) y ys = drop_past xs y ys
+
+after_first_at : (r : Id) (xs : List Known) (y : Known) (ys : List Known) → is_known xs r ≡ false → bytes_eq y.id r ≡ true → after_first (λ k. bytes_eq k.id r) (xs ++ y ∷ ys) ≡ ys
+after_first_at r xs y ys out here = ap (λ n. drop (n + 1) (xs ++ y ∷ ys)) (place_at r xs y ys out here) ∙ ap (λ n. drop n (xs ++ y ∷ ys)) (add-one (length xs)) ∙ drop_past xs y ys
+
+module _ (ks : List Known) (once : AreOnce (reverse ks)) (x r : Id) (member : is_known (chain ks x) r ≡ true) where
+  in_line : is_known (line ks x) r ≡ true
+  in_line = sym (known_reverse (line ks x) r) ∙ member
+
+  chain_split : chain ks x ≡ chain ks r ++ after_first (λ k. bytes_eq k.id r) (chain ks x)
+  chain_split =
+      let s = splits (reverse ks) once r x in_line in
+      let b = begins (reverse ks) once r (line_known (reverse ks) r x in_line) in
+      let root_chain : chain ks r ≡ reverse b.above ++ b.first ∷ [] = ap reverse b.line_is ∙ reverse-cons b.first b.above in
+      let whole : chain ks x ≡ chain ks r ++ reverse s.before = ap reverse s.line_is ∙ reverse-append s.before (line ks r) in
+      let placed : chain ks x ≡ reverse b.above ++ b.first ∷ reverse s.before = whole ∙ ap (λ (l : List Known). l ++ reverse s.before) root_chain ∙ append_assoc (reverse b.above) (b.first ∷ []) (reverse s.before) in
+      whole
+      ∙ ap (λ (l : List Known). chain ks r ++ l)
+      (sym (ap (after_first (λ k. bytes_eq k.id r)) placed ∙ after_first_at r (reverse b.above) b.first (reverse s.before) (known_reverse b.above r ∙ b.above_out) b.id_is))
+
+-- ---- a fork
+
+changesets-append : (ks js : List Known) → changesets (ks ++ js) ≡ changesets ks ++ changesets js
+changesets-append ks js = map-append (λ k. k.changeset) ks js
+
+changesets-with_id : (cs : List Changeset) → changesets (map with_id cs) ≡ cs
+changesets-with_id [] = refl
+changesets-with_id (c ∷ cs) = ap (λ ds. c ∷ ds) (changesets-with_id cs)
+
+record HasRoot (ks : List Known) (old : Id) (f : Fork) : Type 0 where
+  in_head : is_known (chain ks old) f.root.id ≡ true
+  range_is : f.range ≡ changesets (after_first (λ k. bytes_eq k.id f.root.id) (chain ks old))
+
+root_by : (ks : List Known) (old : Id) (of_draft : List Known) (found : Option Known) (f : Fork) → last_that (λ k. is_known (chain ks old) k.id) of_draft ≡ found → option_map (fork_at (chain ks old) of_draft) found ≡ Some f → HasRoot ks old f
+root_by ks old of_draft None f e is = absurd cc
+root_by ks old of_draft (Some root) f e is =
+    let same : fork_at (chain ks old) of_draft root ≡ f = ap (λ o. unwrap_or o f) is in
+    subst (HasRoot ks old) same (record { in_head = last_that_passes (λ k. is_known (chain ks old) k.id) of_draft root e; range_is = refl })
+
+has_root : (ks : List Known) (old draft : Id) (f : Fork) → fork ks old draft ≡ Some f → HasRoot ks old f
+has_root ks old draft f is = root_by ks old (chain ks draft) (last_that (λ k. is_known (chain ks old) k.id) (chain ks draft)) f refl is
+
+-- ---- a landing
+
+last_map : (cs : List Changeset) (o : Option Changeset) → last_or (option_map id_of o) (map id_of cs) ≡ option_map id_of (last_or o cs)
+last_map [] o = refl
+last_map (c ∷ cs) o = last_map cs (Some c)
+
+last_some : (c : Changeset) (cs : List Changeset) → (x : Id) × (option_map id_of (last_or (Some c) cs) ≡ Some x)
+last_some c [] = (id_of c, refl)
+last_some c (d ∷ cs) = last_some d cs
+
+last_id : (cs : List Changeset) → (length cs ≡ 0 → ⊥) → (x : Id) × (option_map id_of (last_of cs) ≡ Some x)
+last_id [] some = absurd (some refl)
+last_id (c ∷ cs) some = last_some c cs
+
+module _ (header : Header) (h : List Entry) (who : ℕ) (l : Landing) (name : List ℕ) (draft : Id) (able : IsLandable header h name draft l) (after : List Entry) (grows : after ≡ h ++ entry_by who (Land l) ∷ []) (legal : IsLegal header after) where
+  last : (x : Id) × (option_map id_of (last_of l.new) ≡ Some x)
+  last = last_id l.new (λ none. (let some = able.some in omega arith))
+
+  known_now : known after ≡ known (h ++ entry_by who (Land l) ∷ [])
+  known_now = ap known grows
+
+  chain_now : chain (known after) last.0 ≡ chain (known h) l.old ++ map with_id l.new
+  chain_now =
+      ap (λ ks. chain ks last.0) known_now
+      ∙ chain_landed header h who l last.0 (subst (IsLegal header) grows legal)
+      (λ c k in_new in_known. alone_after (known h) l.new able.alone c k in_new (subst (λ ks. Contains ks k) (known-land h who l) in_known)) last.1
+
+  tree_now : (p : Path) → tree (changesets (chain (known after) last.0)) p ≡ cond (list_any (λ c. decides c p) able.fork_is.stack) (tree able.fork_is.stack p) (tree (changesets (chain (known h) l.old)) p)
+  tree_now p =
+      let of_head = changesets (chain (known h) l.old) in
+      ap (λ cs. tree cs p)
+      (ap changesets chain_now ∙ changesets-append (chain (known h) l.old) (map with_id l.new) ∙ ap (λ (cs : List Changeset). of_head ++ cs) (changesets-with_id l.new ∙ able.rewritten))
+      ∙ tree-landed of_head able.fork_is.stack l.old p
+
+  tree_before : (p : Path) → Contains (touched_paths able.fork_is.stack) p → tree (changesets (chain (known h) l.old)) p ≡ tree (changesets (chain (known h) able.fork_is.root.id)) p
+  tree_before p touched =
+      let root = has_root (known h) l.old draft able.fork_is able.forks in
+      let root_chain = chain (known h) able.fork_is.root.id in
+      ap (λ cs. tree cs p)
+      (ap changesets (chain_split (known h) (known_once h) l.old able.fork_is.root.id root.in_head)
+      ∙ changesets-append root_chain (after_first (λ k. bytes_eq k.id able.fork_is.root.id) (chain (known h) l.old))
+      ∙ ap (λ (cs : List Changeset). changesets root_chain ++ cs) (sym root.range_is))
+      ∙ unchanged_since_root (changesets root_chain) able.fork_is.range able.fork_is.stack able.apart p touched
+
+  pub lands : (ids : List ids.Id) → ids_seen ids ≡ map id_of l.new → IsLanding (known h) (known after) l.old draft (ids_seen ids)
+  lands ids are = record {
+    fork_is = able.fork_is;
+    forks = able.forks;
+    new_head = last.0;
+    new_head_is = ap last_of are ∙ last_map l.new None ∙ last.1;
+    applied = tree_now;
+    unchanged = tree_before;
+  }

@@ -1,0 +1,212 @@
+-- What the steps of a landing give, and what is judged by them.
+use Rattle.std.proofs.Common.{◌≡◌, ℕ, ◌+◌, ◌<◌, ◌≤◌, lt-ltb, le-ltb, Bool, true, false, cond, List, [], ◌∷◌, length, map, inl, inr, refl, sym, ap, subst, ◌∙◌, arith}
+use Rattle.std.specs.Prelude.{Option, None, Some, Result, Ok, Err, not, nat_lt, ◌==◌, ok_or}
+use Rattle.std.proofs.lemmas.Bool.{eq-eqb}
+use Rattle.std.proofs.lemmas.Bool.Decides.{Decides-eqb, nat_tests}
+use mathlib.Core.Bool.{true≢false}
+use Rattle.byte_fields.specs.Bytes.{Id}
+use Rattle.changeset_model.specs.Path.{Path}
+use Rattle.changeset_model.specs.Changeset.{Changeset, id_of, touched_paths}
+use Rattle.history_model.specs.History as model
+use Rattle.history_model.specs.History.{Entry, Known, Land, is_down, known, is_known}
+use Rattle.history_model.specs.Bookmark.{head}
+use Rattle.history_model.specs.Pushrebase.{Fork, fork, clash, rewrite}
+use Rattle.history_model.specs.Journal.{Header, payload_len, most_payload}
+use Rattle.reply_model.specs.Reply as reply
+use Rattle.reply_model.specs.Reply.{◌>>=◌, refuse_if, refuse_some, most_range, most_stack, first_collision, LandDraft, Judged, judge, entered, enter_landing, land}
+use Rattle.reply_model.specs.After.{Refuses}
+use Rattle.object_id.specs.declared.id.Id as ids
+use Rattle.repo_machine.specs.Answering.{refused}
+use Rattle.repo_machine.specs.declared.refusal.Refusal.{Refusal}
+use Rattle.repo_machine.specs.declared.refusal.Refusal.TheVariants as refusals
+use Rattle.repo_machine.specs.Landings.{IsRefusal, Steps, Checked, forking, lengths_checked, paths_checked, payload_checked, collisions_checked}
+use Rattle.repo_machine.proofs.Judging.{judged_up}
+
+-- ---- lengths
+
+lengths_by : Bool → ℕ → Bool → Bool → ℕ → Checked
+lengths_by far distance none many count = refuse_if far (reply.TooFarBehind distance) >>= λ _. (refuse_if none reply.AlreadyIn >>= λ _. refuse_if many (reply.StackTooLong count))
+
+not_zero : (n : ℕ) → (n ≡ 0 → ⊥) → (n == 0) ≡ false
+not_zero n apart = by (n == 0) refl
+  where
+    by : (t : Bool) → (n == 0) ≡ t → (n == 0) ≡ false
+    by true e = absurd (apart ((Decides-eqb n 0).0 e))
+    by false e = e
+
+module _ (f : Fork) (distance : ℕ) (is : distance ≡ length f.range) where
+  lengths_are : (far : Bool) → nat_lt most_range distance ≡ far → lengths_checked f ≡ lengths_by far distance (length f.stack == 0) (nat_lt most_stack (length f.stack)) (length f.stack)
+  unfolding lengths_by
+  lengths_are far e = (λ i. lengths_by (nat_lt most_range (sym is i)) (sym is i) (length f.stack == 0) (nat_lt most_stack (length f.stack)) (length f.stack)) ∙ ap (λ b. lengths_by b distance (length f.stack == 0) (nat_lt most_stack (length f.stack)) (length f.stack)) e
+
+  pub too_far : most_range < distance → IsRefusal (lengths_checked f) (refusals.TooFarBehind distance)
+  unfolding lengths_by
+  too_far far = inr (reply.TooFarBehind distance, lengths_are true (lt-ltb most_range distance far), refl)
+
+  module _ (near : distance ≤ most_range) (count : ℕ) (counts : count ≡ length f.stack) where
+    near_are : lengths_checked f ≡ lengths_by false distance (count == 0) (nat_lt most_stack count) count
+    near_are = lengths_are false (le-ltb most_range distance near) ∙ (λ i. lengths_by false distance (sym counts i == 0) (nat_lt most_stack (sym counts i)) (sym counts i))
+
+    pub already_in : count ≡ 0 → IsRefusal (lengths_checked f) refusals.AlreadyIn
+    unfolding lengths_by
+    already_in none = inr (reply.AlreadyIn, near_are ∙ ap (λ b. lengths_by false distance b (nat_lt most_stack count) count) (eq-eqb count 0 none), refl)
+
+    pub too_many : (count ≡ 0 → ⊥) → most_stack < count → IsRefusal (lengths_checked f) (refusals.StackTooLong count)
+    unfolding lengths_by
+    too_many some many = inr (reply.StackTooLong count, near_are ∙ (λ i. lengths_by false distance (not_zero count some i) (lt-ltb most_stack count many i) count), refl)
+
+    pub fine_lengths : (count ≡ 0 → ⊥) → count ≤ most_stack → lengths_checked f ≡ Ok tt
+    unfolding lengths_by
+    fine_lengths some few = near_are ∙ (λ i. lengths_by false distance (not_zero count some i) (le-ltb most_stack count few i) count)
+
+-- what passes is short, and something
+passed_by : (far none many : Bool) (distance count : ℕ) → lengths_by far distance none many count ≡ Ok tt → (none ≡ false) × (many ≡ false)
+unfolding lengths_by
+passed_by true none many distance count e = absurd cc
+passed_by false true many distance count e = absurd cc
+passed_by false false true distance count e = absurd cc
+passed_by false false false distance count e = (refl, refl)
+
+pub record IsShort (f : Fork) : Type 0 where
+  pub some : 0 < length f.stack
+  pub few : length f.stack ≤ most_stack
+
+some_by : (n : ℕ) → (n == 0) ≡ false → 0 < n
+some_by n e = by n e
+  where
+    by : (n : ℕ) → (n == 0) ≡ false → 0 < n
+    by n e = let apart : n ≡ 0 → ⊥ = λ z. true≢false (sym ((Decides-eqb n 0).1 z) ∙ e) in omega (arith, apart)
+
+few_by : (n : ℕ) → nat_lt most_stack n ≡ false → n ≤ most_stack
+few_by n e = grind (arith, nat_tests)
+
+pub is_short : (f : Fork) → lengths_checked f ≡ Ok tt → IsShort f
+unfolding lengths_by
+is_short f e =
+    let both = passed_by (nat_lt most_range (length f.range)) (length f.stack == 0) (nat_lt most_stack (length f.stack)) (length f.range) (length f.stack) e in
+    record { some = some_by (length f.stack) both.0; few = few_by (length f.stack) both.1 }
+
+-- ---- the fork
+
+fork_by : Bool → Id → Option Fork → Result Fork reply.Refusal
+fork_by there draft found = refuse_if (not there) (reply.NoChangeset draft) >>= λ _. ok_or found reply.NoRoot
+
+module _ (ks : List Known) (old : Id) (draft : ids.Id) where
+  pub unknown_draft : is_known ks draft.0 ≡ false → IsRefusal (forking ks old draft.0) (refusals.NoChangeset draft)
+  unfolding fork_by
+  unknown_draft e = inr (reply.NoChangeset draft.0, ap (λ b. fork_by b draft.0 (fork ks old draft.0)) e, refl)
+
+  pub no_root : is_known ks draft.0 ≡ true → fork ks old draft.0 ≡ None → IsRefusal (forking ks old draft.0) refusals.NoRoot
+  unfolding fork_by
+  no_root e none = inr (reply.NoRoot, (λ i. fork_by (e i) draft.0 (none i)), refl)
+
+  pub forked : (f : Fork) → is_known ks draft.0 ≡ true → fork ks old draft.0 ≡ Some f → forking ks old draft.0 ≡ Ok f
+  unfolding fork_by
+  forked f e some = (λ i. fork_by (e i) draft.0 (some i))
+
+-- ---- refusals of some
+
+pub refused_some : {X : Type 0} (found : Option X) (make : X → reply.Refusal) (x : X) (e : Refusal) → found ≡ Some x → refused e ≡ Refuses (make x) → IsRefusal (refuse_some found make) e
+refused_some found make x e some same = inr (make x, ap (λ o. refuse_some o make) some, same)
+
+pub refused_none : {X : Type 0} (found : Option X) (make : X → reply.Refusal) → found ≡ None → refuse_some found make ≡ Ok tt
+refused_none found make none = ap (λ o. refuse_some o make) none
+
+pub none_refused : {X : Type 0} (found : Option X) (make : X → reply.Refusal) → refuse_some found make ≡ Ok tt → found ≡ None
+none_refused None make e = refl
+none_refused (Some x) make e = absurd cc
+
+-- ---- the payload
+
+pub too_large : (l : model.Landing) (n : ℕ) → n ≡ payload_len (Land l) → most_payload < n → IsRefusal (payload_checked l) (refusals.TooLarge n)
+too_large l n is large = inr (reply.TooLarge n, (λ i. refuse_if (nat_lt most_payload (sym is i)) (reply.TooLarge (sym is i))) ∙ ap (λ b. refuse_if b (reply.TooLarge n)) (lt-ltb most_payload n large), refl)
+
+pub fine_payload : (l : model.Landing) (n : ℕ) → n ≡ payload_len (Land l) → n ≤ most_payload → payload_checked l ≡ Ok tt
+fine_payload l n is short = (λ i. refuse_if (nat_lt most_payload (sym is i)) (reply.TooLarge (sym is i))) ∙ ap (λ b. refuse_if b (reply.TooLarge n)) (le-ltb most_payload n short)
+
+-- ---- what is judged
+
+three : (first second third : Checked) (rest : Result Judged reply.Refusal) → (first >>= λ _. (second >>= λ _. (third >>= λ _. rest))) ≡ ((first >>= λ _. (second >>= λ _. third)) >>= λ _. rest)
+three (Ok a) (Ok b) (Ok c) rest = refl
+three (Ok a) (Ok b) (Err e) rest = refl
+three (Ok a) (Err e) third rest = refl
+three (Err e) second third rest = refl
+
+two : (first : Checked) (found : Result Fork reply.Refusal) (rest : Fork → Result Judged reply.Refusal) → (first >>= λ _. (found >>= rest)) ≡ ((first >>= λ _. found) >>= rest)
+two (Ok a) found rest = refl
+two (Err e) found rest = refl
+
+module _ (header : Header) (h : List Entry) (name : List ℕ) (draft : Id) (up : is_down h ≡ false) where
+  abbrev after_paths : Id → Fork → Result Judged reply.Refusal
+  after_paths old f = enter_landing header h name old draft (rewrite f.stack old)
+
+  abbrev after_lengths : Id → Fork → Result Judged reply.Refusal
+  after_lengths old f = paths_checked f >>= λ _. after_paths old f
+
+  abbrev after_fork : Id → Fork → Result Judged reply.Refusal
+  after_fork old f = lengths_checked f >>= λ _. after_lengths old f
+
+  abbrev after_head : Id → Result Judged reply.Refusal
+  after_head old = forking (known h) old draft >>= after_fork old
+
+  in_order : (old : Id) (f : Fork) → (refuse_if (nat_lt most_range (length f.range)) (reply.TooFarBehind (length f.range)) >>= λ _. (refuse_if (length f.stack == 0) reply.AlreadyIn >>= λ _. (refuse_if (nat_lt most_stack (length f.stack)) (reply.StackTooLong (length f.stack)) >>= λ _. after_lengths old f))) ≡ after_fork old f
+  in_order old f = three (refuse_if (nat_lt most_range (length f.range)) (reply.TooFarBehind (length f.range))) (refuse_if (length f.stack == 0) reply.AlreadyIn) (refuse_if (nat_lt most_stack (length f.stack)) (reply.StackTooLong (length f.stack))) (after_lengths old f)
+
+  judged_head : (found : Option Id) → head h name ≡ found → judge header h (LandDraft name draft) ≡ (ok_or found reply.NoBookmark >>= after_head)
+  judged_head found e =
+      judged_up header h (LandDraft name draft) up
+      ∙ (λ i. ok_or (e i) reply.NoBookmark >>= λ old. (refuse_if (not (is_known (known h) draft)) (reply.NoChangeset draft) >>= λ _. (ok_or (fork (known h) old draft) reply.NoRoot >>= λ f. in_order old f i)))
+      ∙ (λ i. ok_or found reply.NoBookmark >>= λ old. two (refuse_if (not (is_known (known h) draft)) (reply.NoChangeset draft)) (ok_or (fork (known h) old draft) reply.NoRoot) (after_fork old) i)
+
+  pub no_bookmark : head h name ≡ None → IsRefusal (judge header h (LandDraft name draft)) refusals.NoBookmark
+  no_bookmark none = inr (reply.NoBookmark, judged_head None none, refl)
+
+  module _ (old : Id) (e : head h name ≡ Some old) where
+    pub fork_refused : (refusal : Refusal) → IsRefusal (forking (known h) old draft) refusal → IsRefusal (judge header h (LandDraft name draft)) refusal
+    fork_refused refusal (inl memory) = inl memory
+    fork_refused refusal (inr (r, is, same)) = inr (r, judged_head (Some old) e ∙ ap (λ x. x >>= after_fork old) is, same)
+
+    module _ (f : Fork) (forks : forking (known h) old draft ≡ Ok f) where
+      judged_fork : judge header h (LandDraft name draft) ≡ after_fork old f
+      judged_fork = judged_head (Some old) e ∙ ap (λ x. x >>= after_fork old) forks
+
+      pub lengths_refused : (refusal : Refusal) → IsRefusal (lengths_checked f) refusal → IsRefusal (judge header h (LandDraft name draft)) refusal
+      lengths_refused refusal (inl memory) = inl memory
+      lengths_refused refusal (inr (r, is, same)) = inr (r, judged_fork ∙ ap (λ x. x >>= λ _. after_lengths old f) is, same)
+
+      module _ (short : lengths_checked f ≡ Ok tt) where
+        judged_lengths : judge header h (LandDraft name draft) ≡ after_lengths old f
+        judged_lengths = judged_fork ∙ ap (λ x. x >>= λ _. after_lengths old f) short
+
+        pub paths_refused : (refusal : Refusal) → IsRefusal (paths_checked f) refusal → IsRefusal (judge header h (LandDraft name draft)) refusal
+        paths_refused refusal (inl memory) = inl memory
+        paths_refused refusal (inr (r, is, same)) = inr (r, judged_lengths ∙ ap (λ x. x >>= λ _. after_paths old f) is, same)
+
+        pub judged_planned : paths_checked f ≡ Ok tt → judge header h (LandDraft name draft) ≡ enter_landing header h name old draft (rewrite f.stack old)
+        judged_planned apart = judged_lengths ∙ ap (λ x. x >>= λ _. after_paths old f) apart
+
+-- entering it
+module _ (header : Header) (h : List Entry) (ask : reply.Ask) (name : List ℕ) (old draft : Id) (new : List Changeset) (judged : judge header h ask ≡ enter_landing header h name old draft new) where
+  abbrev landing : model.Landing
+  landing = record { name = name; old = old; draft = draft; new = new }
+
+  abbrev after_collisions : Result Judged reply.Refusal
+  after_collisions = entered header h (reply.Landed old (map id_of new)) (Land landing)
+
+  abbrev after_payload : Result Judged reply.Refusal
+  after_payload = collisions_checked (known h) new >>= λ _. after_collisions
+
+  pub payload_refused : (refusal : Refusal) → IsRefusal (payload_checked landing) refusal → IsRefusal (judge header h ask) refusal
+  payload_refused refusal (inl memory) = inl memory
+  payload_refused refusal (inr (r, is, same)) = inr (r, judged ∙ ap (λ x. x >>= λ _. after_payload) is, same)
+
+  module _ (short : payload_checked landing ≡ Ok tt) where
+    judged_payload : judge header h ask ≡ after_payload
+    judged_payload = judged ∙ ap (λ x. x >>= λ _. after_payload) short
+
+    pub collision_refused : (refusal : Refusal) → IsRefusal (collisions_checked (known h) new) refusal → IsRefusal (judge header h ask) refusal
+    collision_refused refusal (inl memory) = inl memory
+    collision_refused refusal (inr (r, is, same)) = inr (r, judged_payload ∙ ap (λ x. x >>= λ _. after_collisions) is, same)
+
+    pub judged_landing : collisions_checked (known h) new ≡ Ok tt → judge header h ask ≡ after_collisions
+    judged_landing apart = judged_payload ∙ ap (λ x. x >>= λ _. after_collisions) apart

@@ -1,0 +1,178 @@
+-- What is judged of an upload, by its checks.
+use Rattle.std.proofs.Common.{◌≡◌, ℕ, ◌≤◌, ◌<◌, ◌^◌, Bool, true, false, cond, not, List, [], ◌∷◌, length, refl, sym, ap, subst, ◌∙◌, arith}
+use Rattle.std.specs.Prelude.{Option, None, Some, Result, Ok, Err, nat_lt, find, option_map, filter_map, IsErrAnd}
+use Rattle.std.specs.List.{AllByRecursion}
+use Rattle.std.specs.Option.{option_or}
+use Rattle.byte_fields.specs.Bytes.{Id, first_some, IsBytes}
+use Rattle.changeset_model.specs.Path.{Path}
+use Rattle.changeset_model.specs.Changeset.{Changeset, FileChange, Set, Delete, id_of, sets_of, file_of, spelling, most_encoded, Spells}
+use Rattle.changeset_model.specs.Decoding.{decoded}
+use Rattle.changeset_model.specs.Decoding as decoding
+use Rattle.changeset_model.proofs.Accepting.{accepted_exactly}
+use Rattle.history_model.specs.History.{Change, Entry, Known, is_down, known, is_known, content_len}
+use Rattle.history_model.specs.Journal.{Header}
+use Rattle.history_model.specs.Repository.{Repository}
+use Rattle.bonsai.specs.declared.decode_fault.DecodeFault.{DecodeFault}
+use Rattle.bonsai.specs.declared.decode_fault.DecodeFault.TheVariants as faults
+use Rattle.bonsai.specs.Decodes.{Refuses}
+use Rattle.reply_model.specs.Reply.{PutChangeset, ChangesetPut, Refusal, Judged, Merge, NoParent, Collision, TooLong, BadEncoding, SelfConflict, judge, entered, unchanged, accepted, refuse_if, refuse_some, content_refusal, collides, ◌>>=◌}
+use Rattle.reply_model.specs.After.{Answer, Asks, Replies}
+use Rattle.repo_machine.specs.declared.refusal.Refusal as refusal
+use Rattle.repo_machine.specs.Answering.{refused}
+use Rattle.repo_machine.specs.Faults.{refusal_of}
+use Rattle.repo_machine.specs.Indexes.{AreIndexes}
+use Rattle.repo_machine.specs.Checking.{parents_refusal, edit_refusal, contents_refusal, collision_refusal, is_other_spelling, IsOnce}
+use Rattle.repo_machine.specs.Entering.{CanMake}
+use Rattle.repo_machine.proofs.Judging.{judged_up, replies_refused, replies_memory}
+use Rattle.repo_machine.proofs.Putting.{are_bytes-from, up_as}
+use Rattle.reply_model.proofs.Parents.{brought}
+
+-- ---- a fault of the bytes
+
+fault_refused : (header : Header) (h : List Entry) (bytes : List ℕ) (up : is_down h ≡ false) (fault : decoding.DecodeFault) → decoded bytes ≡ Err fault → judge header h (PutChangeset bytes) ≡ Err (Rattle.reply_model.specs.Reply.upload_refusal fault)
+fault_refused header h bytes up fault e =
+    judged_up header h (PutChangeset bytes) up
+    ∙ ap (λ d. accepted d >>= λ c.
+    refuse_if (nat_lt 1 (length c.parents)) Merge >>= λ _.
+    refuse_some (find (λ p. not (is_known (known h) p)) c.parents) NoParent >>= λ _.
+    refuse_some (first_some (λ e. content_refusal e (content_len h e.1.content)) (sets_of c)) (λ refusal. refusal) >>= λ _.
+    refuse_if (collides (known h) c) (Collision (id_of c)) >>= λ _.
+    cond (is_known (known h) (id_of c)) (unchanged (ChangesetPut (id_of c))) (entered header h (ChangesetPut (id_of c)) (Change c))) e
+
+fault_answer : (header : Header) (h : List Entry) (who : ℕ) (bytes : List ℕ) → is_down h ≡ false → (fault : DecodeFault) → Refuses fault (decoded bytes) → Replies header h who (Asks (PutChangeset bytes)) (refused (refusal_of fault)) h
+fault_answer header h who bytes up (faults.TooLong n) e = replies_refused header h who (PutChangeset bytes) (TooLong n) (fault_refused header h bytes up (decoding.TooLong n) e)
+fault_answer header h who bytes up (faults.BadEncoding at) e = replies_refused header h who (PutChangeset bytes) (BadEncoding at) (fault_refused header h bytes up (decoding.BadEncoding at) e)
+fault_answer header h who bytes up (faults.SelfConflict short long) e = replies_refused header h who (PutChangeset bytes) (SelfConflict short long) (fault_refused header h bytes up (decoding.SelfConflict short long) e)
+fault_answer header h who bytes up faults.Memory e = replies_memory header h who (PutChangeset bytes)
+
+pub answers_fault : {X : Type 0} (answer : Result X refusal.Refusal → Answer) (errs : (e : refusal.Refusal) → answer (Err e) ≡ refused e) (header : Header) (h : List Entry) (who : ℕ) (bytes : List ℕ) → is_down h ≡ false → (fault : DecodeFault) (result : Result X refusal.Refusal) → Refuses fault (decoded bytes) → IsErrAnd result (λ e. e ≡ refusal_of fault) → Replies header h who (Asks (PutChangeset bytes)) (answer result) h
+answers_fault answer errs header h who bytes up fault (Ok x) e err = absurd err
+answers_fault answer errs header h who bytes up fault (Err x) e err = subst (λ a. Replies header h who (Asks (PutChangeset bytes)) a h) (sym (errs x ∙ ap refused err)) (fault_answer header h who bytes up fault e)
+
+-- ---- the contents, edit by edit
+
+sets_by : (lengths : Id → Option ℕ) (p : Path) (c : FileChange) (es : List (Path × FileChange)) → first_some (λ e. content_refusal e (lengths e.1.content)) (filter_map (λ e. option_map (λ f. (e.0, f)) (file_of e.1)) es) ≡ contents_refusal lengths es → first_some (λ e. content_refusal e (lengths e.1.content)) (filter_map (λ e. option_map (λ f. (e.0, f)) (file_of e.1)) ((p, c) ∷ es)) ≡ option_or (edit_refusal lengths (p, c)) (contents_refusal lengths es)
+sets_by lengths p (Set f) es ih = ap (option_or (content_refusal (p, f) (lengths f.content))) ih
+sets_by lengths p Delete es ih = ih
+
+sets_refusal : (lengths : Id → Option ℕ) (es : List (Path × FileChange)) → first_some (λ e. content_refusal e (lengths e.1.content)) (filter_map (λ e. option_map (λ f. (e.0, f)) (file_of e.1)) es) ≡ contents_refusal lengths es
+sets_refusal lengths [] = refl
+sets_refusal lengths (e ∷ es) = sets_by lengths e.0 e.1 es (sets_refusal lengths es)
+
+-- ---- the steps
+
+parents_step : (b : Bool) (o : Option Id) (f : Unit {0} → Result Judged Refusal) → ((refuse_if b Merge >>= λ _. refuse_some o NoParent) >>= f) ≡ (refuse_some (cond b (Some Merge) (option_map NoParent o)) (λ r. r) >>= f)
+parents_step true o f = refl
+parents_step false None f = refl
+parents_step false (Some x) f = refl
+
+assoc : (a b : Result (Unit {0}) Refusal) (f : Unit {0} → Result Judged Refusal) → (a >>= λ _. b >>= f) ≡ ((a >>= λ _. b) >>= f)
+assoc (Ok x) b f = refl
+assoc (Err e) b f = refl
+
+collision_step : (b : Bool) (x : Id) (f : Unit {0} → Result Judged Refusal) → (refuse_if b (Collision x) >>= f) ≡ (refuse_some (cond b (Some (Collision x)) None) (λ r. r) >>= f)
+collision_step true x f = refl
+collision_step false x f = refl
+
+module _ (header : Header) (h : List Entry) (bytes : List ℕ) (up : is_down h ≡ false) (c : Changeset) (d : decoded bytes ≡ Ok c) where
+  abbrev ending : Bool → Result Judged Refusal
+  ending b = cond b (unchanged (ChangesetPut (id_of c))) (entered header h (ChangesetPut (id_of c)) (Change c))
+
+  abbrev from_collision : Option Refusal → Result Judged Refusal
+  from_collision o = refuse_some o (λ r. r) >>= λ _. ending (is_known (known h) (id_of c))
+
+  abbrev from_contents : Option Refusal → Result Judged Refusal
+  from_contents o = refuse_some o (λ r. r) >>= λ _. from_collision (collision_refusal (known h) (id_of c) (spelling c))
+
+  abbrev from_parents : Option Refusal → Result Judged Refusal
+  from_parents o = refuse_some o (λ r. r) >>= λ _. from_contents (contents_refusal (content_len h) c.changes)
+
+  steps : judge header h (PutChangeset bytes) ≡ from_parents (parents_refusal (known h) c)
+  steps =
+      judged_up header h (PutChangeset bytes) up
+      ∙ ap (λ d. accepted d >>= λ c.
+      refuse_if (nat_lt 1 (length c.parents)) Merge >>= λ _.
+      refuse_some (find (λ p. not (is_known (known h) p)) c.parents) NoParent >>= λ _.
+      refuse_some (first_some (λ e. content_refusal e (content_len h e.1.content)) (sets_of c)) (λ refusal. refusal) >>= λ _.
+      refuse_if (collides (known h) c) (Collision (id_of c)) >>= λ _.
+      cond (is_known (known h) (id_of c)) (unchanged (ChangesetPut (id_of c))) (entered header h (ChangesetPut (id_of c)) (Change c))) d
+      ∙ assoc (refuse_if (nat_lt 1 (length c.parents)) Merge) (refuse_some (find (λ p. not (is_known (known h) p)) c.parents) NoParent) _
+      ∙ parents_step (nat_lt 1 (length c.parents)) (find (λ p. not (is_known (known h) p)) c.parents) _
+      ∙ (λ i. refuse_some (parents_refusal (known h) c) (λ r. r) >>= λ _.
+      refuse_some (sets_refusal (content_len h) c.changes i) (λ r. r) >>= λ _.
+      collision_step (is_other_spelling (known h) (id_of c) (spelling c)) (id_of c) (λ _. ending (is_known (known h) (id_of c))) i)
+
+  pub judged_parents : (r : Refusal) → parents_refusal (known h) c ≡ Some r → judge header h (PutChangeset bytes) ≡ Err r
+  judged_parents r e = steps ∙ ap from_parents e
+
+  module _ (parents : parents_refusal (known h) c ≡ None) where
+    pub judged_contents : (r : Refusal) → contents_refusal (content_len h) c.changes ≡ Some r → judge header h (PutChangeset bytes) ≡ Err r
+    judged_contents r e = steps ∙ ap from_parents parents ∙ ap from_contents e
+
+    module _ (contents : contents_refusal (content_len h) c.changes ≡ None) where
+      pub judged_collision : (r : Refusal) → collision_refusal (known h) (id_of c) (spelling c) ≡ Some r → judge header h (PutChangeset bytes) ≡ Err r
+      judged_collision r e = steps ∙ ap from_parents parents ∙ ap from_contents contents ∙ ap from_collision e
+
+      module _ (alone : collision_refusal (known h) (id_of c) (spelling c) ≡ None) where
+        pub judged_ending : (b : Bool) → b ≡ is_known (known h) (id_of c) → judge header h (PutChangeset bytes) ≡ ending b
+        judged_ending b e = steps ∙ ap from_parents parents ∙ ap from_contents contents ∙ ap from_collision alone ∙ ap ending (sym e)
+
+-- ---- as the machine has it
+
+unknown_by : (ks : List Known) (p : Id) (ps : List Id) → (find (λ p. not (is_known ks p)) ps ≡ None → AllByRecursion (λ p. is_known ks p ≡ true) ps) → (b : Bool) → is_known ks p ≡ b → cond (not b) (Some p) (find (λ p. not (is_known ks p)) ps) ≡ None → (is_known ks p ≡ true) × AllByRecursion (λ p. is_known ks p ≡ true) ps
+unknown_by ks p ps later true there e = (there, later e)
+unknown_by ks p ps later false there e = absurd cc
+
+none_unknown : (ks : List Known) (ps : List Id) → find (λ p. not (is_known ks p)) ps ≡ None → AllByRecursion (λ p. is_known ks p ≡ true) ps
+none_unknown ks [] e = tt
+none_unknown ks (p ∷ ps) e = unknown_by ks p ps (none_unknown ks ps) (is_known ks p) refl e
+
+no_refusal : (b : Bool) (o : Option Id) → cond b (Some Merge) (option_map NoParent o) ≡ None → o ≡ None
+no_refusal true o e = absurd cc
+no_refusal false None e = refl
+no_refusal false (Some x) e = absurd cc
+
+pub parents_known : (ks : List Known) (c : Changeset) → parents_refusal ks c ≡ None → AllByRecursion (λ p. is_known ks p ≡ true) c.parents
+parents_known ks c e = none_unknown ks c.parents (no_refusal (nat_lt 1 (length c.parents)) (find (λ p. not (is_known ks p)) c.parents) e)
+
+module _ {header : Header} {h : List Entry} {ks : List Known} {heads : List ℕ → Option Id} {lengths : Id → Option ℕ} {size : ℕ} (k : AreIndexes header h ks heads lengths size) (r : Repository) (is : ◌≡◌ {A = Repository} (record { header = header; history = h }) r) where
+  pub known_as : ks ≡ known r.history
+  known_as = k.known_are ∙ ap (λ r. known r.history) is
+
+  pub once_as : IsOnce ks
+  once_as = (brought h, k.known_are)
+
+  module _ (bytes : List ℕ) (are : IsBytes bytes) (c : Changeset) (d : decoded bytes ≡ Ok c) where
+    accepts : (length bytes ≤ most_encoded) × Spells c bytes
+    accepts = let all = (accepted_exactly bytes c are).0 d in (all.0, all.1)
+
+    spelled : bytes ≡ spelling c
+    spelled = accepts.1.1
+
+    pub short : length (spelling c) < 2 ^ 63
+    short = subst (λ bytes. length bytes < 2 ^ 63) spelled (let few = accepts.0 in omega arith)
+
+    pub parents_as : (seen : Changeset) → seen ≡ c → parents_refusal ks seen ≡ parents_refusal (known r.history) c
+    parents_as seen same = (λ i. parents_refusal (known_as i) (same i))
+
+    pub contents_as : (es : List (Path × FileChange)) → es ≡ c.changes → contents_refusal lengths es ≡ contents_refusal (content_len r.history) c.changes
+    contents_as es same = (λ i. contents_refusal (λ x. (k.lengths_are x ∙ ap (λ r. content_len r.history x) is) i) (same i))
+
+    pub collision_as : (x : Id) → x ≡ id_of c → collision_refusal ks x bytes ≡ collision_refusal (known r.history) (id_of c) (spelling c)
+    collision_as x same = (λ i. collision_refusal (known_as i) (same i) (spelled i))
+
+    module _ (seen : Changeset) (same : seen ≡ c) (fine : parents_refusal ks seen ≡ None) where
+      pub no_parents : parents_refusal (known r.history) c ≡ None
+      no_parents = sym (parents_as seen same) ∙ fine
+
+      module _ (es : List (Path × FileChange)) (es_are : es ≡ c.changes) (stored : contents_refusal lengths es ≡ None) where
+        pub no_contents : contents_refusal (content_len r.history) c.changes ≡ None
+        no_contents = sym (contents_as es es_are) ∙ stored
+
+        pub judged_as : (x : Id) → x ≡ id_of c → collision_refusal ks x bytes ≡ None → (b : Bool) → b ≡ is_known ks x → judge r.header r.history (PutChangeset bytes) ≡ cond b (unchanged (ChangesetPut x)) (entered r.header r.history (ChangesetPut x) (Change c))
+        judged_as x x_is alone b b_is =
+            judged_ending r.header r.history bytes (up_as k r is) c d no_parents no_contents (sym (collision_as x x_is) ∙ alone) b (b_is ∙ (λ i. is_known (known_as i) (x_is i)))
+            ∙ ap (λ y. cond b (unchanged (ChangesetPut y)) (entered r.header r.history (ChangesetPut y) (Change c))) (sym x_is)
+
+        pub upload_as : (x : Id) → x ≡ id_of c → collision_refusal ks x bytes ≡ None → false ≡ is_known ks x → CanMake r.header r.history (Change c)
+        upload_as x x_is alone b_is = record { ask = PutChangeset bytes; granted = ChangesetPut x; asks = are_bytes-from bytes are; judged = judged_as x x_is alone false b_is }

@@ -1,0 +1,43 @@
+-- What an upload is checked for.
+--     Checks result found      what a check returned is the refusal that is found, or that none is, unless memory ran out
+--     parents_refusal ks c      that there are two parents, or one that isn't known
+--     contents_refusal lengths es      of the contents that are set: the first that isn't stored, or that has another length
+--     collision_refusal ks x bytes      that a known changeset has this id and another spelling
+--     IsOnce ks      each id is known once
+use Rattle.std.specs.Prelude.{◌≡◌, ◌⊎◌, ℕ, Bool, not, ◌&&◌, nat_lt, if◌then◌else◌, List, length, find, bytes_eq, Option, None, Some, option_map, Result, Ok, Err}
+use Rattle.std.specs.List.{list_any}
+use Rattle.byte_fields.specs.Bytes.{Id, first_some}
+use Rattle.changeset_model.specs.Path.{Path}
+use Rattle.changeset_model.specs.Changeset.{FileChange, Set, Delete, Changeset, spelling}
+use Rattle.history_model.specs.History.{Known, is_known, each_id_once}
+use Rattle.reply_model.specs.Reply as reply
+use Rattle.reply_model.specs.After.{Refuses}
+use Rattle.repo_machine.specs.declared.refusal.Refusal.{Refusal}
+use Rattle.repo_machine.specs.declared.refusal.Refusal.TheVariants.{Memory}
+use Rattle.repo_machine.specs.Answering.{refused}
+
+abbrev pub IsFound : Refusal → Option reply.Refusal → Type 0
+IsFound e found = (e ≡ Memory) ⊎ ((refusal : reply.Refusal) × (found ≡ Some refusal) × (refused e ≡ Refuses refusal))
+
+abbrev pub Checks : Result (Unit {0}) Refusal → Option reply.Refusal → Type 0
+Checks (Ok done) found = found ≡ None
+Checks (Err e) found = IsFound e found
+
+abbrev pub parents_refusal : List Known → Changeset → Option reply.Refusal
+parents_refusal ks c = if nat_lt 1 (length c.parents) then Some reply.Merge else option_map reply.NoParent (find (λ p. not (is_known ks p)) c.parents)
+
+abbrev pub edit_refusal : (Id → Option ℕ) → Path × FileChange → Option reply.Refusal
+edit_refusal lengths (p, Set f) = reply.content_refusal (p, f) (lengths f.content)
+edit_refusal lengths (p, Delete) = None
+
+abbrev pub contents_refusal : (Id → Option ℕ) → List (Path × FileChange) → Option reply.Refusal
+contents_refusal lengths es = first_some (edit_refusal lengths) es
+
+abbrev pub is_other_spelling : List Known → Id → List ℕ → Bool
+is_other_spelling ks x bytes = list_any (λ k. bytes_eq k.id x && not (bytes_eq (spelling k.changeset) bytes)) ks
+
+abbrev pub collision_refusal : List Known → Id → List ℕ → Option reply.Refusal
+collision_refusal ks x bytes = if is_other_spelling ks x bytes then Some (reply.Collision x) else None
+
+abbrev pub IsOnce : List Known → Type 0
+IsOnce ks = (all : List Known) × (ks ≡ each_id_once all)

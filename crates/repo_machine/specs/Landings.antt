@@ -1,0 +1,125 @@
+-- Landings.
+--     IsRefusal wanted e      the machine's refusal is the one that the definitions have, or want of memory
+--     Steps view wanted result      what a step gives is what it gives in the definitions, or memory ran out
+--     forking, lengths_checked, paths_checked, payload_checked, collisions_checked      the steps of `land`
+--     IsPlanned header h name draft planned      the draft may be landed so, if the new changesets may be entered
+--     IsLandable header h name draft landing      the landing is to be entered, if there is room
+--     IsAlone ks c      no other changeset than c is known by its id;  AreAlone ks cs      nor are others by the ids of these, with those before them
+--     adding_one ks c, adding ks cs      what is known then: those that weren't, each once
+--     CanAddOne ks c, CanAdd ks cs      their parents are known, and no other changeset by their ids
+--     IsLanding before after old draft ids      the trees after a landing
+use Rattle.std.specs.Prelude.{◌≡◌, ◌≤◌, ◌<◌, ◌==◌, ◌⊎◌, ℕ, Bool, true, not, nat_lt, cond, if◌then◌else◌, List, [], ◌∷◌, ◌++◌, length, map, Contains, Option, None, Some, ok_or, Result, Ok, Err}
+use Rattle.std.specs.List.{AllByRecursion, list_any}
+use Rattle.byte_fields.specs.Bytes.{Id, last_of}
+use Rattle.changeset_model.specs.Path.{Path}
+use Rattle.changeset_model.specs.Changeset.{Changeset, id_of, touched_paths}
+use Rattle.history_model.specs.History as model
+use Rattle.history_model.specs.History.{Known, Entry, Land, with_id, known, is_known}
+use Rattle.history_model.specs.Bookmark.{head}
+use Rattle.history_model.specs.Chain.{chain, changesets}
+use Rattle.history_model.specs.Tree.{decides, tree}
+use Rattle.history_model.specs.Pushrebase.{fork, clash, rewrite}
+use Rattle.history_model.specs.Pushrebase as pushrebase
+use Rattle.history_model.specs.Journal.{Header, payload_len, most_payload}
+use Rattle.reply_model.specs.Reply as reply
+use Rattle.reply_model.specs.Reply.{◌>>=◌, refuse_if, refuse_some, most_range, most_stack, first_collision, LandDraft, is_ask, judge, entered, enter_landing}
+use Rattle.reply_model.specs.After.{Refuses}
+use Rattle.changeset_store.specs.Fork.{IsFork, fork_between}
+use Rattle.repo_machine.specs.declared.refusal.Refusal.{Refusal}
+use Rattle.repo_machine.specs.declared.refusal.Refusal.TheVariants.{Memory}
+use Rattle.repo_machine.specs.declared.landings.Planned.{Planned}
+use Rattle.repo_machine.specs.Answering.{refused}
+
+-- ---- steps
+
+abbrev pub IsRefusal : {Y : Type 0} → Result Y reply.Refusal → Refusal → Type 0
+IsRefusal wanted e = (e ≡ Memory) ⊎ ((r : reply.Refusal) × (wanted ≡ Err r) × (refused e ≡ Refuses r))
+
+abbrev pub Steps : {X Y : Type 0} → (X → Y) → Result Y reply.Refusal → Result X Refusal → Type 0
+Steps view wanted (Ok x) = wanted ≡ Ok (view x)
+Steps view wanted (Err e) = IsRefusal wanted e
+
+abbrev pub Checked : Type 0
+Checked = Result (Unit {0}) reply.Refusal
+
+abbrev pub forking : List Known → Id → Id → Result pushrebase.Fork reply.Refusal
+forking ks old draft = do
+  _ ← refuse_if (not (is_known ks draft)) (reply.NoChangeset draft)
+  ok_or (fork ks old draft) reply.NoRoot
+
+abbrev pub lengths_checked : pushrebase.Fork → Checked
+lengths_checked f = do
+  _ ← refuse_if (nat_lt most_range (length f.range)) (reply.TooFarBehind (length f.range))
+  _ ← refuse_if (length f.stack == 0) reply.AlreadyIn
+  refuse_if (nat_lt most_stack (length f.stack)) (reply.StackTooLong (length f.stack))
+
+abbrev pub paths_checked : pushrebase.Fork → Checked
+paths_checked f = refuse_some (clash (touched_paths f.stack) (touched_paths f.range)) (λ pair. reply.Clash pair.0 pair.1)
+
+abbrev pub payload_checked : model.Landing → Checked
+payload_checked landing = refuse_if (nat_lt most_payload (payload_len (Land landing))) (reply.TooLarge (payload_len (Land landing)))
+
+abbrev pub collisions_checked : List Known → List Changeset → Checked
+collisions_checked ks new = refuse_some (first_collision ks new) reply.Collision
+
+pub record IsPlanned (header : Header) (h : List Entry) (name : List ℕ) (draft : Id) (planned : Planned) : Type 0 where
+  pub is_fork : IsFork (known h) planned.fork
+  pub head_is : head h name ≡ Some planned.old.0
+  pub old_known : is_known (known h) planned.old.0 ≡ true
+  pub forks : fork (known h) planned.old.0 draft ≡ Some (fork_between (known h) planned.fork)
+  pub some : 0 < length (fork_between (known h) planned.fork).stack
+  pub few : length (fork_between (known h) planned.fork).stack ≤ most_stack
+  pub apart : clash (touched_paths (fork_between (known h) planned.fork).stack) (touched_paths (fork_between (known h) planned.fork).range) ≡ None
+  pub judged : judge header h (LandDraft name draft) ≡ enter_landing header h name planned.old.0 draft (rewrite (fork_between (known h) planned.fork).stack planned.old.0)
+
+-- ---- known changesets
+
+abbrev pub with_known : List Known → List Changeset → List Known
+with_known ks cs = ks ++ map with_id cs
+
+abbrev pub IsAlone : List Known → Changeset → Type 0
+IsAlone ks c = AllByRecursion (λ k. k.id ≡ id_of c → k.changeset ≡ c) ks
+
+abbrev pub AreAlone : List Known → List Changeset → Type 0
+AreAlone ks [] = Unit {0}
+AreAlone ks (c ∷ cs) = IsAlone ks c × AreAlone (ks ++ with_id c ∷ []) cs
+
+abbrev pub adding_one : List Known → Changeset → List Known
+adding_one ks c = if is_known ks (id_of c) then ks else ks ++ with_id c ∷ []
+
+abbrev pub adding : List Known → List Changeset → List Known
+adding ks [] = ks
+adding ks (c ∷ cs) = adding (adding_one ks c) cs
+
+pub record CanAddOne (ks : List Known) (c : Changeset) : Type 0 where
+  pub parents : AllByRecursion (λ p. is_known ks p ≡ true) c.parents
+  pub alone : IsAlone ks c
+
+abbrev pub CanAdd : List Known → List Changeset → Type 0
+CanAdd ks [] = Unit {0}
+CanAdd ks (c ∷ cs) = CanAddOne ks c × CanAdd (adding_one ks c) cs
+
+-- ---- a landing
+
+pub record IsLandable (header : Header) (h : List Entry) (name : List ℕ) (draft : Id) (landing : model.Landing) : Type 0 where
+  pub names : landing.name ≡ name
+  pub drafts : landing.draft ≡ draft
+  pub head_is : head h name ≡ Some landing.old
+  pub old_known : is_known (known h) landing.old ≡ true
+  pub fork_is : pushrebase.Fork
+  pub forks : fork (known h) landing.old draft ≡ Some fork_is
+  pub rewritten : landing.new ≡ rewrite fork_is.stack landing.old
+  pub some : 0 < length landing.new
+  pub few : length landing.new ≤ most_stack
+  pub apart : clash (touched_paths fork_is.stack) (touched_paths fork_is.range) ≡ None
+  pub alone : AreAlone (known h) landing.new
+  pub judged : judge header h (LandDraft name draft) ≡ entered header h (reply.Landed landing.old (map id_of landing.new)) (Land landing)
+
+-- The new head's tree has what the stack sets where a member of it decides, and else what the old head's has. At each path that the stack touches the old head's tree has what the root's has.
+pub record IsLanding (before after : List Known) (old draft : Id) (ids : List Id) : Type 0 where
+  pub fork_is : pushrebase.Fork
+  pub forks : fork before old draft ≡ Some fork_is
+  pub new_head : Id
+  pub new_head_is : last_of ids ≡ Some new_head
+  pub applied : (p : Path) → tree (changesets (chain after new_head)) p ≡ cond (list_any (λ c. decides c p) fork_is.stack) (tree fork_is.stack p) (tree (changesets (chain before old)) p)
+  pub unchanged : (p : Path) → Contains (touched_paths fork_is.stack) p → tree (changesets (chain before old)) p ≡ tree (changesets (chain before fork_is.root.id)) p

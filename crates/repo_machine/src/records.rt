@@ -1,0 +1,35 @@
+//! The entries as the machine keeps them. A changeset stands once, in the store, and an entry names it by its number.
+use object_id::Id;
+use repo_events::Move;
+use repo_path::BookName;
+
+/// A draft that was landed on a bookmark.
+#[derive(Debug, Drop)]
+pub(crate) struct LandRecord {
+    pub(crate) name: BookName,
+    /// The head before.
+    pub(crate) old: Id,
+    pub(crate) draft: Id,
+    /// The numbers of the rewritten changesets, of which the last is the head after.
+    pub(crate) numbers: Vec<u32>,
+}
+
+/// What an entry says.
+#[derive(Debug, Drop)]
+pub(crate) enum Record {
+    /// A content of this id and length in bytes was stored.
+    Content { id: Id, length: u64 },
+    /// The changeset of this number was uploaded.
+    Change { number: u32 },
+    /// A bookmark was made, moved or deleted.
+    Book(Move),
+    /// A stack was landed.
+    Land(LandRecord),
+}
+
+/// An entry: the number of the seat that made it, 0 where it was recovered, and what it says.
+#[derive(Debug, Drop)]
+pub(crate) struct Entry {
+    pub(crate) who: u64,
+    pub(crate) record: Record,
+}

@@ -1,0 +1,5 @@
+pub mod Seen
+pub mod Spelling
+pub mod Shown
+pub mod Refusing
+pub mod Plain

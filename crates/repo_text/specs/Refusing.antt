@@ -1,0 +1,30 @@
+-- The responses to refusals of the machine.
+--     response_to refusal      the response, whatever was asked for
+use Rattle.reply_model.specs.Reply as reply
+use Rattle.session_model.specs.Responses.{Response}
+use Rattle.session_model.specs.Bodies.{memory}
+use Rattle.session_model.specs.Asking.{refused}
+use Rattle.repo_machine.specs.declared.refusal.Refusal.{Refusal}
+use Rattle.repo_machine.specs.declared.refusal.Refusal.TheVariants as refusals
+use Rattle.repo_machine.specs.Answering.{id_seen}
+
+abbrev pub response_to : Refusal → Response
+response_to (refusals.TooLong length) = refused (reply.TooLong length)
+response_to (refusals.BadEncoding at) = refused (reply.BadEncoding at)
+response_to (refusals.SelfConflict short long) = refused (reply.SelfConflict short long)
+response_to refusals.Merge = refused reply.Merge
+response_to (refusals.NoParent id) = refused (reply.NoParent id.0)
+response_to (refusals.NoContent path id) = refused (reply.NoContent path id.0)
+response_to (refusals.WrongSize path wanted found) = refused (reply.WrongSize path wanted found)
+response_to (refusals.Collision id) = refused (reply.Collision id.0)
+response_to (refusals.NoChangeset id) = refused (reply.NoChangeset id.0)
+response_to (refusals.Moved found) = refused (reply.Moved (id_seen found))
+response_to refusals.NoBookmark = refused reply.NoBookmark
+response_to refusals.NoRoot = refused reply.NoRoot
+response_to (refusals.TooFarBehind distance) = refused (reply.TooFarBehind distance)
+response_to refusals.AlreadyIn = refused reply.AlreadyIn
+response_to (refusals.StackTooLong count) = refused (reply.StackTooLong count)
+response_to (refusals.Clash left right) = refused (reply.Clash left right)
+response_to (refusals.TooLarge length) = refused (reply.TooLarge length)
+response_to (refusals.Full size length) = refused (reply.Full size length)
+response_to refusals.Memory = memory

@@ -1,0 +1,17 @@
+//! The text of responses: their heads, and their bodies, which are compact JSON (RFC 8259) or bytes as they are.
+#![tactic(auto)]
+
+pub mod bodies;
+mod ids;
+pub mod log;
+pub mod refusals;
+pub mod refused;
+pub mod response;
+mod values;
+
+pub use bodies::{MOST_CHANGE_BODY, MOST_LANDED};
+pub use refused::Refused;
+pub use response::{Media, Response};
+
+#[cfg(test)]
+mod tests;

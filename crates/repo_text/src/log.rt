@@ -1,0 +1,109 @@
+//! The body of a page of the log.
+ghost use Rattle.std.specs.Prelude.{◌≡◌, ◌+◌, ◌<◌, ◌^◌, [], ◌∷◌, length, codes, IfOk, string_bytes};
+ghost use Rattle.hex.specs.Hex.{encode_lower};
+ghost use Rattle.serde_json.specs.Data.{string, number as number_data, unsigned};
+ghost use Rattle.serde_json.specs.View.{view};
+ghost use Rattle.session_model.specs.Bodies as bodies;
+ghost use Rattle.session_model.specs.Bodies.{line_text, line_texts, list_text};
+ghost use Rattle.repo_machine.specs.Answering.{line_seen, lines_seen};
+ghost use Rattle.repo_text.specs.Plain.{IsPlain};
+ghost use Rattle.repo_text.specs.Spelling.{Spells, coded_data, object_data, id_data};
+
+use crate::ids::{hex_of, id_value, ids_value, maybe_id_value};
+use object_id::Id;
+use repo_machine::{LogEntry, LogPage};
+use serde_json::{Value, json};
+use std::alloc::{AllocError, Global};
+
+/// The body of a page of the log, whose first entry has this number.
+pub fn log_body(alloc: Global, from: u64, page: &LogPage) -> Result<String, AllocError>
+    requires { from + length page.now.entries.items < 2 ^ 64 }
+    ensures { IfOk result (λ body. string_bytes body ≡ bodies.log_body from (lines_seen page.now.entries.items) page.now.total) }
+{
+    let entries = lines_value(alloc, from, page.entries.as_slice())?;
+    let value = page_value(alloc, entries, page.total)?;
+    value.to_string(alloc)
+}
+
+fn page_value(alloc: Global, entries: Value, total: u64) -> Result<Value, AllocError>
+    ensures { IfOk result (λ v. view v ≡ coded_data (codes "log") ((codes "entries", view entries) ∷ (codes "total", number_data (unsigned total)) ∷ [])) }
+{
+    json!(in alloc; {"code": "log", "entries": entries, "total": total})
+}
+
+fn lines_value(alloc: Global, from: u64, entries: &[LogEntry]) -> Result<Value, AllocError>
+    requires { from + length entries.now < 2 ^ 64 }
+    ensures { IfOk result (λ v. Spells (view v) (list_text (line_texts from (lines_seen entries.now)))) }
+{
+    let mut lines = Vec::with_capacity(alloc, entries.len())?;
+    for (index, entry) in entries.iter().enumerate() {
+        lines.push(line_value(alloc, from + index as u64, entry)?)?;
+    }
+    Ok(Value::Array(lines))
+}
+
+fn line_value(alloc: Global, number: u64, entry: &LogEntry) -> Result<Value, AllocError>
+    ensures { IfOk result (λ v. Spells (view v) (line_text number (line_seen entry.now))) }
+{
+    match entry {
+        LogEntry::Content { id, size } => content_value(alloc, number, id, *size),
+        LogEntry::Changeset { id } => changeset_value(alloc, number, id),
+        LogEntry::Bookmark { name, from, to } => {
+            let from = maybe_id_value(alloc, *from)?;
+            let to = maybe_id_value(alloc, *to)?;
+            bookmark_value(alloc, number, name.as_str(), from, to)
+        }
+        LogEntry::Landing {
+            name,
+            old,
+            draft,
+            ids,
+        } => {
+            let old = id_value(alloc, old)?;
+            let draft = id_value(alloc, draft)?;
+            let ids = ids_value(alloc, ids.as_slice())?;
+            landing_value(alloc, number, name.as_str(), old, draft, ids)
+        }
+    }
+}
+
+fn content_value(alloc: Global, number: u64, id: &Id, size: u64) -> Result<Value, AllocError>
+    ensures plain { IsPlain (encode_lower id.now.0) }
+    ensures value { IfOk result (λ v. view v ≡ object_data ((codes "id", id_data id.now.0) ∷ (codes "kind", string (codes "content")) ∷ (codes "number", number_data (unsigned number)) ∷ (codes "size", number_data (unsigned size)) ∷ [])) }
+{
+    let hex = hex_of(alloc, id)?;
+    json!(in alloc; {"id": hex, "kind": "content", "number": number, "size": size})
+}
+
+fn changeset_value(alloc: Global, number: u64, id: &Id) -> Result<Value, AllocError>
+    ensures plain { IsPlain (encode_lower id.now.0) }
+    ensures value { IfOk result (λ v. view v ≡ object_data ((codes "id", id_data id.now.0) ∷ (codes "kind", string (codes "changeset")) ∷ (codes "number", number_data (unsigned number)) ∷ [])) }
+{
+    let hex = hex_of(alloc, id)?;
+    json!(in alloc; {"id": hex, "kind": "changeset", "number": number})
+}
+
+fn bookmark_value(
+    alloc: Global,
+    number: u64,
+    name: &str,
+    from: Value,
+    to: Value,
+) -> Result<Value, AllocError>
+    ensures { IfOk result (λ v. view v ≡ object_data ((codes "from", view from) ∷ (codes "kind", string (codes "bookmark")) ∷ (codes "name", string name.now) ∷ (codes "number", number_data (unsigned number)) ∷ (codes "to", view to) ∷ [])) }
+{
+    json!(in alloc; {"from": from, "kind": "bookmark", "name": name, "number": number, "to": to})
+}
+
+fn landing_value(
+    alloc: Global,
+    number: u64,
+    name: &str,
+    old: Value,
+    draft: Value,
+    ids: Value,
+) -> Result<Value, AllocError>
+    ensures { IfOk result (λ v. view v ≡ object_data ((codes "draft", view draft) ∷ (codes "ids", view ids) ∷ (codes "kind", string (codes "landing")) ∷ (codes "name", string name.now) ∷ (codes "number", number_data (unsigned number)) ∷ (codes "old", view old) ∷ [])) }
+{
+    json!(in alloc; {"draft": draft, "ids": ids, "kind": "landing", "name": name, "number": number, "old": old})
+}

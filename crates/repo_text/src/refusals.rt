@@ -1,0 +1,115 @@
+//! The responses to changes that are refused, and to requests that name nothing: a status, and a body of JSON.
+ghost use Rattle.std.specs.Prelude.{◌≡◌, ℕ, List, IfOk};
+ghost use Rattle.session_model.specs.Asking.{absent};
+ghost use Rattle.session_model.specs.Bodies.{json};
+ghost use Rattle.session_model.specs.Parameters as parameters;
+ghost use Rattle.reply_model.specs.Reply.{AbsentChangeset};
+ghost use Rattle.serde_json.specs.View.{view};
+ghost use Rattle.repo_text.specs.Refusing.{response_to};
+ghost use Rattle.repo_text.specs.Spelling.{Spells};
+ghost use Rattle.repo_text.specs.Shown.{response_of};
+
+use crate::refused::Refused;
+use crate::values::{
+    clash_value, code_value, coded_id_value, count_value, distance_value, full_value, length_value,
+    missing_content_value, moved_value, place_value, self_conflict_value, wrong_size_value,
+};
+use object_id::Id;
+use repo_machine::Refusal;
+use serde_json::Value;
+use session_model::Status;
+use std::alloc::{AllocError, Global};
+
+/// The response to a change that is refused. A refusal for want of memory gives none.
+pub fn refused(alloc: Global, refusal: &Refusal) -> Result<Refused, AllocError>
+    ensures { IfOk result (λ r. response_of r ≡ response_to refusal.now) }
+{
+    let value = value_of(alloc, refusal)?;
+    with_body(alloc, status_of(refusal), &value)
+}
+
+/// The response to a bookmark's name with its first fault at this byte.
+pub fn bad_name(alloc: Global, at: usize) -> Result<Refused, AllocError>
+    ensures { IfOk result (λ r. response_of r ≡ parameters.bad_name at) }
+{
+    let value = place_value(alloc, "bad-name", at as u64)?;
+    with_body(alloc, Status::BadRequest, &value)
+}
+
+/// The response to an id with its first fault at this byte.
+pub fn bad_id(alloc: Global, at: usize) -> Result<Refused, AllocError>
+    ensures { IfOk result (λ r. response_of r ≡ parameters.bad_id at) }
+{
+    let value = place_value(alloc, "bad-id", at as u64)?;
+    with_body(alloc, Status::BadRequest, &value)
+}
+
+/// The response to a read of a changeset that isn't stored.
+pub fn no_changeset(alloc: Global, id: &Id) -> Result<Refused, AllocError>
+    ensures { IfOk result (λ r. response_of r ≡ absent (AbsentChangeset id.now.0)) }
+{
+    let value = coded_id_value(alloc, "no-changeset", id)?;
+    with_body(alloc, Status::NotFound, &value)
+}
+
+fn with_body(alloc: Global, status: Status, value: &Value) -> Result<Refused, AllocError>
+    ensures { (text : List ℕ) → Spells (view value.now) text → IfOk result (λ r. response_of r ≡ json status text) }
+{
+    let body = value.to_string(alloc)?;
+    Ok(Refused { status, body })
+}
+
+fn status_of(refusal: &Refusal) -> Status
+    ensures { result ≡ (response_to refusal.now).status }
+{
+    match refusal {
+        Refusal::NoChangeset { .. } | Refusal::NoBookmark => Status::NotFound,
+        Refusal::Collision { .. }
+        | Refusal::Moved { .. }
+        | Refusal::NoRoot
+        | Refusal::AlreadyIn
+        | Refusal::Clash { .. } => Status::Conflict,
+        Refusal::TooLong { .. }
+        | Refusal::TooFarBehind { .. }
+        | Refusal::StackTooLong { .. }
+        | Refusal::TooLarge { .. } => Status::ContentTooLarge,
+        Refusal::BadEncoding { .. }
+        | Refusal::SelfConflict { .. }
+        | Refusal::Merge
+        | Refusal::NoParent { .. }
+        | Refusal::NoContent { .. }
+        | Refusal::WrongSize { .. } => Status::UnprocessableContent,
+        Refusal::Full { .. } => Status::InsufficientStorage,
+        Refusal::Memory => Status::ServiceUnavailable,
+    }
+}
+
+fn value_of(alloc: Global, refusal: &Refusal) -> Result<Value, AllocError>
+    ensures { IfOk result (λ v. Spells (view v) (response_to refusal.now).body) }
+{
+    match refusal {
+        Refusal::TooLong { length } => length_value(alloc, "too-long", *length),
+        Refusal::BadEncoding { at } => place_value(alloc, "bad-encoding", *at),
+        Refusal::SelfConflict { short, long } => self_conflict_value(alloc, short, long),
+        Refusal::Merge => code_value(alloc, "merge"),
+        Refusal::NoParent { id } => coded_id_value(alloc, "no-parent", id),
+        Refusal::NoContent { path, id } => missing_content_value(alloc, path, id),
+        Refusal::WrongSize {
+            path,
+            wanted,
+            found,
+        } => wrong_size_value(alloc, path, *wanted, *found),
+        Refusal::Collision { id } => coded_id_value(alloc, "collision", id),
+        Refusal::NoChangeset { id } => coded_id_value(alloc, "no-changeset", id),
+        Refusal::Moved { found } => moved_value(alloc, *found),
+        Refusal::NoBookmark => code_value(alloc, "no-bookmark"),
+        Refusal::NoRoot => code_value(alloc, "no-root"),
+        Refusal::TooFarBehind { distance } => distance_value(alloc, *distance),
+        Refusal::AlreadyIn => code_value(alloc, "already-in"),
+        Refusal::StackTooLong { count } => count_value(alloc, *count),
+        Refusal::Clash { left, right } => clash_value(alloc, left, right),
+        Refusal::TooLarge { length } => length_value(alloc, "too-large", *length),
+        Refusal::Full { size, length } => full_value(alloc, *size, *length),
+        Refusal::Memory => Err(AllocError),
+    }
+}

@@ -1,0 +1,120 @@
+//! What a request asks for.
+ghost use Rattle.std.specs.Prelude.{◌≡◌, IsTrue, IsSome, IfSome, IsSomeAnd, IsErrOf, ◌↔◌, nat_eq, bytes_eq, codes};
+ghost use Rattle.std.specs.List.{starts_with};
+ghost use Rattle.http_wire.specs.Seen.{seen};
+ghost use Rattle.http_model.specs.Head.{path_of};
+ghost use Rattle.session_model.specs.Methods.{method_text};
+ghost use Rattle.session_model.specs.Routes.{is_target, route_of};
+ghost use Rattle.session_model.specs.Asking.{asked as what_is_asked, by_route};
+ghost use Rattle.routes.specs.Seen.{route_seen};
+ghost use Rattle.routes.specs.Failed.{Reads};
+ghost use Rattle.routes.specs.Memory.{TakesMemory};
+ghost use Rattle.routes.specs.Asked.{Asks, call_seen};
+
+use crate::failure::Failure;
+use crate::parameters::{id_parameter, maybe_id_parameter, name_parameter, number_parameter};
+use crate::route::Route;
+use crate::router::Routes;
+use http_wire::Request;
+use object_id::Id;
+use repo_path::BookName;
+use session_model::Method;
+use std::alloc::Global;
+use std::str;
+
+/// What a request asks for. It borrows the request's body.
+#[derive(Debug, Drop)]
+pub enum Call<'a> {
+    /// To store a content of these bytes.
+    PutContent(&'a [u8]),
+    /// To store the changeset of this encoding.
+    PutChangeset(&'a [u8]),
+    /// To move a bookmark, if it stands where it is said to stand.
+    SetBookmark {
+        name: BookName,
+        from: Option<Id>,
+        to: Option<Id>,
+    },
+    /// To land a draft on a bookmark.
+    Land {
+        name: BookName,
+        draft: Id,
+    },
+    /// Where a bookmark stands.
+    Head(BookName),
+    /// The encoding of a changeset.
+    Changeset(Id),
+    /// A page of the log, from the entry of this number.
+    Log {
+        from: u64,
+    },
+}
+
+fn begins_with_slash(path: &[u8]) -> bool
+    ensures { result ≡ starts_with nat_eq path.now (codes "/") }
+{
+    path.starts_with(b"/")
+}
+
+// The target before any `?` as text, if it begins with a slash.
+fn target(path: &[u8]) -> Option<&str>
+    ensures some { IfSome result (λ text. text.now ≡ path.now) }
+    ensures target { IsSome result ↔ IsTrue (is_target path.now) }
+{
+    match str::from_utf8(path) {
+        Ok(text) if begins_with_slash(path) => Some(text),
+        _ => None,
+    }
+}
+
+fn has_method(request: &Request, method: Method) -> bool
+    ensures { result ≡ bytes_eq (seen request.now).method (method_text method) }
+{
+    request.method.as_str() == method.text()
+}
+
+// What a route asks for, which was asked by its method.
+fn call_from<'a>(alloc: Global, route: Route<'_>, body: &'a [u8]) -> Result<Call<'a>, Failure>
+    ensures call { Reads call_seen result (by_route (route_seen route.entry) body.now) }
+    ensures memory { IsErrOf result Failure.Memory → TakesMemory (route_seen route.entry) }
+{
+    Ok(match route {
+        Route::Contents => Call::PutContent(body),
+        Route::Changesets => Call::PutChangeset(body),
+        Route::Changeset { id } => Call::Changeset(id_parameter(alloc, id)?),
+        Route::Head { name } => Call::Head(name_parameter(alloc, name)?),
+        Route::Move { name, from, to } => Call::SetBookmark {
+            name: name_parameter(alloc, name)?,
+            from: maybe_id_parameter(alloc, from)?,
+            to: maybe_id_parameter(alloc, to)?,
+        },
+        Route::Land { name, draft } => Call::Land {
+            name: name_parameter(alloc, name)?,
+            draft: id_parameter(alloc, draft)?,
+        },
+        Route::Log { from } => Call::Log {
+            from: number_parameter(alloc, from)?,
+        },
+    })
+}
+
+impl Routes {
+    /// What the request asks for. Its path has to be a route's before escapes are decoded (RFC 3986), and its method
+    /// the route's; the parameters are judged from left to right.
+    pub fn call_of<'a>(&self, alloc: Global, request: &'a Request) -> Result<Call<'a>, Failure>
+        ensures asks { Asks result (what_is_asked (seen request.now)) }
+        ensures memory { IsErrOf result Failure.Memory → IsSomeAnd (route_of (path_of (seen request.now).target)) TakesMemory }
+    {
+        let Some(path) = target(request.path()) else {
+            return Err(Failure::BadTarget);
+        };
+        let Some(route) = self.route_of(path) else {
+            return Err(Failure::NoRoute);
+        };
+        let method = route.method();
+        if !has_method(request, method) {
+            return Err(Failure::Method(method));
+        }
+        call_from(alloc, route, request.body.as_slice())
+    }
+}

@@ -1,0 +1,130 @@
+//! The parameters of routes, as they stand in a target.
+ghost use Rattle.std.specs.Prelude.{◌≡◌, ◌≢◌, false, true, IfOk, OnErr, IsErrOf, MatchOption};
+ghost use Rattle.std.specs.List.{list_all};
+ghost use Rattle.std.specs.Char.{is_ascii_digit};
+ghost use Rattle.std.specs.Cow.{cow_str_bytes};
+ghost use Rattle.percent_encoding.specs.Percent.{percent_decode as decoded_bytes};
+ghost use Rattle.byte_fields.specs.Bytes.{is_text};
+ghost use Rattle.session_model.specs.Parameters as model;
+ghost use Rattle.routes.specs.Failed.{Reads};
+ghost use Rattle.routes.specs.Memory.{HasEscape};
+ghost use Rattle.routes.specs.Asked.{id_seen, maybe_id_seen};
+
+use crate::failure::Failure;
+use object_id::Id;
+use percent_encoding::{DecodeError, percent_decode};
+use repo_path::{BookName, NameFault};
+use std::alloc::{AllocError, Global};
+use std::borrow::CowStr;
+
+// The text that a parameter stands for, if it stands for UTF-8.
+fn decoded(alloc: Global, raw: &str) -> Result<Option<CowStr<'_>>, AllocError>
+    ensures text { IfOk result (λ found. MatchOption found (is_text (decoded_bytes raw.now) ≡ false)
+        (λ text. (cow_str_bytes text ≡ decoded_bytes raw.now) × (is_text (decoded_bytes raw.now) ≡ true))) }
+    ensures memory { OnErr result (HasEscape raw.now) }
+{
+    match percent_decode(raw.as_bytes()).decode_utf8(alloc) {
+        Ok(text) => Ok(Some(text)),
+        Err(DecodeError::Utf8(_)) => Ok(None),
+        Err(DecodeError::OutOfMemory) => Err(AllocError),
+    }
+}
+
+// A name of a bookmark, in memory of its own.
+fn name_of(alloc: Global, text: &str) -> Result<BookName, Failure>
+    ensures { Reads (λ name. name) result (model.name_of text.now) }
+{
+    match BookName::parse(alloc, text) {
+        Ok(name) => Ok(name),
+        Err(NameFault::BadName { at }) => Err(Failure::BadName { at: at as u64 }),
+        Err(NameFault::Memory) => Err(Failure::Memory),
+    }
+}
+
+fn id_of(text: &str) -> Result<Id, Failure>
+    ensures id { Reads id_seen result (model.id_of text.now) }
+    ensures memory { result ≢ Err Failure.Memory }
+{
+    match Id::from_hex(text) {
+        Ok(id) => Ok(id),
+        Err(bad) => Err(Failure::BadId { at: bad.at as u64 }),
+    }
+}
+
+// An id, or none.
+fn maybe_id_of(text: &str) -> Result<Option<Id>, Failure>
+    ensures { Reads maybe_id_seen result (model.maybe_id_of text.now) }
+{
+    if text == "none" {
+        return Ok(None);
+    }
+    Ok(Some(id_of(text)?))
+}
+
+fn are_digits(text: &[u8]) -> bool
+    ensures { result ≡ list_all is_ascii_digit text.now }
+{
+    text.iter().all(u8::is_ascii_digit)
+}
+
+fn is_number(text: &[u8]) -> bool
+    ensures { result ≡ model.is_number text.now }
+{
+    !text.is_empty() && text.len() <= 19 && are_digits(text)
+}
+
+// A number of 1 to 19 decimal digits, which fits.
+fn number_of(text: &str) -> Result<u64, Failure>
+    ensures number { Reads (λ n. n) result (model.number_of text.now) }
+    ensures memory { result ≢ Err Failure.Memory }
+{
+    if !is_number(text.as_bytes()) {
+        return Err(Failure::BadNumber);
+    }
+    match text.parse() {
+        Ok(number) => Ok(number),
+        Err(_) => unreachable!(),
+    }
+}
+
+/// The name of a bookmark.
+pub(crate) fn name_parameter(alloc: Global, raw: &str) -> Result<BookName, Failure>
+    ensures { Reads (λ name. name) result (model.name_parameter raw.now) }
+{
+    match decoded(alloc, raw)? {
+        Some(text) => name_of(alloc, text.as_str()),
+        None => Err(Failure::BadName { at: 0 }),
+    }
+}
+
+/// The id of a changeset, in hex of either case.
+pub(crate) fn id_parameter(alloc: Global, raw: &str) -> Result<Id, Failure>
+    ensures id { Reads id_seen result (model.id_parameter raw.now) }
+    ensures memory { IsErrOf result Failure.Memory → HasEscape raw.now }
+{
+    match decoded(alloc, raw)? {
+        Some(text) => id_of(text.as_str()),
+        None => Err(Failure::BadId { at: 0 }),
+    }
+}
+
+/// The id of a changeset, or `none`.
+pub(crate) fn maybe_id_parameter(alloc: Global, raw: &str) -> Result<Option<Id>, Failure>
+    ensures { Reads maybe_id_seen result (model.maybe_id_parameter raw.now) }
+{
+    match decoded(alloc, raw)? {
+        Some(text) => maybe_id_of(text.as_str()),
+        None => Err(Failure::BadId { at: 0 }),
+    }
+}
+
+/// A number of 1 to 19 decimal digits.
+pub(crate) fn number_parameter(alloc: Global, raw: &str) -> Result<u64, Failure>
+    ensures number { Reads (λ n. n) result (model.number_parameter raw.now) }
+    ensures memory { IsErrOf result Failure.Memory → HasEscape raw.now }
+{
+    match decoded(alloc, raw)? {
+        Some(text) => number_of(text.as_str()),
+        None => Err(Failure::BadNumber),
+    }
+}
