@@ -1,0 +1,6 @@
+pub mod Lists
+pub mod Places
+pub mod Made
+pub mod Rules
+pub mod Payloads
+pub mod Opening
