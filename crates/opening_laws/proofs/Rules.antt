@@ -223,3 +223,23 @@ pub known_keep : (header : Header) (h : List Entry) (k : Known) → IsLegal head
 known_keep header h k legal at =
     let right = each_of IsRight (known h) k (known_right h (all_uploadable header h legal)) at in
     (right.1, right.0.keeps, right.0.one_parent, right.0.no_conflict, right.0.short)
+
+-- ---- the changesets of its entries
+
+abbrev Rules : Changeset → Type 0
+Rules c = is_changeset c ≡ true
+
+abbrev IsClear : Changeset → Type 0
+IsClear c = self_conflict c ≡ None
+
+abbrev HasOneParent : Changeset → Type 0
+HasOneParent c = length c.parents ≤ 1
+
+pub all_rules : (header : Header) (h : List Entry) → IsLegal header h → AllByRecursion Rules (flat_map (λ e. changesets_in e.body) h)
+all_rules header h legal = weaker IsUploadable Rules (λ c u. u.keeps) (flat_map (λ e. changesets_in e.body) h) (all_uploadable header h legal)
+
+pub all_clear : (header : Header) (h : List Entry) → IsLegal header h → AllByRecursion IsClear (flat_map (λ e. changesets_in e.body) h)
+all_clear header h legal = weaker IsUploadable IsClear (λ c u. u.no_conflict) (flat_map (λ e. changesets_in e.body) h) (all_uploadable header h legal)
+
+pub all_one_parent : (header : Header) (h : List Entry) → IsLegal header h → AllByRecursion HasOneParent (flat_map (λ e. changesets_in e.body) h)
+all_one_parent header h legal = weaker IsUploadable HasOneParent (λ c u. u.one_parent) (flat_map (λ e. changesets_in e.body) h) (all_uploadable header h legal)

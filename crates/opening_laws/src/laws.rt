@@ -1,9 +1,10 @@
 //! Laws of opening, each the contract of a function that does nothing.
-ghost use Rattle.std.specs.Prelude.{◌≡◌, ◌≤◌, ◌+◌, ◌↔◌, ℕ, true, None, Some, Ok, IsTrue, List, [], ◌∷◌, ◌++◌, length, take, drop, Contains};
+ghost use Rattle.std.specs.Prelude.{◌≡◌, ◌≤◌, ◌+◌, ◌↔◌, ℕ, true, None, Some, Ok, IsTrue, List, [], ◌∷◌, ◌++◌, length, take, drop, Contains, flat_map};
+ghost use Rattle.std.specs.List.{AllByRecursion};
 ghost use Rattle.sha2.specs.Sha256.{sha256};
 ghost use Rattle.byte_fields.specs.Bytes.{Id, IsBytes, IsContent};
 ghost use Rattle.changeset_model.specs.Changeset.{id_of, is_changeset, self_conflict, spelling, most_encoded};
-ghost use Rattle.history_model.specs.History.{Body, Content, Entry, Known, is_stored, stored, known};
+ghost use Rattle.history_model.specs.History.{Body, Content, Entry, Known, is_stored, stored, known, changesets_in};
 ghost use Rattle.history_model.specs.Journal.{Header, IsPayload, Stands, size};
 ghost use Rattle.history_model.specs.Payload.{payload_body};
 ghost use Rattle.reply_model.specs.Reply.{PutContent, judge};
@@ -19,6 +20,18 @@ pub fn content_stands_at_its_place()
 pub fn known_changesets_keep_the_rules()
     ensures { (header : Header) (h : List Entry) (k : Known) → IsLegal header h → Contains (known h) k →
         (k.id ≡ id_of k.changeset) × IsTrue (is_changeset k.changeset) × (length k.changeset.parents ≤ 1) × (self_conflict k.changeset ≡ None) × (length (spelling k.changeset) ≤ most_encoded) }
+{}
+
+/// All changesets of a legal history's entries keep the rules of a changeset, set no path under another, and have one parent at most.
+pub fn changesets_of_entries_keep_the_rules()
+    ensures rules { (header : Header) (h : List Entry) → IsLegal header h → AllByRecursion (λ c. is_changeset c ≡ true) (flat_map (λ e. changesets_in e.body) h) }
+    ensures clear { (header : Header) (h : List Entry) → IsLegal header h → AllByRecursion (λ c. self_conflict c ≡ None) (flat_map (λ e. changesets_in e.body) h) }
+    ensures parents { (header : Header) (h : List Entry) → IsLegal header h → AllByRecursion (λ c. length c.parents ≤ 1) (flat_map (λ e. changesets_in e.body) h) }
+{}
+
+/// The file of a legal history is within its capacity, where this has room for the header and a gate.
+pub fn legal_histories_fit()
+    ensures { (header : Header) (h : List Entry) → 17 ≤ header.capacity → IsLegal header h → size h ≤ header.capacity }
 {}
 
 /// Each payload of an entry that some change makes at a legal history is read as this entry. Of a content these are any bytes of its digest and length.
