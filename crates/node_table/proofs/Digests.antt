@@ -17,16 +17,16 @@ is_equal Less h = absurd (true≢false (sym h))
 is_equal Equal h = refl
 is_equal Greater h = absurd (true≢false (sym h))
 
-abbrev alike : Id → Id → Bool
+abbrev pub alike : Id → Id → Bool
 alike q k = eq_by_cmp (slice_cmp nat_cmp) q k
 
-alike_same : (q k : Id) → alike q k ≡ true → q ≡ k
+pub alike_same : (q k : Id) → alike q k ≡ true → q ≡ k
 alike_same q k h = exact_bytes q k (is_equal (slice_cmp nat_cmp q k) h)
 
 by_ids : (m n : Nodes) → ((q : Id) → get m q ≡ get n q) → m ≡ n
 by_ids m n same = same_map nat_list_cmp_total exact_bytes m n same
 
-at_insert : (m : Nodes) (k : Id) (v : List ℕ) (q : Id) → get (insert m k v) q ≡ cond (alike q k) (Some v) (get m q)
+pub at_insert : (m : Nodes) (k : Id) (v : List ℕ) (q : Id) → get (insert m k v) q ≡ cond (alike q k) (Some v) (get m q)
 at_insert m k v q = get-insert nat_list_cmp_total m k v q
 
 at_remove : (m : Nodes) (k q : Id) → get (remove m k) q ≡ cond (alike q k) None (get m q)
@@ -58,7 +58,7 @@ without-push (id ∷ ids) k m = ap (λ m. remove m id) (without-push ids k m)
 
 -- ---- each node under its digest
 
-some_is : (a b : List ℕ) → ◌≡◌ {A = Option (List ℕ)} (Some a) (Some b) → a ≡ b
+pub some_is : (a b : List ℕ) → ◌≡◌ {A = Option (List ℕ)} (Some a) (Some b) → a ≡ b
 some_is a b e = cc
 
 digest_by : (m : Nodes) (n : List ℕ) → AreDigests m → (id : Id) (x : List ℕ) → (b : Bool) → alike id (sha256 n) ≡ b → cond b (Some n) (get m id) ≡ Some x → sha256 x ≡ id
@@ -68,7 +68,7 @@ digest_by m n all id x false e is = all id x is
 pub digests-with_node : (m : Nodes) (n : List ℕ) → AreDigests m → AreDigests (with_node m n)
 digests-with_node m n all id x is = digest_by m n all id x (alike id (sha256 n)) refl (sym (at_insert m (sha256 n) n id) ∙ is)
 
-none_some : (x : List ℕ) → ◌≡◌ {A = Option (List ℕ)} None (Some x) → ⊥
+pub none_some : (x : List ℕ) → ◌≡◌ {A = Option (List ℕ)} None (Some x) → ⊥
 none_some x e = absurd cc
 
 left_by : (m : Nodes) → AreDigests m → (id : Id) (x : List ℕ) → (b : Bool) → cond b None (get m id) ≡ Some x → sha256 x ≡ id
@@ -83,7 +83,7 @@ digests-empty id x is = absurd (none_some x (sym (get-empty (slice_cmp nat_cmp) 
 
 -- ---- several nodes
 
-abbrev fault_of : Bool → List ℕ → Option Id → Option Id
+abbrev pub fault_of : Bool → List ℕ → Option Id → Option Id
 fault_of b n later = if b then Some (sha256 n) else later
 
 -- a node that doesn't collide, and those after it

@@ -5,7 +5,12 @@
 --     without ids m      without the nodes of these ids
 --     collides m n, first_collision m ns      whether another node stands under the id of n;  the first id for which that is so, where each node of ns is put in after the one before
 --     settled_with t number roots ns      with a changeset settled
-use Rattle.std.specs.Prelude.{◌≡◌, ℕ, Bool, false, not, is_some, bytes_eq, if◌then◌else◌, List, [], ◌∷◌, ◌++◌, Option, None, Some, refl}
+--     Has m n, IsAmong m ns n      the node n stands under its digest;  it does, or is one of ns
+--     AreApart m ns      no two different ones of these nodes have one digest
+--     Collide m ns id      two different ones of them have this digest
+--     IsTable t      each node stands under its digest, and just the settled numbers have roots, each settled once
+use Rattle.std.specs.Prelude.{◌≡◌, ◌≢◌, ◌⊎◌, ◌==◌, nat_eq, ℕ, Bool, false, not, is_some, bytes_eq, if◌then◌else◌, List, [], ◌∷◌, ◌++◌, Option, None, Some, refl, Contains}
+use Rattle.std.specs.List.{list_any, IsDistinct}
 use Rattle.std.specs.Ordering.{nat_cmp}
 use Rattle.std.specs.Cmp.Lexicographic.{slice_cmp}
 use Rattle.std.specs.Coded.{Coded, code_by, coded_ℕ, coded_list, coded×}
@@ -66,3 +71,27 @@ abbrev pub settled_with : Table → ℕ → RootIds → List (List ℕ) → Tabl
 settled_with t number roots ns =
     if is_some (map.get t.roots number) then t
     else record { nodes = with_nodes t.nodes ns; roots = map.insert t.roots number roots; settled = t.settled ++ number ∷ [] }
+
+-- ---- nodes and their digests
+
+abbrev pub Has : Nodes → List ℕ → Type 0
+Has m n = map.get m (sha256 n) ≡ Some n
+
+abbrev pub IsAmong : Nodes → List (List ℕ) → List ℕ → Type 0
+IsAmong m ns n = Has m n ⊎ Contains ns n
+
+abbrev pub AreApart : Nodes → List (List ℕ) → Type 0
+AreApart m ns = (one other : List ℕ) → IsAmong m ns one → IsAmong m ns other → sha256 one ≡ sha256 other → one ≡ other
+
+abbrev pub Collide : Nodes → List (List ℕ) → Id → Type 0
+Collide m ns id = (one other : List ℕ) × (one ≢ other) × IsAmong m ns one × IsAmong m ns other × (sha256 one ≡ id) × (sha256 other ≡ id)
+
+-- ---- what always holds
+
+abbrev pub is_settled : Table → ℕ → Bool
+is_settled t number = list_any (λ settled. settled == number) t.settled
+
+pub record IsTable (t : Table) : Type 0 where
+  pub digests : AreDigests t.nodes
+  pub rooted : (number : ℕ) → is_some (map.get t.roots number) ≡ is_settled t number
+  pub once : IsDistinct nat_eq t.settled

@@ -3,6 +3,7 @@
 #![tactic(auto)]
 
 pub mod fault;
+pub mod laws;
 mod root_table;
 pub mod roots;
 mod store;

@@ -1,11 +1,12 @@
 //! The table of nodes.
-ghost use Rattle.std.specs.Prelude.{◌≡◌, ◌++◌, ◌∷◌, [], Some, None, IsSome, IsNone, is_some, if◌then◌else◌, option_map, OnOk, OnErr, IfOk, IfErr, IfSome};
+ghost use Rattle.std.specs.Prelude.{◌≡◌, ◌↔◌, ◌++◌, ◌∷◌, [], ℕ, List, true, false, Some, None, IsSome, IsOk, is_some, nat_eq, option_map, OnOk, OnErr, IfOk, IfErr, IfSome};
+ghost use Rattle.std.specs.List.{IsDistinct};
 ghost use Rattle.std.specs.Option.{option_copied};
 ghost use Rattle.std.specs.FinMap as map;
 ghost use Rattle.sha2.specs.Sha256.{sha256};
-ghost use Rattle.node_table.specs.Table.{AreDigests, Table, empty_table, first_collision, with_node, settled_with};
+ghost use Rattle.node_table.specs.Table.{AreApart, AreDigests, Has, IsAmong, empty_table, first_collision, is_settled, settled_with, with_node};
 ghost use Rattle.node_table.specs.Parts.{nodes_seen, roots_seen};
-ghost use Rattle.node_table.specs.Faults.{FaultOf};
+ghost use Rattle.node_table.specs.Faults.{FaultOf, OfTwo};
 
 use crate::fault::TableFault;
 use crate::root_table::RootTable;
@@ -24,13 +25,15 @@ pub struct NodeTable {
 }
 
 impl Model for NodeTable {
-    ghost use Rattle.node_table.specs.Table.{Table, coded_table};
+    ghost use Rattle.node_table.specs.Table.{IsTable, Table, coded_table};
 
     ghost Value = { Table };
 
     ghost coded = { coded_table };
 
     ghost view = { λ t. record { nodes = t.store; roots = t.roots; settled = t.settled.items } };
+
+    ghost invariant = { λ t. IsTable (record { nodes = t.store; roots = t.roots; settled = t.settled.items }) };
 }
 
 impl NodeTable {
@@ -54,16 +57,18 @@ impl NodeTable {
         self.store.get(id)
     }
 
-    /// The roots of a settled changeset.
+    /// The roots of a settled changeset. No other has any.
     pub fn roots(&self, number: u32) -> Option<Roots>
-        ensures { option_map roots_seen result ≡ map.get self.now.roots number }
+        ensures value { option_map roots_seen result ≡ map.get self.now.roots number }
+        ensures settled { is_some result ≡ is_settled self.now number }
     {
         self.roots.get(number)
     }
 
-    /// The numbers of the settled changesets in the order of settling.
+    /// The numbers of the settled changesets in the order of settling, each once.
     pub fn settled(&self) -> &[u32]
-        ensures { result.now ≡ self.now.settled }
+        ensures value { result.now ≡ self.now.settled }
+        ensures once { IsDistinct nat_eq result.now }
     {
         self.settled.as_slice()
     }
@@ -73,8 +78,10 @@ impl NodeTable {
         ensures id { IfOk result (λ id. id.0 ≡ sha256 bytes.items) }
         ensures ok { OnOk result (self.new ≡ record self.old { nodes = with_node self.old.nodes bytes.items }) }
         ensures err { OnErr result (self.new ≡ self.old) }
-        ensures apart { OnOk result (first_collision self.old.nodes (bytes.items ∷ []) ≡ None) }
+        ensures nodes { OnOk result ((n : List ℕ) → Has self.new.nodes n ↔ IsAmong self.old.nodes (bytes.items ∷ []) n) }
+        ensures apart { OnOk result (AreApart self.old.nodes (bytes.items ∷ [])) }
         ensures fault { IfErr result (λ fault. FaultOf fault (first_collision self.old.nodes (bytes.items ∷ []))) }
+        ensures two { IfErr result (λ fault. OfTwo fault self.old.nodes (bytes.items ∷ [])) }
     {
         self.store.insert(bytes)
     }
@@ -89,8 +96,11 @@ impl NodeTable {
     ) -> Result<(), TableFault>
         ensures ok { OnOk result (self.new ≡ settled_with self.old number (roots_seen roots) (nodes_seen nodes.items)) }
         ensures err { OnErr result (self.new ≡ self.old) }
-        ensures apart { OnOk result (map.get self.old.roots number ≡ None → first_collision self.old.nodes (nodes_seen nodes.items) ≡ None) }
+        ensures settled { is_settled self.old number ≡ true → IsOk result × (self.new ≡ self.old) }
+        ensures nodes { OnOk result (is_settled self.old number ≡ false → (n : List ℕ) → Has self.new.nodes n ↔ IsAmong self.old.nodes (nodes_seen nodes.items) n) }
+        ensures apart { OnOk result (is_settled self.old number ≡ false → AreApart self.old.nodes (nodes_seen nodes.items)) }
         ensures fault { IfErr result (λ fault. FaultOf fault (first_collision self.old.nodes (nodes_seen nodes.items))) }
+        ensures two { IfErr result (λ fault. OfTwo fault self.old.nodes (nodes_seen nodes.items)) }
     {
         if self.roots.get(number).is_some() {
             return Ok(());
@@ -107,8 +117,9 @@ impl NodeTable {
         Ok(())
     }
 
-    // Adds a number and its roots, or nothing.
+    // Adds a number that isn't settled and its roots, or nothing.
     fn note(&mut self, number: u32, roots: Roots) -> Result<(), AllocError>
+        requires { is_settled self.old number ≡ false }
         ensures ok { OnOk result (self.new ≡ record self.old { roots = map.insert self.old.roots number (roots_seen roots); settled = self.old.settled ++ number ∷ [] }) }
         ensures err { OnErr result (self.new ≡ self.old) }
     {

@@ -1,0 +1,15 @@
+pub mod Lists
+pub mod Under
+pub mod Names
+pub mod Changes
+pub mod Flat
+pub mod Fsnodes
+pub mod Directories
+pub mod Unodes
+pub mod Rules
+pub mod Totals
+pub mod Summaries
+pub mod Steps
+pub mod Entries
+pub mod Bounds
+pub mod Legal
