@@ -16,6 +16,7 @@ import uuid
 from dataclasses import dataclass
 from pathlib import Path
 from typing import Any
+from unittest import mock
 
 from jarrah_client.cli import main
 
@@ -49,8 +50,8 @@ class Ran:
         return [json.loads(line) for line in self.out.splitlines()]
 
 
-def jarrah(*words: object, server: str | None, data: bytes = b"") -> Ran:
-    """Runs the program in a process of its own."""
+def jarrah_process(*words: object, server: str | None = None, data: bytes = b"") -> Ran:
+    """Runs the program in a process of its own, as people do."""
     command = [sys.executable, str(PROGRAM), *(["--server", server] if server else [])]
     done = subprocess.run(
         [*command, *map(str, words)], input=data, capture_output=True, env=ENVIRONMENT, timeout=100
@@ -58,12 +59,24 @@ def jarrah(*words: object, server: str | None, data: bytes = b"") -> Ran:
     return Ran(done.returncode, done.stdout.decode(), done.stderr.decode())
 
 
-def jarrah_here(*words: object, server: str) -> Ran:
+def jarrah(*words: object, server: str, data: bytes = b"") -> Ran:
     """Runs the program in this process, which is faster."""
-    out, err = io.StringIO(), io.StringIO()
-    with contextlib.redirect_stdout(out), contextlib.redirect_stderr(err):
+    out, err = (io.TextIOWrapper(io.BytesIO(), "utf-8", newline="\n") for _ in range(2))
+    given = io.TextIOWrapper(io.BytesIO(data))
+    with (
+        contextlib.redirect_stdout(out),
+        contextlib.redirect_stderr(err),
+        mock.patch.object(sys, "stdin", given),
+        mock.patch.dict(os.environ, ENVIRONMENT),
+    ):
         status = main(["--server", server, *map(str, words)])
-    return Ran(status, out.getvalue(), err.getvalue())
+    return Ran(status, written(out), written(err))
+
+
+def written(stream: io.TextIOWrapper) -> str:
+    """What was written to a stream in memory."""
+    stream.flush()
+    return stream.buffer.getvalue().decode()
 
 
 def fresh(name: str = "b") -> str:

@@ -8,7 +8,7 @@ import tempfile
 from pathlib import Path
 
 from .git_maker import Maker
-from .harness import GIVEN, Case, folder_files, fresh, jarrah, jarrah_here
+from .harness import GIVEN, Case, folder_files, fresh, jarrah
 
 COMMITS = 200
 
@@ -209,7 +209,7 @@ class LeftOut(Case):
         maker = Maker(self.folder / "repository")
         words = self.refused("import-git", maker.folder, fresh(), "--branch", "absent")
         self.assertIn("fatal", words)
-        ran = jarrah_here("--json", "import-git", maker.folder, "a/b", server=self.server)
+        ran = jarrah("--json", "import-git", maker.folder, "a/b", server=self.server)
         self.assertIn("no bookmark's name", json.loads(ran.err)["error"])
 
 

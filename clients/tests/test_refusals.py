@@ -9,7 +9,7 @@ from jarrah_client.refusals import WORDS, Refused, in_words
 from jarrah_client.server import Server
 
 from .canned import Canned
-from .harness import TOP, Case, fresh, jarrah, jarrah_here
+from .harness import TOP, Case, fresh, jarrah
 from .test_encoding import ABC, EMPTY
 
 API = (TOP / "docs" / "API.md").read_text()
@@ -79,7 +79,7 @@ class InWords(unittest.TestCase):
         for code in WORDS:
             with self.subTest(code=code):
                 self.canned.say(409, {"code": code, **MEMBERS})
-                ran = jarrah_here("land", "main", ID, server=self.canned.url)
+                ran = jarrah("land", "main", ID, server=self.canned.url)
                 self.assertEqual((ran.status, ran.out, ran.err.count("\n")), (1, "", 1))
                 self.assertNotIn("{", ran.err)
                 self.assertGreater(len(ran.err.split()), 5)
@@ -88,7 +88,7 @@ class InWords(unittest.TestCase):
 
     def test_for_scripts(self):
         self.canned.say(409, {"code": "clash", "left": "lib/x", "right": "lib"})
-        ran = jarrah_here("--json", "land", "main", ID, server=self.canned.url)
+        ran = jarrah("--json", "land", "main", ID, server=self.canned.url)
         document = json.loads(ran.err)
         self.assertIn("lib/x in the draft clashes with lib", document.pop("error"))
         wanted = {"code": "clash", "left": "lib/x", "right": "lib", "status": 409}
@@ -103,12 +103,12 @@ class InWords(unittest.TestCase):
         for status, answer in ((200, b"{}"), (200, b"hello"), (200, {"code": "log"}), (500, b"oops"), (404, b"[]")):
             with self.subTest(answer=answer):
                 self.canned.say(status, answer)
-                ran = jarrah_here("land", "main", ID, server=self.canned.url)
+                ran = jarrah("land", "main", ID, server=self.canned.url)
                 self.assertEqual((ran.status, ran.out, ran.err.count("\n")), (1, "", 1))
 
     def test_bytes_of_another_id(self):
         self.canned.say(200, EMPTY.encoded)
-        ran = jarrah_here("diff", ID, server=self.canned.url)
+        ran = jarrah("diff", ID, server=self.canned.url)
         self.assertEqual((ran.status, ran.out), (1, ""))
         self.assertIn("other bytes", ran.err)
 
@@ -116,7 +116,7 @@ class InWords(unittest.TestCase):
         with socket.socket() as free:
             free.bind(("127.0.0.1", 0))
             url = f"http://127.0.0.1:{free.getsockname()[1]}"
-            ran = jarrah_here("log", "main", server=url)
+            ran = jarrah("log", "main", server=url)
         self.assertEqual((ran.status, ran.err.count("\n")), (1, 1))
         self.assertIn("no answer from", ran.err)
 
@@ -169,7 +169,7 @@ class Provoked(Case):
     def test_long_stacks(self):
         draft = self.name
         for number in range(101):
-            ran = jarrah_here("draft", "--parent", draft, "-m", str(number), server=self.server)
+            ran = jarrah("draft", "--parent", draft, "-m", str(number), server=self.server)
             draft = ran.out.strip()
         words = self.refused("land", self.name, draft)
         self.assertEqual(words, "the draft is a stack of 101 changesets, over 100; land it in pieces")
