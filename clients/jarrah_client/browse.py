@@ -1,4 +1,4 @@
-"""A local page to look round in a repository: one file of HTML, and the answers that it asks for."""
+"""A local page to look round in a repository: one file of HTML, and the answers it asks for."""
 
 from __future__ import annotations
 
@@ -17,7 +17,7 @@ from .output import Output, changeset_document, file_document
 from .paths import is_text
 from .refusals import Refused, about
 from .repository import Log, resolve
-from .server import Server, Trouble
+from .server import BadAnswer, NotReached, Server, Trouble
 from .trees import Tree, history_of, tree_of
 
 HOST = "127.0.0.1"
@@ -43,6 +43,7 @@ class Library:
         self.changeset = lru_cache(KEPT_CHANGESETS)(self.server.changeset)
         self.tree = lru_cache(KEPT_TREES)(self.read_tree)
         self.questions: dict[str, Callable[[str], Any]] = {
+            "server": self.which,
             "bookmarks": self.bookmarks,
             "log": self.changesets,
             "changeset": self.one_changeset,
@@ -61,12 +62,16 @@ class Library:
     def read_tree(self, id: str) -> Tree:
         return tree_of(self.server, id, fold=self.fold)
 
+    def which(self, _: str) -> dict[str, Any]:
+        """The server that this looks at."""
+        return {"url": self.server.url}
+
     def bookmarks(self, _: str) -> dict[str, Any]:
         """All bookmarks with their heads."""
         self.log.read_on()
         found = sorted(self.log.bookmarks.items())
         rows = [{"name": name, "head": brief(self.changeset(head))} for name, head in found]
-        return {"server": self.server.url, "entries": self.log.next, "bookmarks": rows}
+        return {"entries": self.log.next, "bookmarks": rows}
 
     def changesets(self, name: str) -> dict[str, Any]:
         """A stretch of a chain, and where the next begins."""
@@ -151,12 +156,16 @@ class Handler(BaseHTTPRequestHandler):
                 self.reply(200, "application/octet-stream", data)
                 return
             question, _, words = rest.partition("/")
-            answer = self.server.library.answer(question, words.rstrip("/")) if root == "api" else None
+            answer = (
+                self.server.library.answer(question, words.rstrip("/")) if root == "api" else None
+            )
             self.reply_json(404 if answer is None else 200, answer or {"error": "no such page"})
         except Refused as refusal:
             self.reply_json(refusal.status, {"error": str(refusal)})
-        except (Trouble, BadEncoding) as fault:
+        except (NotReached, BadAnswer, BadEncoding) as fault:
             self.reply_json(502, {"error": str(fault)})
+        except Trouble as fault:
+            self.reply_json(404, {"error": str(fault)})
 
     def reply_json(self, status: int, document: Any) -> None:
         data = json.dumps(document, ensure_ascii=False).encode()

@@ -7,7 +7,7 @@ from enum import IntEnum
 from functools import cached_property
 from itertools import pairwise
 
-from .fields import BadEncoding, Fields, digest
+from .fields import Fields, digest
 from .paths import is_above, path_fault, path_key
 
 MARK = 0x43
@@ -110,7 +110,10 @@ def refuse_fields(changeset: Changeset, author: bytes) -> None:
         raise CannotSpell("the author has a zero byte or a line end")
     if len(changeset.changes) > MOST_CHANGES:
         raise CannotSpell(f"{len(changeset.changes):,} paths change, over {MOST_CHANGES:,}")
-    if not -(2**63) <= changeset.seconds < 2**63 or not -(2**31) <= changeset.offset < 2**31:
+    if (
+        not -(2**63) <= changeset.seconds < 2**63
+        or not -(2**31) <= changeset.offset < 2**31
+    ):
         raise CannotSpell("the date doesn't fit its field")
     for path in changeset.changes:
         fault = path_fault(path.encode())
@@ -176,16 +179,3 @@ def decode_file(fields: Fields) -> File:
     kind = Kind(fields.number_in(1, 0, 2))
     size = fields.number_in(8, 0, MOST_CONTENT_BYTES)
     return File(fields.id(), size, kind)
-
-
-__all__ = [
-    "BadEncoding",
-    "CannotSpell",
-    "Changeset",
-    "File",
-    "Kind",
-    "SelfConflict",
-    "decode",
-    "digest",
-    "encode",
-]

@@ -3,23 +3,51 @@
 from __future__ import annotations
 
 import os
-from collections.abc import Callable
+from collections import deque
+from collections.abc import Iterable, Iterator
 from pathlib import Path
 
 from .changesets import File, Kind
+from .pool import Pool
 from .progress import Progress
-from .server import Trouble
-from .trees import Tree
+from .server import Server, Trouble
+
+AHEAD = 32
+"""How many contents are asked for ahead of the one that is written."""
+
+Files = list[tuple[str, File]]
 
 
-def check_out(tree: Tree, content: Callable[[str], bytes], folder: Path) -> int:
-    """Writes a tree into a new or empty folder, and gives the number of files."""
+def check_out(pool: Pool, files: Files, folder: Path) -> None:
+    """Writes files into a new or empty folder."""
     prepare(folder)
-    with Progress("files", tree.count()) as progress:
-        for path, file in tree.files():
-            write(folder / path, file, content(file.content))
+    with Progress("files", len(files)) as progress:
+        for path, file, data in with_contents(pool, files):
+            write(folder / path, file, data)
             progress.step()
-        return progress.done
+
+
+def with_contents(
+    pool: Pool, files: Iterable[tuple[str, File]]
+) -> Iterator[tuple[str, File, bytes]]:
+    """Files with their contents, in order, some contents ahead on their way."""
+    coming: deque = deque()
+    for path, file in files:
+        coming.append((path, file, pool.ask(content_of(file))))
+        if len(coming) > AHEAD:
+            path, file, content = coming.popleft()
+            yield path, file, content.result()
+    for path, file, content in coming:
+        yield path, file, content.result()
+
+
+def content_of(file: File):
+    """The call that reads a file's content."""
+
+    def call(server: Server) -> bytes:
+        return server.content(file.content)
+
+    return call
 
 
 def prepare(folder: Path) -> None:

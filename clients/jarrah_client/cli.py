@@ -79,7 +79,10 @@ def add_writing(add: Add) -> None:
     what.add_argument("--to", metavar="ID", help="make or move it there")
     what.add_argument("--delete", action="store_true", help="delete it")
     one.add_argument(
-        "--from", dest="old", metavar="ID", help="only if it is there, or is `none`; else from where it is"
+        "--from",
+        dest="old",
+        metavar="ID",
+        help="only if it is there, or is `none`; else from where it is",
     )
 
 
@@ -116,7 +119,9 @@ def add_reading(add: Add) -> None:
     one.add_argument("revision", help=REVISION)
     one.add_argument("path", nargs="?", default="")
     one.add_argument("-r", "--recursive", action="store_true", help="all files under it")
-    one.add_argument("--last", action="store_true", help="with the changeset that last touched each")
+    one.add_argument(
+        "--last", action="store_true", help="with the changeset that last touched each"
+    )
     add_fold(one)
     for name, run, what in (
         ("cat", commands.cat, "write a file's bytes"),
@@ -135,13 +140,16 @@ def add_large(add: Add) -> None:
     one = add("checkout", commands.checkout, "write a changeset's tree into a folder")
     one.add_argument("revision", help=REVISION)
     one.add_argument("folder", help="new or empty")
+    add_connections(one)
     add_fold(one)
-    one = add("import-git", commands.import_from_git, "import the first-parent line of a git branch")
+    one = add(
+        "import-git", commands.import_from_git, "import the first-parent line of a git branch"
+    )
     one.add_argument("repository", help="a git repository, with or without a work tree")
     one.add_argument("bookmark", help="made, or moved on to the end of the line")
     one.add_argument("--branch", default="HEAD", help="what git takes for a commit; HEAD")
     one.add_argument("--marks", metavar="FILE", help="jarrah/BOOKMARK.marks in git's folder")
-    one.add_argument("--connections", type=positive, default=4, metavar="N", help="4")
+    add_connections(one)
     one = add("browse", commands.browse, "serve a page to look round in, on this machine alone")
     one.add_argument("--port", type=natural, default=0, help="any that is free")
     add_fold(one)
@@ -150,6 +158,12 @@ def add_large(add: Add) -> None:
 def add_fold(one: argparse.ArgumentParser) -> None:
     one.add_argument(
         "--fold", action="store_true", help="fold the tree from the chain, without manifests"
+    )
+
+
+def add_connections(one: argparse.ArgumentParser) -> None:
+    one.add_argument(
+        "--connections", type=positive, default=4, metavar="N", help="so many at a time; 4"
     )
 
 

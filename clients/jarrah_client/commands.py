@@ -29,10 +29,11 @@ from .output import (
     short_lines,
 )
 from .paths import joined
+from .pool import Pool
 from .refusals import about
 from .repository import Log, chain, need_head, resolve
 from .server import Landed, Server
-from .trees import Tree, history_of, tree_of
+from .trees import history_of, tree_of
 
 FOLLOW_SECONDS = 1.0
 
@@ -144,10 +145,13 @@ def ls(options: Namespace, server: Server, out: Output) -> None:
 
 def listed(name: str, entry: File | None, link: str | None) -> tuple[dict[str, Any], str]:
     """One entry of a listing for scripts and for people."""
-    size = f"{entry.size:,}" if entry else ""
-    line = f"{kind_letter(entry)} {size:>11}  {link + '  ' if link else ''}{name}{'' if entry else '/'}"
     document = {"name": name, **(file_document(entry) if entry else {"kind": "directory"})}
-    return document | ({"last": link} if link else {}), line
+    shown = name if entry else f"{name}/"
+    if link:
+        document["last"] = link
+        shown = f"{link}  {shown}"
+    size = f"{entry.size:,}" if entry else ""
+    return document, f"{kind_letter(entry)} {size:>11}  {shown}"
 
 
 def last_changes(server: Server, id: str, base: str, found: dict) -> dict[str, str]:
@@ -182,10 +186,13 @@ def history(options: Namespace, server: Server, out: Output) -> None:
 def checkout(options: Namespace, server: Server, out: Output) -> None:
     """Writes a changeset's tree into a new or empty folder."""
     id = resolve(server, options.revision)
-    tree: Tree = tree_of(server, id, fold=options.fold)
-    count = check_out(tree, server.content, Path(options.folder))
-    document = {"id": id, "folder": options.folder, "files": count, "source": tree.source}
-    out.tell(document, f"wrote {counted(count, 'file')} of {id} to {options.folder}")
+    tree = tree_of(server, id, fold=options.fold)
+    files = list(tree.files())
+    server.close()
+    with Pool(server.url, options.connections) as pool:
+        check_out(pool, files, Path(options.folder))
+    document = {"id": id, "folder": options.folder, "files": len(files), "source": tree.source}
+    out.tell(document, f"wrote {counted(len(files), 'file')} of {id} to {options.folder}")
 
 
 def diff(options: Namespace, server: Server, out: Output) -> None:

@@ -46,7 +46,7 @@ class GitCommit:
     offset: int
     message: str
     is_altered: bool
-    """Whether author or message aren't as git has them, since those aren't in their encoding."""
+    """Whether author or message aren't as git has them, since no changeset can hold those."""
     changes: list[GitChange]
 
 
@@ -111,8 +111,9 @@ class GitRepository:
         author, seconds, offset = person(headers.get(b"author", b""))
         name, name_altered = text(author, encoding)
         words, words_altered = text(message, encoding)
-        altered = name_altered or words_altered
-        return GitCommit(oid, fit_author(name), seconds, offset, words, altered, changes)
+        fitting = fit_author(name)
+        altered = name_altered or words_altered or fitting != name
+        return GitCommit(oid, fitting, seconds, offset, words, altered, changes)
 
     def read(self, oid: str, most: int | None = None) -> tuple[int, bytes]:
         """An object's length and bytes; the bytes are left out where they are over `most`."""

@@ -6,6 +6,7 @@ import queue
 import threading
 import time
 from concurrent.futures import Future
+from contextlib import closing
 from dataclasses import dataclass, field, replace
 from pathlib import Path
 
@@ -102,7 +103,7 @@ class Reader:
             self.take(commit, change, changes, uploads)
         message = commit.message
         if commit.is_altered:
-            self.alter(commit, "author or message weren't in their encoding")
+            self.alter(commit, "its author or message isn't text that a changeset can hold")
         if len(message.encode()) > MOST_MESSAGE_BYTES:
             message = message.encode()[:MOST_MESSAGE_BYTES].decode(errors="ignore")
             self.alter(commit, f"its message was cut to {MOST_MESSAGE_BYTES:,} bytes")
@@ -244,14 +245,19 @@ def need_empty(server: Server, bookmark: str, head: str) -> None:
 
 
 def import_git(
-    url: str, repository: Path, branch: str, bookmark: str, marks_file: Path | None, connections: int
+    url: str,
+    repository: Path,
+    branch: str,
+    bookmark: str,
+    marks_file: Path | None,
+    connections: int,
 ) -> Report:
     """Imports a branch's first-parent line, and moves the bookmark to its end."""
     begun = time.monotonic()
     with GitRepository(repository) as source:
         line = source.line(branch)
-        marks = Marks(marks_file or source.directory / "jarrah" / f"{bookmark}.marks")
-        with Pool(url, connections) as pool:
+        place = marks_file or source.directory / "jarrah" / f"{bookmark}.marks"
+        with closing(Marks(place)) as marks, Pool(url, connections) as pool:
             going = pool.ask(lambda server: plan(server, bookmark, line, marks)).result()
             report = Report(bookmark, going.parent, known=len(line) - len(going.oids))
             upload_all(source, pool, going, marks, report)
@@ -259,7 +265,6 @@ def import_git(
                 pool.ask(
                     lambda server: server.move_bookmark(bookmark, going.head, report.head)
                 ).result()
-        marks.close()
     report.seconds = time.monotonic() - begun
     return report
 
@@ -287,9 +292,7 @@ def upload(step: Step, pool: Pool, report: Report) -> None:
         for content in step.uploads:
             content.result()
         for changeset in step.changesets:
-            pool.ask(
-                lambda server: server.put_changeset(changeset.encoded), urgent=True
-            ).result()
+            pool.ask(lambda server: server.put_changeset(changeset.encoded), urgent=True).result()
             report.changesets += 1
             report.head = changeset.id
     except Refused as refusal:

@@ -5,7 +5,7 @@ from __future__ import annotations
 from dataclasses import astuple, dataclass
 
 from .changesets import File, Kind
-from .fields import BadEncoding, Fields
+from .fields import Fields
 from .paths import element_fault
 
 FSNODE_MARK = 0x46
@@ -82,7 +82,9 @@ def decode_fsnode(data: bytes) -> Fsnode:
     summary = decode_summary(fields)
     entries: Entries = {}
     for name in names(fields):
-        entries[name] = decode_directory(fields) if fields.number_in(1, 0, 1) else decode_file(fields)
+        entries[name] = (
+            decode_directory(fields) if fields.number_in(1, 0, 1) else decode_file(fields)
+        )
     fields.end()
     return Fsnode(summary, entries)
 
@@ -148,15 +150,3 @@ def decode_file_unode(data: bytes) -> Unode:
 def decode_parent(fields: Fields) -> str | None:
     """A unode's parent, or None."""
     return fields.id() if fields.number_in(1, 0, 1) else None
-
-
-__all__ = [
-    "BadEncoding",
-    "Directory",
-    "Fsnode",
-    "Summary",
-    "Unode",
-    "decode_fsnode",
-    "decode_unode",
-    "encode_fsnode",
-]

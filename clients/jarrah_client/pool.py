@@ -52,9 +52,7 @@ class Pool:
         for server in self.servers:
             server.connection.close()
 
-    def ask(
-        self, call: Callable[[Server], Answer], *, urgent: bool = False
-    ) -> Future[Answer]:
+    def ask(self, call: Callable[[Server], Answer], *, urgent: bool = False) -> Future[Answer]:
         """Has a connection make a call."""
         future: Future[Answer] = Future()
         rank = FIRST if urgent else LATER
@@ -78,5 +76,3 @@ class Pool:
                 future.set_result(call(server))
             except Exception as fault:
                 future.set_exception(fault)
-
-

@@ -60,7 +60,9 @@ class Server:
         if parts.scheme not in ("http", "https") or not parts.hostname:
             raise Trouble(f"{url} is no URL of a server; one is like http://127.0.0.1:8080")
         self.url = f"{parts.scheme}://{parts.netloc}"
-        make = http.client.HTTPSConnection if parts.scheme == "https" else http.client.HTTPConnection
+        make = (
+            http.client.HTTPSConnection if parts.scheme == "https" else http.client.HTTPConnection
+        )
         try:
             self.connection = make(parts.hostname, parts.port, timeout=TIMEOUT_SECONDS)
         except ValueError as fault:

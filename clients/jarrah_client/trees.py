@@ -227,5 +227,3 @@ def folded_history(changesets: list[Changeset], path: str) -> list[str]:
 def sets_comparable(changeset: Changeset, path: str) -> bool:
     """Whether a changeset sets a path above or under this one."""
     return any(file and is_comparable(path, other) for other, file in changeset.changes.items())
-
-

@@ -10,7 +10,20 @@ from pathlib import Path
 
 from .harness import ENVIRONMENT
 
-NAMES = ["a", "b.txt", "ä", "日本", "with space", "lib", "lib.rs", "x-y", "🦘", "Z", "quote\"d", "tab\there"]
+NAMES = [
+    "a",
+    "b.txt",
+    "ä",
+    "日本",
+    "with space",
+    "lib",
+    "lib.rs",
+    "x-y",
+    "🦘",
+    "Z",
+    'quote"d',
+    "tab\there",
+]
 ZONES = ["+0000", "+0530", "-0800", "+1245"]
 
 
@@ -58,7 +71,9 @@ class Maker:
 
     def files(self) -> list[Path]:
         """The files of the work tree."""
-        found = (p for p in self.folder.rglob("*") if ".git" not in p.relative_to(self.folder).parts)
+        found = (
+            p for p in self.folder.rglob("*") if ".git" not in p.relative_to(self.folder).parts
+        )
         return sorted(p for p in found if p.is_symlink() or p.is_file())
 
     def place(self) -> Path:

@@ -52,9 +52,18 @@ class Browse(Case):
         self.name = fresh()
         self.ok("init", self.name)
         abc, binary = self.write("abc"), self.write("binary", b"\xff\0")
-        words = ("--set", f"dir/ä b.txt={abc}", "--set", f"dir/raw={binary}", "--symlink", "link=dir")
+        words = (
+            "--set",
+            f"dir/ä b.txt={abc}",
+            "--set",
+            f"dir/raw={binary}",
+            "--symlink",
+            "link=dir",
+        )
         self.first = self.ask("commit", self.name, *words, "-m", "First")["head"]
-        self.head = self.ask("commit", self.name, "--exec", f"run={abc}", "-m", "Second\n\nbody")["head"]
+        self.head = self.ask("commit", self.name, "--exec", f"run={abc}", "-m", "Second\n\nbody")[
+            "head"
+        ]
 
     def fetch(self, target: str, **headers: str) -> tuple[int, str, bytes]:
         connection = http.client.HTTPConnection(self.url.hostname, self.url.port, timeout=20)
@@ -75,6 +84,7 @@ class Browse(Case):
         page = Tags()
         page.feed(data.decode())
         self.assertEqual(page.open, [])
+        self.assertEqual(self.api("server")["url"], self.server)
         loads = [target for target in page.loads if not target.startswith(("#", "data:"))]
         self.assertEqual(loads, [])
 
@@ -123,7 +133,7 @@ class Browse(Case):
             (f"/api/file/{self.head}/none", 404, "none: there is nothing at this path"),
             (f"/raw/{self.head}/none", 404, "there is nothing"),
             (f"/api/tree/{self.head}/run", 404, "run: the path is a file"),
-            ("/api/log/absent", 502, "no bookmark"),
+            ("/api/log/absent", 404, "no bookmark"),
             (f"/api/changeset/{'0' * 64}", 404, "no changeset"),
         ):
             found, _, data = self.fetch(target)

@@ -18,7 +18,9 @@ from jarrah_client.server import IDLE_SECONDS, SESSION_BYTES, Server
 from .harness import ENVIRONMENT, PROGRAM, Case, folder_files, fresh, jarrah, jarrah_process
 from .test_encoding import ABC
 
-COMMANDS = "init draft land commit bookmark log entries ls cat history checkout diff import-git browse".split()
+COMMANDS = (
+    "init draft land commit bookmark log entries ls cat history checkout diff import-git browse"
+).split()
 
 
 class Words(Case):
@@ -120,8 +122,22 @@ class Work(Case):
 
     def test_commit_and_look(self):
         run = self.write("run", b"#!/bin/sh\n")
-        words = ["-m", "First\n\nwith a body", "--date", "@1000000000 +0100", "--author", "Ann <a@b>"]
-        words += ["--set", f"docs/ä.txt={self.abc}", "--exec", f"run={run}", "--symlink", "link=docs"]
+        words = [
+            "-m",
+            "First\n\nwith a body",
+            "--date",
+            "@1000000000 +0100",
+            "--author",
+            "Ann <a@b>",
+        ]
+        words += [
+            "--set",
+            f"docs/ä.txt={self.abc}",
+            "--exec",
+            f"run={run}",
+            "--symlink",
+            "link=docs",
+        ]
         landed = self.ask("commit", self.name, *words)
         self.assertEqual((landed["old"], landed["ids"]), (ROOT.id, [landed["head"]]))
         found = self.ask("diff", self.name)["changes"]
@@ -140,12 +156,20 @@ class Work(Case):
         self.assertEqual(self.ok("cat", self.name, "docs/ä.txt").out, "abc")
         document = self.ask("cat", self.name, "docs/ä.txt")
         self.assertEqual((base64.b64decode(document["base64"]), document["size"]), (b"abc", 3))
-        self.assertEqual(self.ok("ls", self.name).out.split(), ["d", "docs/", "l", "4", "link", "x", "10", "run"])
-        self.assertEqual(self.ok("ls", "-r", self.name, "docs").out.split(), ["f", "3", "docs/ä.txt"])
+        self.assertEqual(
+            self.ok("ls", self.name).out.split(), ["d", "docs/", "l", "4", "link", "x", "10", "run"]
+        )
+        self.assertEqual(
+            self.ok("ls", "-r", self.name, "docs").out.split(), ["f", "3", "docs/ä.txt"]
+        )
         folder = self.folder / "out"
         told = self.ask("checkout", self.name, folder)
         self.assertEqual((told["files"], told["source"]), (3, "fsnodes"))
-        wanted = {"docs/ä.txt": ("regular", b"abc"), "link": ("symlink", b"docs"), "run": ("executable", b"#!/bin/sh\n")}
+        wanted = {
+            "docs/ä.txt": ("regular", b"abc"),
+            "link": ("symlink", b"docs"),
+            "run": ("executable", b"#!/bin/sh\n"),
+        }
         self.assertEqual(folder_files(folder), wanted)
 
     def test_drafts_and_stacks(self):
@@ -167,7 +191,9 @@ class Work(Case):
             self.skipTest("a look inside the server")
         before = len(self.stand_in.repository.entries)
         unique = self.write("unique", os.urandom(20))
-        self.draft(self.name, "--set", f"a={unique}", "--set", f"b={unique}", "--exec", f"c={unique}")
+        self.draft(
+            self.name, "--set", f"a={unique}", "--set", f"b={unique}", "--exec", f"c={unique}"
+        )
         kinds = [entry["kind"] for entry in self.stand_in.repository.entries[before:]]
         self.assertEqual(kinds, ["content", "changeset"])
 
@@ -194,14 +220,19 @@ class Work(Case):
             ids.append(self.ask("commit", self.name, *words)["head"])
         for fold in ((), ("--fold",)):
             names = [self.ask("ls", id, "-r", *fold)["entries"] for id in ids]
-            self.assertEqual([[one["name"] for one in tree] for tree in names], [["p"], ["p/q"], ["p"], [], ["p"]])
+            self.assertEqual(
+                [[one["name"] for one in tree] for tree in names],
+                [["p"], ["p/q"], ["p"], [], ["p"]],
+            )
             history = self.ok("--json", "history", self.name, "p", *fold).documents
             self.assertEqual([one["id"] for one in history], [ids[4]])
             history = self.ok("--json", "history", ids[2], "p", *fold).documents
             self.assertEqual([one["id"] for one in history], [ids[2]])
 
     def test_who_touched_what_last(self):
-        first = self.ask("commit", self.name, "--set", f"a/x={self.abc}", "--set", f"b={self.abc}")["head"]
+        first = self.ask("commit", self.name, "--set", f"a/x={self.abc}", "--set", f"b={self.abc}")[
+            "head"
+        ]
         second = self.ask("commit", self.name, "--set", f"a/y={self.abc}")["head"]
         listed = self.ask("ls", self.name, "--last")["entries"]
         self.assertEqual({one["name"]: one["last"] for one in listed}, {"a": second, "b": first})
@@ -218,7 +249,16 @@ class Work(Case):
     def test_entries(self):
         total = self.ok("--json", "entries").documents[-1]["number"] + 1
         process = subprocess.Popen(
-            [sys.executable, str(PROGRAM), "--server", self.server, "entries", "--from", str(total), "--follow"],
+            [
+                sys.executable,
+                str(PROGRAM),
+                "--server",
+                self.server,
+                "entries",
+                "--from",
+                str(total),
+                "--follow",
+            ],
             stdout=subprocess.PIPE,
             env=ENVIRONMENT,
         )
@@ -229,10 +269,14 @@ class Work(Case):
         lines = [process.stdout.readline().decode() for _ in range(3)]
         self.assertRegex(lines[0], rf"^ *{total}  content    [0-9a-f]{{64}}  9 bytes\n$")
         self.assertRegex(lines[1], r"  changeset  [0-9a-f]{64}\n$")
-        self.assertRegex(lines[2], rf"  landing    {self.name}  {ROOT.id} -> [0-9a-f]{{64}}  1 changeset\n$")
+        self.assertRegex(
+            lines[2], rf"  landing    {self.name}  {ROOT.id} -> [0-9a-f]{{64}}  1 changeset\n$"
+        )
 
     def test_a_long_chain(self):
-        names = [jarrah("commit", self.name, "-m", str(n), server=self.server).status for n in range(120)]
+        names = [
+            jarrah("commit", self.name, "-m", str(n), server=self.server).status for n in range(120)
+        ]
         self.assertEqual(set(names), {0})
         self.assertEqual(len(self.ok("--json", "log", self.name).documents), 121)
 
@@ -272,7 +316,9 @@ class AtOnce(Case):
         self.ok("init", name)
         found = sorted(self.landed_at_once(name, "lib/x", "lib"), key=lambda ran: ran.status)
         self.assertEqual([ran.status for ran in found], [0, 1])
-        ours, theirs = ("lib/x", "lib") if "lib/x in the draft" in found[1].err else ("lib", "lib/x")
+        ours, theirs = (
+            ("lib/x", "lib") if "lib/x in the draft" in found[1].err else ("lib", "lib/x")
+        )
         self.assertIn(f"{ours} in the draft clashes with {theirs},", found[1].err)
         listed = self.ask("ls", "-r", name)["entries"]
         self.assertEqual([one["name"] for one in listed], [theirs])

@@ -1,4 +1,4 @@
-"""Spellings and ids, against the worked bytes of docs/FORMATS.md and against the stand-in's code."""
+"""Spellings and ids, against the worked bytes of docs/FORMATS.md and the stand-in's code."""
 
 import re
 import unittest
@@ -15,7 +15,14 @@ from jarrah_client.changesets import (
     encode,
 )
 from jarrah_client.fields import BadEncoding
-from jarrah_client.nodes import Directory, Fsnode, Summary, decode_fsnode, decode_unode, encode_fsnode
+from jarrah_client.nodes import (
+    Directory,
+    Fsnode,
+    Summary,
+    decode_fsnode,
+    decode_unode,
+    encode_fsnode,
+)
 from jarrah_client.paths import path_fault, path_key
 
 from .harness import TOP
@@ -93,12 +100,16 @@ class WorkedBytes(unittest.TestCase):
         below = Fsnode(Summary(1, 3, 0, 1, 3), {"x": File(ABC, 3)})
         data = encode_fsnode(below)
         self.assertEqual(len(data), 90)
-        self.assertEqual(digest(data), "4cdf19e1193d6da6b9a08425aae39f6ab6eed18c679a6d66b2e258bb666d994a")
+        self.assertEqual(
+            digest(data), "4cdf19e1193d6da6b9a08425aae39f6ab6eed18c679a6d66b2e258bb666d994a"
+        )
         entries = {"a": Directory(digest(data), below.summary), "b": File(NIL, 0)}
         root = Fsnode(Summary(1, 0, 1, 2, 3), entries)
         whole = encode_fsnode(root)
         self.assertEqual(len(whole), 165)
-        self.assertEqual(digest(whole), "a241299a88a94c9a2f533801924b96f09c53332879cd53c9624f21631dd6b74a")
+        self.assertEqual(
+            digest(whole), "a241299a88a94c9a2f533801924b96f09c53332879cd53c9624f21631dd6b74a"
+        )
         self.assertEqual((decode_fsnode(data), decode_fsnode(whole)), (below, root))
         tree = {"a/x": Set(ABC, 3, 0), "b": Set(NIL, 0, 0)}
         self.assertEqual(fsnodes(tree), {"a": data, "": whole})
@@ -179,8 +190,20 @@ class BothReaders(unittest.TestCase):
         self.assertEqual(sorted(reversed(rising), key=path_key), rising)
 
     def test_rules_of_paths(self):
-        good = [b"a", "ä/ö".encode(), b"..." , b" ", b"x" * 255, b"/".join([b"y" * 255] * 16)]
-        bad = [b"", b"/a", b"a/", b"a//b", b".", b"a/..", b"a\nb", b"a\0", b"\xff", b"x" * 256, b"a/" * 2_048 + b"a"]
+        good = [b"a", "ä/ö".encode(), b"...", b" ", b"x" * 255, b"/".join([b"y" * 255] * 16)]
+        bad = [
+            b"",
+            b"/a",
+            b"a/",
+            b"a//b",
+            b".",
+            b"a/..",
+            b"a\nb",
+            b"a\0",
+            b"\xff",
+            b"x" * 256,
+            b"a/" * 2_048 + b"a",
+        ]
         for path in good + bad:
             self.assertEqual(path_fault(path) is None, path in good, path[:20])
             self.assertEqual(path_place(path) is None, path in good, path[:20])

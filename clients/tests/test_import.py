@@ -34,15 +34,27 @@ class Whole(Case):
         return told, dict(line.split() for line in marks.read_text().splitlines()[1:])
 
     def assert_same_tree(self, id: str, commit: str, *words: str) -> None:
-        ours, gits = self.folder / f"{commit}.ours{len(words)}", self.folder / f"{commit}.git{len(words)}"
+        ours, gits = (
+            self.folder / f"{commit}.ours{len(words)}",
+            self.folder / f"{commit}.git{len(words)}",
+        )
         self.ok("checkout", id, ours, *words)
         self.maker.check_out(commit, gits)
         self.assertEqual(folder_files(ours), folder_files(gits), commit)
 
     def test_the_history_has_what_it_should(self):
-        changes = self.maker.git("log", "--first-parent", "--format=", "--raw", "--no-renames", "-m")
-        kinds = {(line.split()[0][1:], line.split()[1], line.split()[4][0]) for line in changes.splitlines()}
-        for wanted in (("100644", "100755", "M"), ("000000", "120000", "A"), ("100644", "000000", "D")):
+        changes = self.maker.git(
+            "log", "--first-parent", "--format=", "--raw", "--no-renames", "-m"
+        )
+        kinds = {
+            (line.split()[0][1:], line.split()[1], line.split()[4][0])
+            for line in changes.splitlines()
+        }
+        for wanted in (
+            ("100644", "100755", "M"),
+            ("000000", "120000", "A"),
+            ("100644", "000000", "D"),
+        ):
             self.assertIn(wanted, kinds)
         self.assertEqual(len(self.line), COMMITS)
         titles = self.maker.git("log", "--first-parent", "--format=%s")
@@ -63,10 +75,16 @@ class Whole(Case):
     def check_words(self, changesets: dict[str, str]) -> None:
         """Authors, dates and messages are git's."""
         log = self.ok("--json", "log", changesets[self.line[-1]]).documents
-        gits = self.maker.git("log", "--first-parent", "--date=iso", "--format=%an <%ae>%x00%ad%x00%B%x01")
-        wanted = [tuple(one.strip("\n").split("\0")) for one in gits.split("\x01") if one.strip("\n")]
+        gits = self.maker.git(
+            "log", "--first-parent", "--date=iso", "--format=%an <%ae>%x00%ad%x00%B%x01"
+        )
+        wanted = [
+            tuple(one.strip("\n").split("\0")) for one in gits.split("\x01") if one.strip("\n")
+        ]
         found = [(one["author"], one["date"], one["message"].rstrip("\n")) for one in log]
-        self.assertEqual(found, [(author, date, words.rstrip("\n")) for author, date, words in wanted])
+        self.assertEqual(
+            found, [(author, date, words.rstrip("\n")) for author, date, words in wanted]
+        )
 
     def check_histories(self, head: str) -> None:
         """The history of files, by the server and by the fold."""
@@ -114,7 +132,15 @@ class Whole(Case):
     def test_a_bookmark_with_other_files(self):
         name = fresh()
         self.ok("init", name)
-        words = ("import-git", self.maker.folder, name, "--marks", self.folder / "marks", "--branch", self.line[3])
+        words = (
+            "import-git",
+            self.maker.folder,
+            name,
+            "--marks",
+            self.folder / "marks",
+            "--branch",
+            self.line[3],
+        )
         self.ok(*words)
         self.assertEqual(len(self.ok("--json", "log", name).documents), 5)
         self.ok("commit", name, "--delete", "nothing", "-m", "not of the import")
@@ -192,12 +218,21 @@ class LeftOut(Case):
         tree = maker.git("write-tree")
         parent = ""
         for header, message in (("encoding ISO-8859-1\n", b"gr\xfc\xdf"), ("", b"no \xff text")):
-            head = f"tree {tree}\n{parent}author A <a@b> 5 -0130\ncommitter A <a@b> 5 +0000\n{header}\n"
-            oid = maker.git("hash-object", "-t", "commit", "-w", "--stdin", data=head.encode() + message)
+            people = "author A <a@b> 5 -0130\ncommitter A <a@b> 5 +0000\n"
+            data = f"tree {tree}\n{parent}{people}{header}\n".encode() + message
+            oid = maker.git("hash-object", "-t", "commit", "-w", "--stdin", data=data)
             parent = f"parent {oid}\n"
         maker.git("update-ref", "refs/heads/main", oid)
         name = fresh("import")
-        ran = jarrah("--json", "import-git", maker.folder, name, "--marks", self.folder / "marks", server=self.server)
+        ran = jarrah(
+            "--json",
+            "import-git",
+            maker.folder,
+            name,
+            "--marks",
+            self.folder / "marks",
+            server=self.server,
+        )
         self.assertEqual((ran.status, ran.document["altered"]), (0, [oid]))
         newest, oldest = self.ok("--json", "log", name).documents
         self.assertEqual((newest["message"], oldest["message"]), ("no \ufffd text", "grüß"))

@@ -15,7 +15,10 @@ from .test_encoding import ABC, EMPTY
 API = (TOP / "docs" / "API.md").read_text()
 ANSWERS = {"content", "changeset", "bookmark", "landed", "log", "history"}
 LATER = {"no-content", "no-path", "not-a-dir", "not-a-file", "bad-path", "too-long"} | {
-    "disk-fault", "down", "read-fault", "bad-bytes"
+    "disk-fault",
+    "down",
+    "read-fault",
+    "bad-bytes",
 }
 """Codes of routes and of files that docs/API.md doesn't have yet."""
 ID = "0123456789abcdef" * 4
@@ -100,7 +103,13 @@ class InWords(unittest.TestCase):
         self.assertIn("left", in_words(409, "clash", {}))
 
     def test_answers_that_no_document_has(self):
-        for status, answer in ((200, b"{}"), (200, b"hello"), (200, {"code": "log"}), (500, b"oops"), (404, b"[]")):
+        for status, answer in (
+            (200, b"{}"),
+            (200, b"hello"),
+            (200, {"code": "log"}),
+            (500, b"oops"),
+            (404, b"[]"),
+        ):
             with self.subTest(answer=answer):
                 self.canned.say(status, answer)
                 ran = jarrah("land", "main", ID, server=self.canned.url)
@@ -145,9 +154,13 @@ class Provoked(Case):
     def test_drafts(self):
         words = self.refused("draft", "--parent", ID)
         self.assertEqual(words, f"the server doesn't have the parent {ID}")
-        words = self.refused("draft", "--parent", self.name, "--set", f"a={self.abc}", "--set", f"a/b={self.abc}")
+        words = self.refused(
+            "draft", "--parent", self.name, "--set", f"a={self.abc}", "--set", f"a/b={self.abc}"
+        )
         self.assertEqual(words, "a/b lies under a, and one changeset can't set both")
-        self.assertIn("twice", self.refused("draft", "--parent", self.name, "--delete", "a", "--delete", "a"))
+        self.assertIn(
+            "twice", self.refused("draft", "--parent", self.name, "--delete", "a", "--delete", "a")
+        )
         self.assertIn("refused", self.refused("draft", "--parent", self.name, "--delete", "a/../b"))
         large = self.write("large", bytes(1_048_577))
         words = self.refused("draft", "--parent", self.name, "--set", f"l={large}")
@@ -172,14 +185,22 @@ class Provoked(Case):
             ran = jarrah("draft", "--parent", draft, "-m", str(number), server=self.server)
             draft = ran.out.strip()
         words = self.refused("land", self.name, draft)
-        self.assertEqual(words, "the draft is a stack of 101 changesets, over 100; land it in pieces")
+        self.assertEqual(
+            words, "the draft is a stack of 101 changesets, over 100; land it in pieces"
+        )
 
     def test_reads(self):
         self.ok("commit", self.name, "--set", f"a/b={self.abc}")
         self.assertEqual(self.refused("cat", self.name, "c"), "c: there is nothing at this path")
-        self.assertEqual(self.refused("cat", self.name, "a"), "a: the path is a directory and no file")
-        self.assertEqual(self.refused("history", self.name, "a"), "a: the path is a directory and no file")
-        self.assertEqual(self.refused("ls", self.name, "a/b"), "a/b: the path is a file and no directory")
+        self.assertEqual(
+            self.refused("cat", self.name, "a"), "a: the path is a directory and no file"
+        )
+        self.assertEqual(
+            self.refused("history", self.name, "a"), "a: the path is a directory and no file"
+        )
+        self.assertEqual(
+            self.refused("ls", self.name, "a/b"), "a/b: the path is a file and no directory"
+        )
         self.assertIn("there is nothing", self.refused("cat", self.name, "a/b/c"))
         self.assertIn("no bookmark", self.refused("log", fresh("absent")))
         self.assertIn("no bookmark and no changeset", self.refused("log", "0" * 12))
@@ -201,9 +222,13 @@ class Provoked(Case):
         early = self.started(has_manifests=False)
         jarrah("init", "main", server=early.url)
         jarrah("commit", "main", "--set", f"a={self.abc}", server=early.url)
-        self.assertEqual(jarrah("--json", "ls", "main", server=early.url).document["source"], "fold")
+        self.assertEqual(
+            jarrah("--json", "ls", "main", server=early.url).document["source"], "fold"
+        )
         ran = jarrah("cat", "main", "a", server=early.url)
-        self.assertEqual((ran.status, ran.err), (1, "jarrah: a: this server doesn't have this route\n"))
+        self.assertEqual(
+            (ran.status, ran.err), (1, "jarrah: a: this server doesn't have this route\n")
+        )
 
 
 class ByCalls(Case):

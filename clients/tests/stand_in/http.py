@@ -87,7 +87,9 @@ class Head:
 
 
 def id_of(data: bytes) -> str:
-    fault = next((at for at, byte in enumerate(data[:64]) if byte not in b"0123456789abcdefABCDEF"), None)
+    fault = next(
+        (at for at, byte in enumerate(data[:64]) if byte not in b"0123456789abcdefABCDEF"), None
+    )
     if fault is None and len(data) != 64:
         fault = min(len(data), 64)
     if fault is not None:
@@ -188,7 +190,11 @@ class Service:
                 raise Refusal(405, "method", allow=method)
             words = parameters(call, [text for text in match.groups() if text is not None])
             with self.turn:
-                return 200, getattr(self, call)(*words, *([data] if call.startswith("put_") else [])), ""
+                return (
+                    200,
+                    getattr(self, call)(*words, *([data] if call.startswith("put_") else [])),
+                    "",
+                )
         raise Refusal(404, "no-route")
 
     def put_content(self, data: bytes) -> bytes:

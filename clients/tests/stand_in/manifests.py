@@ -123,7 +123,9 @@ def past_after(before: Past | None, record: Record) -> Past:
             data = b"\x55\x01" + parent(path, False) + link + struct.pack(">I", len(node.names))
             for name, below in rising(node):
                 id, _, below_is_file = nodes[f"{path}/{name}" if path else name]
-                data += name_bytes(name) + (b"\x00" if below_is_file else b"\x01") + bytes.fromhex(id)
+                data += (
+                    name_bytes(name) + (b"\x00" if below_is_file else b"\x01") + bytes.fromhex(id)
+                )
         nodes[path] = (digest(data), data, is_file)
 
     visit(nested(tree), "")
@@ -180,4 +182,3 @@ class Manifests:
                 if not record.parents or path not in self.past(record.parents[0]).tree:
                     break
         return ids
-

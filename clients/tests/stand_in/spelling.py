@@ -3,6 +3,7 @@
 from __future__ import annotations
 
 import struct
+from collections.abc import Callable
 from dataclasses import dataclass
 from hashlib import sha256
 
@@ -83,46 +84,56 @@ def path_place(data: bytes) -> int | None:
     return None
 
 
+class Reader:
+    """Takes fields off the front of some bytes."""
+
+    def __init__(self, data: bytes):
+        self.data = data
+        self.at = 0
+
+    def take(self, count: int, rule: Callable[[bytes], bool] = lambda piece: True) -> bytes:
+        piece = self.data[self.at : self.at + count]
+        if len(piece) < count or not rule(piece):
+            raise Refusal(422, "bad-encoding", place=self.at)
+        self.at += count
+        return piece
+
+    def number(self, count: int, least: int, most: int) -> int:
+        piece = self.take(count, lambda p: least <= int.from_bytes(p, "big") <= most)
+        return int.from_bytes(piece, "big")
+
+
 def read_changeset(data: bytes) -> Record:
     """The changeset that the bytes spell, or the refusal that comes first."""
     if len(data) > MOST:
         raise Refusal(413, "too-long", length=len(data))
-    at = 0
-
-    def take(count: int, rule=lambda piece: True) -> bytes:
-        nonlocal at
-        piece = data[at : at + count]
-        if len(piece) < count or not rule(piece):
-            raise Refusal(422, "bad-encoding", place=at)
-        at += count
-        return piece
-
-    def number(count: int, least: int, most: int) -> int:
-        return int.from_bytes(take(count, lambda p: least <= int.from_bytes(p, "big") <= most), "big")
-
-    take(1, lambda p: p == b"\x43")
-    take(1, lambda p: p == b"\x01")
+    reader = Reader(data)
+    reader.take(1, lambda p: p == b"\x43")
+    reader.take(1, lambda p: p == b"\x01")
     parents: list[bytes] = []
-    for _ in range(number(1, 0, 2)):
-        parents.append(take(32, lambda p: p not in parents))
-    take(number(2, 1, 1_024), lambda p: is_utf8(p) and not set(p) & {0, 10})
-    take(8)
-    take(4)
-    take(number(4, 0, MOST), is_utf8)
+    for _ in range(reader.number(1, 0, 2)):
+        parents.append(reader.take(32, lambda p: p not in parents))
+    reader.take(reader.number(2, 1, 1_024), lambda p: is_utf8(p) and not set(p) & {0, 10})
+    reader.take(8)
+    reader.take(4)
+    reader.take(reader.number(4, 0, MOST), is_utf8)
     changes: list[tuple[str, Set | None]] = []
-    for _ in range(number(4, 0, 4_096)):
-        length = number(2, 1, 4_096)
-        name = take(length, lambda p: path_place(p) is None and follows(p, changes)).decode()
-        if number(1, 0, 1) == 0:
-            changes.append((name, None))
-            continue
-        kind = number(1, 0, 2)
-        size = number(8, 0, MOST)
-        changes.append((name, Set(take(32).hex(), size, kind)))
-    if at != len(data):
-        raise Refusal(422, "bad-encoding", place=at)
+    for _ in range(reader.number(4, 0, 4_096)):
+        changes.append(read_change(reader, changes))
+    if reader.at != len(data):
+        raise Refusal(422, "bad-encoding", place=reader.at)
     refuse_conflict([path for path, file in changes if file])
     return Record(digest(data), data, tuple(p.hex() for p in parents), tuple(changes))
+
+
+def read_change(reader: Reader, before: list) -> tuple[str, Set | None]:
+    length = reader.number(2, 1, 4_096)
+    path = reader.take(length, lambda p: path_place(p) is None and follows(p, before)).decode()
+    if reader.number(1, 0, 1) == 0:
+        return path, None
+    kind = reader.number(1, 0, 2)
+    size = reader.number(8, 0, MOST)
+    return path, Set(reader.take(32).hex(), size, kind)
 
 
 def follows(path: bytes, changes: list) -> bool:
