@@ -125,6 +125,9 @@ class WorkedBytes(unittest.TestCase):
         with self.assertRaises(BadEncoding) as caught:
             decode_fsnode(data[:-1])
         self.assertEqual(caught.exception.place, 58)
+        with self.assertRaises(BadEncoding) as caught:
+            decode_fsnode(data[:45] + b"\2" + data[46:] + data[46:])
+        self.assertEqual(caught.exception.place, 91)
 
     def test_unodes(self):
         first = past_after(None, read_changeset(SETS_P.encoded))
