@@ -61,7 +61,9 @@ def commit(options: Namespace, server: Server, out: Output) -> None:
     """Uploads a changeset onto a bookmark's head and lands it."""
     head = drafts.head_for_commit(server, options.bookmark)
     changeset = drafts.upload(server, options, head)
-    tell_landed(server.land(options.bookmark, changeset.id), options, out)
+    with about(f"draft {changeset.id}"):
+        landed = server.land(options.bookmark, changeset.id)
+    tell_landed(landed, options, out)
 
 
 def tell_landed(landed: Landed, options: Namespace, out: Output) -> None:
