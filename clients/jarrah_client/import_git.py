@@ -16,7 +16,7 @@ from .marks import Marks
 from .paths import path_fault, path_key
 from .pool import Pool
 from .progress import Progress
-from .refusals import Refused
+from .refusals import Refused, about
 from .server import Server, Trouble
 from .trees import tree_of
 
@@ -288,12 +288,10 @@ def upload_all(
 
 def upload(step: Step, pool: Pool, report: Report) -> None:
     """Uploads the changesets of one commit."""
-    try:
+    with about(f"stopped at commit {step.commit.oid[:12]} (run again to go on)"):
         for content in step.uploads:
             content.result()
         for changeset in step.changesets:
             pool.ask(lambda server: server.put_changeset(changeset.encoded), urgent=True).result()
             report.changesets += 1
             report.head = changeset.id
-    except Refused as refusal:
-        raise Trouble(f"at commit {step.commit.oid[:12]}: {refusal}; run again to go on") from None

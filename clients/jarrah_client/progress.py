@@ -7,11 +7,15 @@ import time
 from typing import TextIO
 
 WIDTH = 28
+SECONDS_BEFORE = 0.5
 SECONDS_BETWEEN = 0.1
 
 
 class Progress:
-    """Shows `done` of `total` on standard error where that is a terminal; quiet elsewhere."""
+    """Shows `done` of `total` on standard error where that is a terminal; quiet elsewhere.
+
+    What is done soon is done without a bar.
+    """
 
     def __init__(self, what: str, total: int | None, out: TextIO | None = None):
         self.what = what
@@ -26,19 +30,21 @@ class Progress:
         return self
 
     def __exit__(self, *_: object) -> None:
-        if self.shows:
+        if self.shown:
             self.show()
             self.out.write("\n")
 
     def step(self) -> None:
         """One more is done."""
         self.done += 1
-        if self.shows and time.monotonic() - self.shown > SECONDS_BETWEEN:
+        now = time.monotonic()
+        late = now - self.begun > SECONDS_BEFORE and now - self.shown > SECONDS_BETWEEN
+        if self.shows and late:
             self.show()
 
     def note(self, line: str) -> None:
         """Writes a line above the bar."""
-        clear = "\r\x1b[K" if self.shows else ""
+        clear = "\r\x1b[K" if self.shown else ""
         self.out.write(f"{clear}{line}\n")
 
     def show(self) -> None:

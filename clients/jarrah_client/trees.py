@@ -8,6 +8,7 @@ from typing import Protocol
 from .changesets import Changeset, File
 from .nodes import Fsnode
 from .paths import is_comparable, joined, path_key
+from .progress import Progress
 from .refusals import Refused
 from .repository import chain
 from .server import Server
@@ -197,7 +198,7 @@ def tree_of(server: Server, id: str, *, fold: bool = False) -> Tree:
         except Refused as refusal:
             if refusal.code != "no-route":
                 raise
-    return folded(reversed(list(chain(server, id))))
+    return folded(whole_chain(server, id))
 
 
 def history_of(server: Server, id: str, path: str, *, fold: bool = False) -> list[str]:
@@ -208,7 +209,17 @@ def history_of(server: Server, id: str, path: str, *, fold: bool = False) -> lis
         except Refused as refusal:
             if refusal.code != "no-route":
                 raise
-    return folded_history(list(reversed(list(chain(server, id)))), path)
+    return folded_history(whole_chain(server, id), path)
+
+
+def whole_chain(server: Server, id: str) -> list[Changeset]:
+    """A changeset and its ancestors, the oldest first."""
+    found: list[Changeset] = []
+    with Progress("changesets", None) as progress:
+        for changeset in chain(server, id):
+            found.append(changeset)
+            progress.step()
+    return found[::-1]
 
 
 def folded_history(changesets: list[Changeset], path: str) -> list[str]:

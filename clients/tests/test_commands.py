@@ -90,11 +90,16 @@ class Words(Case):
         quiet, terminal = io.StringIO(), Terminal()
         for out in (quiet, terminal):
             with Progress("files", 4, out) as progress:
+                progress.begun -= 1
                 progress.step()
                 progress.note("named")
         self.assertEqual(quiet.getvalue(), "named\n")
         self.assertIn("\x1b[Knamed\n", terminal.getvalue())
         self.assertRegex(terminal.getvalue(), r"\[#{7}\.{21}\] 1/4 files  [\d,]+/s")
+        soon = Terminal()
+        with Progress("files", 1, soon) as progress:
+            progress.step()
+        self.assertEqual(soon.getvalue(), "")
 
 
 class Terminal(io.StringIO):
