@@ -62,11 +62,13 @@ class Room:
         self.changed = threading.Condition()
 
     def take(self, count: int) -> None:
+        """Waits until there is room for so many."""
         with self.changed:
             self.changed.wait_for(lambda: self.count >= count)
             self.count -= count
 
     def give(self, count: int) -> None:
+        """Gives back the room of so many."""
         with self.changed:
             self.count += count
             self.changed.notify_all()

@@ -13,9 +13,8 @@ from .server import Server
 
 Answer = TypeVar("Answer")
 
-FIRST, LATER = 0, 1
-"""Requests that others wait for go first."""
-LAST = 2
+STOP, FIRST, LATER = 0, 1, 2
+"""Ranks in the queue: the end of all work, requests that others wait for, and all else."""
 
 
 class Pool:
@@ -48,7 +47,7 @@ class Pool:
 
     def __exit__(self, *_: object) -> None:
         for _ in self.threads:
-            self.waiting.put((LAST, next(self.order), None))
+            self.waiting.put((STOP, next(self.order), None))
         for server in self.servers:
             server.connection.close()
 

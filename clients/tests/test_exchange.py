@@ -187,6 +187,7 @@ class Exchange(Case):
         for sent, status, code in (
             (b"x" * 16_384, 431, "head-too-large"),
             (b"GET /\r\n\r\n", 400, "bad-head"),
+            (b"GET /log/\xff HTTP/1.1\r\n\r\n", 400, "bad-head"),
             (b"GET / HTTP/1.1\r\n" + b"a: b\r\n" * 65 + b"\r\n", 431, "too-many-headers"),
             (b"GET / HTTP/1.1\r\nTransfer-Encoding: chunked\r\n\r\n", 501, "transfer-encoding"),
             (b"GET / HTTP/1.1\r\nContent-Length: -1\r\n\r\n", 400, "bad-length"),

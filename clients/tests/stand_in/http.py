@@ -51,6 +51,13 @@ LATER_ROUTES = ("content", "fsnode", "unode", "history")
 Answer = tuple[int, bytes, str]
 
 
+def text_of(data: bytes) -> str:
+    try:
+        return data.decode()
+    except UnicodeDecodeError:
+        raise Refusal(400, "bad-head") from None
+
+
 class Head:
     """A request's head: its method, target, version and what its headers ask for."""
 
@@ -63,7 +70,7 @@ class Head:
         if len(headers) > MOST_HEADERS:
             raise Refusal(431, "too-many-headers")
         self.method = request[1].decode()
-        self.target = request[2].partition(b"?")[0].decode("utf-8", "surrogateescape")
+        self.target = text_of(request[2]).partition("?")[0]
         self.headers = [(h[1].lower(), h[2]) for h in headers]
         self.closes = request[3] == b"0" or b"close" in self.elements(b"connection")
         self.length = self.read_length()
@@ -141,7 +148,7 @@ def parameters(call: str, texts: list[str]) -> list:
     """A route's parameters, decoded and read from left to right."""
     found = []
     for text, (code, read) in zip(texts, PARAMETERS.get(call, [])):
-        data = unquote_to_bytes(text.encode("utf-8", "surrogateescape"))
+        data = unquote_to_bytes(text)
         try:
             data.decode()
         except UnicodeDecodeError:
@@ -180,7 +187,7 @@ class Service:
             return refusal.status, body(refusal.code, refusal.members), allow
 
     def routed(self, head: Head, data: bytes) -> Answer:
-        if not head.target.startswith("/") or not encodes(head.target):
+        if not head.target.startswith("/"):
             raise Refusal(400, "bad-target")
         for pattern, method, call in self.routes:
             match = pattern.fullmatch(head.target)
@@ -232,15 +239,6 @@ class Service:
 
     def history(self, id: str, path: str) -> bytes:
         return body("history", {"ids": self.repository.manifests.history(id, path)})
-
-
-def encodes(target: str) -> bool:
-    """Whether the target's bytes were UTF-8."""
-    try:
-        target.encode()
-    except UnicodeEncodeError:
-        return False
-    return True
 
 
 class Session(socketserver.StreamRequestHandler):
