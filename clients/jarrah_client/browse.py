@@ -7,6 +7,7 @@ import threading
 from collections.abc import Callable
 from functools import lru_cache
 from http.server import BaseHTTPRequestHandler, ThreadingHTTPServer
+from itertools import islice
 from pathlib import Path
 from typing import Any
 from urllib.parse import unquote, urlsplit
@@ -18,12 +19,14 @@ from .paths import is_text
 from .refusals import Refused, about
 from .repository import Log, resolve
 from .server import BadAnswer, NotReached, Server, Trouble
-from .trees import Tree, history_of, tree_of
+from .trees import Tree, history_of, last_changes, tree_of
 
 HOST = "127.0.0.1"
 PAGE = Path(__file__).with_name("page.html")
 LOG_LENGTH = 30
 HISTORY_LENGTH = 50
+LISTING_LENGTH = 200
+"""For so many entries of a directory the page asks who touched them last."""
 KEPT_TREES = 16
 KEPT_CHANGESETS = 4_096
 POLICY = (
@@ -48,6 +51,7 @@ class Library:
             "log": self.changesets,
             "changeset": self.one_changeset,
             "tree": self.directory,
+            "last": self.last,
             "file": self.file,
         }
 
@@ -96,6 +100,18 @@ class Library:
             found = self.tree(id).list(path)
         rows = [named(name, entry) for name, entry in found.items()]
         return {"id": id, "path": path, "entries": rows}
+
+    def last(self, rest: str) -> dict[str, Any]:
+        """Who touched each entry of a directory last; nothing where the server has no unodes."""
+        id, path = self.place(rest)
+        names = islice(self.tree(id).list(path), LISTING_LENGTH)
+        try:
+            links = last_changes(self.server, id, path, names)
+        except Refused as refusal:
+            if refusal.code != "no-route":
+                raise
+            links = {}
+        return {"last": {name: brief(self.changeset(link)) for name, link in links.items()}}
 
     def file(self, rest: str) -> dict[str, Any]:
         """A file's text, where it is text, and its history."""

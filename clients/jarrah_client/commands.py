@@ -28,12 +28,11 @@ from .output import (
     kind_letter,
     short_lines,
 )
-from .paths import joined
 from .pool import Pool
 from .refusals import about
 from .repository import Log, chain, need_head, resolve
 from .server import Landed, Server
-from .trees import history_of, tree_of
+from .trees import history_of, last_changes, tree_of
 
 FOLLOW_SECONDS = 1.0
 
@@ -154,11 +153,6 @@ def listed(name: str, entry: File | None, link: str | None) -> tuple[dict[str, A
         shown = f"{link}  {shown}"
     size = f"{entry.size:,}" if entry else ""
     return document, f"{kind_letter(entry)} {size:>11}  {shown}"
-
-
-def last_changes(server: Server, id: str, base: str, found: dict) -> dict[str, str]:
-    """The changeset that last touched each entry, by its unode."""
-    return {name: server.unode(id, joined(base, name)).linknode for name in found}
 
 
 def cat(options: Namespace, server: Server, out: Output) -> None:

@@ -201,6 +201,11 @@ def tree_of(server: Server, id: str, *, fold: bool = False) -> Tree:
     return folded(whole_chain(server, id))
 
 
+def last_changes(server: Server, id: str, base: str, names: Iterable[str]) -> dict[str, str]:
+    """The changeset that last touched each of some names under a directory, by its unode."""
+    return {name: server.unode(id, joined(base, name)).linknode for name in names}
+
+
 def history_of(server: Server, id: str, path: str, *, fold: bool = False) -> list[str]:
     """The changesets that set a file, newest first, back to where it began."""
     if not fold:

@@ -9,6 +9,9 @@ import sys
 from html.parser import HTMLParser
 from urllib.parse import quote, urlsplit
 
+from jarrah_client.browse import Library
+from jarrah_client.refusals import Refused
+
 from .harness import ENVIRONMENT, GIVEN, PROGRAM, Case, fresh, jarrah
 from .test_encoding import ABC
 
@@ -118,6 +121,13 @@ class Browse(Case):
         self.assertEqual([one["name"] for one in found], ["raw", "ä b.txt"])
         self.assertEqual(self.api(f"tree/{self.first}")["path"], "")
 
+    def test_who_touched_what_last(self):
+        found = self.api(f"last/{self.head}/")["last"]
+        ids = {name: one["id"] for name, one in found.items()}
+        self.assertEqual(ids, {"dir": self.first, "link": self.first, "run": self.head})
+        found = self.api(f"last/{self.head}/dir")["last"]
+        self.assertEqual(set(found), {"raw", "ä b.txt"})
+
     def test_files(self):
         found = self.api(f"file/{self.head}/dir/ä b.txt")
         self.assertEqual((found["text"], found["content"], found["kind"]), ("abc", ABC, "regular"))
@@ -139,6 +149,23 @@ class Browse(Case):
             found, _, data = self.fetch(target)
             self.assertEqual(found, status, target)
             self.assertIn(words, json.loads(data)["error"])
+
+    def test_a_server_without_manifests(self):
+        if GIVEN:
+            self.skipTest("a server of an early day")
+        early = self.started(has_manifests=False)
+        jarrah("init", "main", server=early.url)
+        head = jarrah(
+            "--json", "commit", "main", "--set", f"a/b={self.write('abc')}", server=early.url
+        )
+        library = Library(early.url, fold=False)
+        self.addCleanup(library.server.close)
+        id = head.document["head"]
+        listed = library.answer("tree", f"{id}/a")["entries"]
+        self.assertEqual([one["name"] for one in listed], ["b"])
+        self.assertEqual(library.answer("last", f"{id}/a"), {"last": {}})
+        with self.assertRaisesRegex(Refused, "doesn't have this route"):
+            library.answer("file", f"{id}/a/b")
 
     def test_this_machine_alone(self):
         self.assertEqual(self.url.hostname, "127.0.0.1")
