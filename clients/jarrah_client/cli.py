@@ -17,6 +17,8 @@ from .refusals import Refused
 from .server import Server, Trouble
 
 ABOUT = "Work with a running Jarrahchess server: commit, land, look, and import a git history."
+THE_SERVER = "the server; default: $JARRAH_SERVER"
+FOR_SCRIPTS = "write one JSON document a line, for scripts"
 REVISION = "a bookmark, a changeset's id, or the first 6 digits or more of one"
 EXAMPLES = """examples:
   jarrah init main
@@ -40,17 +42,18 @@ def parser() -> argparse.ArgumentParser:
         epilog=EXAMPLES,
         formatter_class=argparse.RawDescriptionHelpFormatter,
     )
-    top.add_argument("--server", metavar="URL", default=os.environ.get("JARRAH_SERVER"))
-    top.add_argument("--json", action="store_true", help="one JSON document a line, for scripts")
+    given = os.environ.get("JARRAH_SERVER")
+    top.add_argument("--server", metavar="URL", default=given, help=THE_SERVER)
+    top.add_argument("--json", action="store_true", help=FOR_SCRIPTS)
     common = argparse.ArgumentParser(add_help=False)
-    common.add_argument("--server", metavar="URL", default=argparse.SUPPRESS, help="the server")
-    common.add_argument(
-        "--json", action="store_true", default=argparse.SUPPRESS, help="tell it to scripts"
-    )
+    common.add_argument("--server", metavar="URL", default=argparse.SUPPRESS, help=THE_SERVER)
+    common.add_argument("--json", action="store_true", default=argparse.SUPPRESS, help=FOR_SCRIPTS)
     below = top.add_subparsers(dest="command", metavar="COMMAND", required=True)
 
     def add(name: str, run: Callable, about: str) -> argparse.ArgumentParser:
-        one = below.add_parser(name, parents=[common], help=about, description=f"{about}.")
+        one = below.add_parser(
+            name, parents=[common], help=about, description=f"{about[0].upper()}{about[1:]}."
+        )
         one.set_defaults(run=run)
         return one
 
@@ -89,7 +92,10 @@ def add_writing(add: Add) -> None:
 def add_changes(one: argparse.ArgumentParser) -> None:
     """Options that say what a new changeset holds."""
     for option, what in (
-        ("--set", "set a file to the bytes of FILE, `-` for the standard input"),
+        (
+            "--set",
+            "set a file to the bytes of FILE (`-`: the standard input); these four can be repeated",
+        ),
         ("--exec", "the same, executable"),
         ("--symlink", "set a symbolic link to the text after the `=`"),
     ):
@@ -99,16 +105,16 @@ def add_changes(one: argparse.ArgumentParser) -> None:
         )
     one.add_argument("--delete", metavar="PATH", action="append", default=[], help="delete a file")
     one.add_argument("-m", "--message", default="", help="what the changeset does")
-    one.add_argument("--author", help="JARRAH_AUTHOR, or git's user, where it isn't given")
+    one.add_argument("--author", help="default: $JARRAH_AUTHOR, else git's user")
     one.add_argument(
-        "--date", type=a_date, help="`@SECONDS +HHMM` or 2026-01-31T12:00:00+01:00; now"
+        "--date", type=a_date, help="`@SECONDS +HHMM` or `2026-01-31T12:00:00+01:00`; default: now"
     )
 
 
 def add_reading(add: Add) -> None:
     """Subcommands that read."""
-    one = add("log", commands.log, "tell a bookmark's changesets, the newest first")
-    one.add_argument("revision", metavar="bookmark", help=REVISION)
+    one = add("log", commands.log, "tell a changeset and its ancestors, the newest first")
+    one.add_argument("revision", metavar="id", help=REVISION)
     one.add_argument("-n", dest="count", type=natural, help="so many at most")
     one.add_argument("--oneline", action="store_true", help="one line for each")
     one.add_argument("--patch-names", action="store_true", help="with the paths of each")
@@ -116,8 +122,8 @@ def add_reading(add: Add) -> None:
     one.add_argument("--from", dest="start", metavar="N", type=natural, default=0)
     one.add_argument("--follow", action="store_true", help="go on with what comes")
     one = add("ls", commands.ls, "list a directory of a changeset's tree")
-    one.add_argument("revision", help=REVISION)
-    one.add_argument("path", nargs="?", default="")
+    one.add_argument("revision", metavar="id", help=REVISION)
+    one.add_argument("path", nargs="?", default="", help="a directory; default: the root")
     one.add_argument("-r", "--recursive", action="store_true", help="all files under it")
     one.add_argument(
         "--last", action="store_true", help="with the changeset that last touched each"
@@ -128,17 +134,17 @@ def add_reading(add: Add) -> None:
         ("history", commands.history, "tell the changesets that set a file, the newest first"),
     ):
         one = add(name, run, what)
-        one.add_argument("revision", help=REVISION)
+        one.add_argument("revision", metavar="id", help=REVISION)
         one.add_argument("path")
         add_fold(one)
     one = add("diff", commands.diff, "tell the paths that a changeset sets and deletes")
-    one.add_argument("revision", help=REVISION)
+    one.add_argument("revision", metavar="id", help=REVISION)
 
 
 def add_large(add: Add) -> None:
     """Subcommands that move whole trees and histories."""
     one = add("checkout", commands.checkout, "write a changeset's tree into a folder")
-    one.add_argument("revision", help=REVISION)
+    one.add_argument("revision", metavar="id", help=REVISION)
     one.add_argument("folder", help="new or empty")
     add_connections(one)
     add_fold(one)
@@ -147,11 +153,15 @@ def add_large(add: Add) -> None:
     )
     one.add_argument("repository", help="a git repository, with or without a work tree")
     one.add_argument("bookmark", help="made, or moved on to the end of the line")
-    one.add_argument("--branch", default="HEAD", help="what git takes for a commit; HEAD")
-    one.add_argument("--marks", metavar="FILE", help="jarrah/BOOKMARK.marks in git's folder")
+    one.add_argument("--branch", default="HEAD", help="a branch or a commit; default: HEAD")
+    one.add_argument(
+        "--marks",
+        metavar="FILE",
+        help="what was imported; default: jarrah/BOOKMARK.marks in git's folder",
+    )
     add_connections(one)
     one = add("browse", commands.browse, "serve a page to look round in, on this machine alone")
-    one.add_argument("--port", type=natural, default=0, help="any that is free")
+    one.add_argument("--port", type=natural, default=0, help="default: any that is free")
     add_fold(one)
 
 
@@ -163,7 +173,7 @@ def add_fold(one: argparse.ArgumentParser) -> None:
 
 def add_connections(one: argparse.ArgumentParser) -> None:
     one.add_argument(
-        "--connections", type=positive, default=4, metavar="N", help="so many at a time; 4"
+        "--connections", type=positive, default=4, metavar="N", help="at a time; default: 4"
     )
 
 

@@ -125,25 +125,16 @@ class Work(Case):
         ran = jarrah_process("--json", "log", self.name, server=self.server)
         self.assertEqual([one["message"] for one in ran.documents], ["ü", ""])
 
-    def test_commit_and_look(self):
+    def committed(self) -> dict:
+        """What a commit of a file, an executable and a link told."""
         run = self.write("run", b"#!/bin/sh\n")
-        words = [
-            "-m",
-            "First\n\nwith a body",
-            "--date",
-            "@1000000000 +0100",
-            "--author",
-            "Ann <a@b>",
-        ]
-        words += [
-            "--set",
-            f"docs/ä.txt={self.abc}",
-            "--exec",
-            f"run={run}",
-            "--symlink",
-            "link=docs",
-        ]
-        landed = self.ask("commit", self.name, *words)
+        words = ["-m", "First\n\nwith a body", "--author", "Ann <a@b>"]
+        words += ["--date", "@1000000000 +0100", "--symlink", "link=docs"]
+        words += ["--set", f"docs/ä.txt={self.abc}", "--exec", f"run={run}"]
+        return self.ask("commit", self.name, *words)
+
+    def test_commit(self):
+        landed = self.committed()
         self.assertEqual((landed["old"], landed["ids"]), (ROOT.id, [landed["head"]]))
         found = self.ask("diff", self.name)["changes"]
         self.assertEqual([one["path"] for one in found], ["docs/ä.txt", "link", "run"])
@@ -158,24 +149,27 @@ class Work(Case):
             "    set f           3  docs/ä.txt",
         ):
             self.assertIn(f"\n{line}\n", "\n" + log)
+
+    def test_look_at_files(self):
+        self.committed()
         self.assertEqual(self.ok("cat", self.name, "docs/ä.txt").out, "abc")
         document = self.ask("cat", self.name, "docs/ä.txt")
         self.assertEqual((base64.b64decode(document["base64"]), document["size"]), (b"abc", 3))
-        self.assertEqual(
-            self.ok("ls", self.name).out.split(), ["d", "docs/", "l", "4", "link", "x", "10", "run"]
-        )
-        self.assertEqual(
-            self.ok("ls", "-r", self.name, "docs").out.split(), ["f", "3", "docs/ä.txt"]
-        )
-        folder = self.folder / "out"
-        told = self.ask("checkout", self.name, folder)
+        listed = self.ok("ls", self.name).out.split()
+        self.assertEqual(listed, ["d", "docs/", "l", "4", "link", "x", "10", "run"])
+        listed = self.ok("ls", "-r", self.name, "docs").out.split()
+        self.assertEqual(listed, ["f", "3", "docs/ä.txt"])
+
+    def test_check_out(self):
+        self.committed()
+        told = self.ask("checkout", self.name, self.folder / "out")
         self.assertEqual((told["files"], told["source"]), (3, "fsnodes"))
         wanted = {
             "docs/ä.txt": ("regular", b"abc"),
             "link": ("symlink", b"docs"),
             "run": ("executable", b"#!/bin/sh\n"),
         }
-        self.assertEqual(folder_files(folder), wanted)
+        self.assertEqual(folder_files(self.folder / "out"), wanted)
 
     def test_drafts_and_stacks(self):
         first = self.draft(self.name, "--set", f"a={self.abc}", "-m", "one")

@@ -9,6 +9,7 @@ import socketserver
 import threading
 from collections.abc import Callable
 from contextlib import nullcontext
+from dataclasses import dataclass
 from http.server import ThreadingHTTPServer
 from urllib.parse import unquote_to_bytes
 
@@ -48,7 +49,19 @@ ROUTES = [
 LATER_ROUTES = ("content", "fsnode", "unode", "history")
 """Routes that a server of an early day doesn't have."""
 
-Answer = tuple[int, bytes, str]
+BODIES = ("put_content", "put_changeset")
+BYTES = ("content", "changeset", "fsnode", "unode")
+JSON, OCTETS = "application/json", "application/octet-stream"
+
+
+@dataclass(frozen=True)
+class Answer:
+    """What a response says: its status and body, the body's type, and the route's methods."""
+
+    status: int
+    body: bytes
+    kind: str = JSON
+    allow: str = ""
 
 
 def text_of(data: bytes) -> str:
@@ -179,12 +192,12 @@ class Service:
         ]
 
     def answer(self, head: Head, data: bytes) -> Answer:
-        """The status, the body, and a further line of the head."""
+        """The answer to a request."""
         try:
             return self.routed(head, data)
         except Refusal as refusal:
-            allow = f"Allow: {refusal.members.pop('allow')}\r\n" if refusal.code == "method" else ""
-            return refusal.status, body(refusal.code, refusal.members), allow
+            allow = refusal.members.pop("allow", "")
+            return Answer(refusal.status, body(refusal.code, refusal.members), allow=allow)
 
     def routed(self, head: Head, data: bytes) -> Answer:
         if not head.target.startswith("/"):
@@ -196,12 +209,10 @@ class Service:
             if head.method != method:
                 raise Refusal(405, "method", allow=method)
             words = parameters(call, [text for text in match.groups() if text is not None])
+            if call in BODIES:
+                words.append(data)
             with self.turn:
-                return (
-                    200,
-                    getattr(self, call)(*words, *([data] if call.startswith("put_") else [])),
-                    "",
-                )
+                return Answer(200, getattr(self, call)(*words), OCTETS if call in BYTES else JSON)
         raise Refusal(404, "no-route")
 
     def put_content(self, data: bytes) -> bytes:
@@ -263,7 +274,8 @@ class Session(socketserver.StreamRequestHandler):
                 return False
             head = Head(data)
         except Refusal as refusal:
-            self.respond((refusal.status, body(refusal.code, {}), ""), closes=True, head_only=False)
+            closing = Answer(refusal.status, body(refusal.code, {}))
+            self.respond(closing, closes=True, head_only=False)
             return False
         sent = self.rfile.read(head.length)
         if len(sent) < head.length:
@@ -288,13 +300,15 @@ class Session(socketserver.StreamRequestHandler):
                 raise Refusal(431, "head-too-large")
 
     def respond(self, answer: Answer, *, closes: bool, head_only: bool) -> None:
-        status, data, allow = answer
-        is_json = status != 200 or data.startswith(b'{"code":')
-        kind = "application/json" if is_json else "application/octet-stream"
-        head = f"HTTP/1.1 {status} {REASONS[status]}\r\nContent-Type: {kind}\r\n"
-        head += f"Content-Length: {len(data)}\r\n{allow}"
-        head += "Connection: close\r\n\r\n" if closes else "\r\n"
-        self.wfile.write(head.encode() + (b"" if head_only else data))
+        lines = [
+            f"HTTP/1.1 {answer.status} {REASONS[answer.status]}",
+            f"Content-Type: {answer.kind}",
+            f"Content-Length: {len(answer.body)}",
+            *([f"Allow: {answer.allow}"] if answer.allow else []),
+            *(["Connection: close"] if closes else []),
+        ]
+        head = "\r\n".join(lines) + "\r\n\r\n"
+        self.wfile.write(head.encode() + (b"" if head_only else answer.body))
 
 
 class StandIn(ThreadingHTTPServer):
