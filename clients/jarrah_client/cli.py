@@ -7,6 +7,7 @@ import json
 import os
 import sys
 from collections.abc import Callable, Sequence
+from typing import Any
 
 from . import commands
 from .changesets import CannotSpell, SelfConflict
@@ -232,7 +233,7 @@ def complain(fault: Exception, as_json: bool) -> None:
     if not as_json:
         print(f"jarrah: {clean(str(fault))}", file=sys.stderr)
         return
-    document = {"error": str(fault)}
+    document: dict[str, Any] = {"error": str(fault)}
     if isinstance(fault, Refused):
         document |= {"status": fault.status, "code": fault.code, **fault.members}
     print(json.dumps(document, ensure_ascii=False), file=sys.stderr)

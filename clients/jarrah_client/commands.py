@@ -85,6 +85,7 @@ def bookmark(options: Namespace, server: Server, out: Output) -> None:
         out.tell(document, [f"{log.bookmarks[name]}  {name}" for name in names])
         return
     need_name(options.name)
+    head: str | None
     if options.to is None and not options.delete:
         head = need_head(server, options.name)
     else:

@@ -9,7 +9,7 @@ import sys
 import time
 from argparse import Namespace
 from dataclasses import dataclass
-from datetime import datetime
+from datetime import datetime, timedelta
 from pathlib import Path
 
 from .changesets import MOST_CONTENT_BYTES, Changeset, File, Kind, digest
@@ -126,10 +126,11 @@ def read_date(text: str) -> tuple[int, int]:
         seconds, sign, hours, minutes = found.groups(default="0")
         offset = int(hours) * 3_600 + int(minutes) * 60
         return int(seconds), -offset if sign == "-" else offset
-    moment = datetime.fromisoformat(text).astimezone()
-    if re.search(r"[+-]\d\d:?\d\d$", text):
-        moment = datetime.fromisoformat(text)
-    return int(moment.timestamp()), int(moment.utcoffset().total_seconds())
+    moment = datetime.fromisoformat(text)
+    if moment.tzinfo is None:
+        moment = moment.astimezone()
+    east = moment.utcoffset() or timedelta()
+    return int(moment.timestamp()), int(east.total_seconds())
 
 
 def default_author() -> str:

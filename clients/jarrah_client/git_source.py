@@ -8,7 +8,7 @@ import tempfile
 from collections.abc import Iterator
 from dataclasses import dataclass
 from pathlib import Path
-from typing import BinaryIO
+from typing import IO
 
 from .changesets import MOST_AUTHOR_BYTES, Kind
 from .server import Trouble
@@ -22,6 +22,7 @@ KINDS = {
 SUBMODULE = b"160000"
 PERSON = re.compile(rb"(.*?) ?(-?\d+) ([+-])(\d+)(\d\d)", re.DOTALL)
 PIECE = 1 << 20
+READ_BYTES = 1 << 16
 DIFF = "diff-tree --stdin --root --always -r -z --raw --no-renames --no-abbrev".split()
 
 
@@ -95,6 +96,7 @@ class GitRepository:
             feed.write(asked.encode())
             feed.seek(0)
             differ = subprocess.Popen(self.command(*DIFF), stdin=feed, stdout=subprocess.PIPE)
+            assert differ.stdout
             try:
                 for oid, changes in changes_by_commit(pieces(differ.stdout)):
                     yield self.commit(oid, changes)
@@ -117,6 +119,7 @@ class GitRepository:
 
     def read(self, oid: str, most: int | None = None) -> tuple[int, bytes]:
         """An object's length and bytes; the bytes are left out where they are over `most`."""
+        assert self.objects.stdin and self.objects.stdout
         self.objects.stdin.write(oid.encode() + b"\n")
         self.objects.stdin.flush()
         answer = self.objects.stdout.readline().split()
@@ -127,19 +130,21 @@ class GitRepository:
             skip(self.objects.stdout, length + 1)
             return length, b""
         data = self.objects.stdout.read(length + 1)
+        if len(data) <= length:
+            raise Trouble(f"git broke off in the object {oid}")
         return length, data[:-1]
 
 
-def skip(stream: BinaryIO, count: int) -> None:
+def skip(stream: IO[bytes], count: int) -> None:
     """Reads on without keeping anything."""
-    while count:
-        count -= len(stream.read(min(count, PIECE)))
+    while data := stream.read(min(count, PIECE)):
+        count -= len(data)
 
 
-def pieces(stream: BinaryIO) -> Iterator[bytes]:
+def pieces(stream: IO[bytes]) -> Iterator[bytes]:
     """What a stream has between zero bytes, each of which ends a piece."""
     rest = b""
-    while data := stream.read1(PIECE):
+    while data := stream.read(READ_BYTES):
         *whole, rest = (rest + data).split(b"\x00")
         yield from whole
 

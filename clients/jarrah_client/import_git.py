@@ -283,7 +283,7 @@ def upload_all(
             if isinstance(step, Exception):
                 raise step
             upload(step, pool, report)
-            marks.add(step.commit.oid, report.head)
+            marks.add(step.commit.oid, step.changesets[-1].id)
             report.commits += 1
             progress.step()
 

@@ -45,7 +45,7 @@ class Pool:
                 raise trouble
         return self
 
-    def __exit__(self, *_: object) -> None:
+    def __exit__(self, *fault: object) -> None:
         for _ in self.threads:
             self.waiting.put((STOP, next(self.order), None))
         for server in self.servers:

@@ -150,8 +150,9 @@ class FoldedTree:
         return entry
 
     def files(self, directory: str = "") -> Iterator[tuple[str, File]]:
-        found = walked(self.at(directory), directory)
-        return iter(sorted(found, key=lambda entry: path_key(entry[0])))
+        root = self.at(directory)
+        assert isinstance(root, dict)
+        return iter(sorted(walked(root, directory), key=lambda found: path_key(found[0])))
 
     def count(self) -> int:
         return self.total
