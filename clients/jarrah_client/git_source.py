@@ -79,8 +79,7 @@ class GitRepository:
         except FileNotFoundError:
             raise Trouble("there is no git on this machine") from None
         if done.returncode != 0:
-            complaint = done.stderr.decode(errors="replace").strip().splitlines()
-            raise Trouble(complaint[0] if complaint else f"git {words[0]} failed")
+            raise Trouble(first_line(done.stderr) or f"git {words[0]} failed")
         return done.stdout.decode(errors="surrogateescape")
 
     def line(self, branch: str) -> list[str]:
@@ -92,13 +91,14 @@ class GitRepository:
         """The commits with these oids, each the first parent of the next, after `before`."""
         parents = [before, *oids]
         asked = "".join(f"{oid} {old or ''}".rstrip() + "\n" for old, oid in zip(parents, oids))
-        with tempfile.TemporaryFile() as feed:
+        with tempfile.TemporaryFile() as feed, tempfile.TemporaryFile() as complaint:
             feed.write(asked.encode())
             feed.seek(0)
-            differ = subprocess.Popen(self.command(*DIFF), stdin=feed, stdout=subprocess.PIPE)
-            assert differ.stdout
+            differ = subprocess.Popen(
+                self.command(*DIFF), stdin=feed, stdout=subprocess.PIPE, stderr=complaint
+            )
             try:
-                for oid, changes in changes_by_commit(pieces(differ.stdout)):
+                for oid, changes in changes_by_commit(pieces(differ, complaint)):
                     yield self.commit(oid, changes)
             finally:
                 differ.kill()
@@ -141,12 +141,21 @@ def skip(stream: IO[bytes], count: int) -> None:
         count -= len(data)
 
 
-def pieces(stream: IO[bytes]) -> Iterator[bytes]:
-    """What a stream has between zero bytes, each of which ends a piece."""
+def pieces(process: subprocess.Popen, complaint: IO[bytes]) -> Iterator[bytes]:
+    """What a process writes between zero bytes, each of which ends a piece."""
+    assert process.stdout
     rest = b""
-    while data := stream.read(READ_BYTES):
+    while data := process.stdout.read(READ_BYTES):
         *whole, rest = (rest + data).split(b"\x00")
         yield from whole
+    if process.wait() != 0:
+        complaint.seek(0)
+        raise Trouble(first_line(complaint.read()) or "git broke off its list of changes")
+
+
+def first_line(complaint: bytes) -> str:
+    """The first line of what git complains of."""
+    return complaint.decode(errors="replace").strip().partition("\n")[0]
 
 
 def changes_by_commit(tokens: Iterator[bytes]) -> Iterator[tuple[str, list[GitChange]]]:

@@ -240,6 +240,19 @@ class LeftOut(Case):
         self.assertEqual((newest["message"], oldest["message"]), ("no \ufffd text", "grüß"))
         self.assertEqual((newest["seconds"], newest["offset"]), (5, -5_400))
 
+    def test_a_repository_that_lacks_an_object(self):
+        maker = Maker(self.folder / "repository")
+        for number in range(4):
+            (maker.folder / "file").write_text(str(number))
+            commit = maker.commit(str(number))
+        tree = maker.git("rev-parse", f"{commit}~1^{{tree}}")
+        (maker.folder / ".git" / "objects" / tree[:2] / tree[2:]).unlink()
+        name, marks = fresh("import"), self.folder / "marks"
+        words = self.refused("import-git", maker.folder, name, "--marks", marks)
+        self.assertIn("fatal", words)
+        self.assertLess(len(marks.read_text().splitlines()), 3)
+        self.assertIn("there is no bookmark", self.refused("bookmark", name))
+
     def test_what_is_no_repository(self):
         words = self.refused("import-git", self.folder, fresh(), "--marks", self.folder / "marks")
         self.assertIn("not a git repository", words)
