@@ -1,0 +1,1 @@
+"""The client of a Jarrahchess server: commands, formats, and a page to look round."""

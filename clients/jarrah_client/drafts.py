@@ -1,0 +1,152 @@
+"""Making changesets from files, and landing them."""
+
+from __future__ import annotations
+
+import os
+import re
+import subprocess
+import sys
+import time
+from argparse import Namespace
+from dataclasses import dataclass
+from datetime import datetime, timedelta
+from pathlib import Path
+
+from .changesets import MOST_CONTENT_BYTES, Changeset, File, Kind, digest
+from .paths import is_bookmark_name, path_key
+from .repository import need_head, resolve
+from .server import Server, Trouble
+
+ROOT = Changeset((), "jarrah", 0, 0, "")
+"""The root that `init` makes. All bookmarks share it, so drafts can land on each."""
+
+
+@dataclass(frozen=True)
+class Written:
+    """Changes that a person names, and the contents that they set, by their ids."""
+
+    changes: dict[str, File | None]
+    contents: dict[str, bytes]
+
+
+def changes_of(options: Namespace) -> Written:
+    """The changes of `--set`, `--exec`, `--symlink` and `--delete`."""
+    written = Written({}, {})
+    for kind, words in (
+        (Kind.REGULAR, options.set),
+        (Kind.EXECUTABLE, options.exec),
+        (Kind.SYMLINK, options.symlink),
+    ):
+        for path, source in words:
+            data = source.encode() if kind is Kind.SYMLINK else file_bytes(source)
+            put(written, path, data, kind)
+    for path in options.delete:
+        add(written, path, None)
+    return written
+
+
+def put(written: Written, path: str, data: bytes, kind: Kind) -> None:
+    """Adds a set of a path."""
+    if len(data) > MOST_CONTENT_BYTES:
+        raise Trouble(f"{path}: {len(data):,} bytes are over {MOST_CONTENT_BYTES:,}")
+    id = digest(data)
+    written.contents[id] = data
+    add(written, path, File(id, len(data), kind))
+
+
+def add(written: Written, path: str, file: File | None) -> None:
+    """Adds a change of a path that has none yet."""
+    if path in written.changes:
+        raise Trouble(f"{path} is given twice")
+    written.changes[path] = file
+
+
+def file_bytes(source: str) -> bytes:
+    """A file's bytes, at most one more than a content may have; `-` is the standard input."""
+    try:
+        if source == "-":
+            return sys.stdin.buffer.read(MOST_CONTENT_BYTES + 1)
+        return Path(source).read_bytes()
+    except OSError as fault:
+        raise Trouble(f"{source}: {fault.strerror}") from None
+
+
+def upload(server: Server, options: Namespace, parent: str | None) -> Changeset:
+    """Uploads the contents of a draft, each once, and then the draft."""
+    written = changes_of(options)
+    author = options.author or default_author()
+    seconds, offset = options.date or now()
+    parents = (parent,) if parent else ()
+    changes = {path: written.changes[path] for path in sorted(written.changes, key=path_key)}
+    changeset = Changeset(parents, author, seconds, offset, options.message, changes)
+    encoded = changeset.encoded
+    for data in written.contents.values():
+        server.put_content(data)
+    server.put_changeset(encoded)
+    return changeset
+
+
+def parent_of(server: Server, name: str) -> str | None:
+    """The parent that a person names; `none` for a root."""
+    return None if name == "none" else resolve(server, name)
+
+
+def initialize(server: Server, bookmark: str) -> str:
+    """Makes the empty root changeset and a bookmark at it."""
+    need_name(bookmark)
+    if server.head(bookmark) is not None:
+        raise Trouble(f"there is a bookmark {bookmark} already")
+    server.put_changeset(ROOT.encoded)
+    server.move_bookmark(bookmark, None, ROOT.id)
+    return ROOT.id
+
+
+def head_for_commit(server: Server, bookmark: str) -> str:
+    """The head that a commit is made onto."""
+    need_name(bookmark)
+    return need_head(server, bookmark)
+
+
+def need_name(name: str) -> None:
+    """Refuses a name that no bookmark may have."""
+    if not is_bookmark_name(name):
+        raise Trouble(f"{name!r} is no bookmark's name: it is 1 to 128 of A-Z a-z 0-9 _ . -")
+
+
+def now() -> tuple[int, int]:
+    """The present second, and this place's offset from UTC in seconds."""
+    seconds = int(time.time())
+    return seconds, time.localtime(seconds).tm_gmtoff
+
+
+def read_date(text: str) -> tuple[int, int]:
+    """A date such as `@1700000000 +0100` or `2026-01-31T12:00:00+01:00`."""
+    found = re.fullmatch(r"@(-?\d+)(?: ([+-])(\d\d)(\d\d))?", text)
+    if found:
+        seconds, sign, hours, minutes = found.groups(default="0")
+        offset = int(hours) * 3_600 + int(minutes) * 60
+        return int(seconds), -offset if sign == "-" else offset
+    moment = datetime.fromisoformat(text)
+    if moment.tzinfo is None:
+        moment = moment.astimezone()
+    east = moment.utcoffset() or timedelta()
+    return int(moment.timestamp()), int(east.total_seconds())
+
+
+def default_author() -> str:
+    """The author by `JARRAH_AUTHOR`, by git's settings, or the user's name."""
+    if author := os.environ.get("JARRAH_AUTHOR"):
+        return author
+    name, address = git_setting("user.name"), git_setting("user.email")
+    if name and address:
+        return f"{name} <{address}>"
+    return name or os.environ.get("USER") or "unknown"
+
+
+def git_setting(key: str) -> str:
+    """A setting of git, or nothing."""
+    try:
+        done = subprocess.run(["git", "config", key], capture_output=True, text=True)
+    except FileNotFoundError:
+        return ""
+    return done.stdout.strip()

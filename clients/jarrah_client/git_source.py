@@ -1,0 +1,204 @@
+"""Reading the first-parent line of a git repository through git's own plumbing."""
+
+from __future__ import annotations
+
+import re
+import subprocess
+import tempfile
+from collections.abc import Iterator
+from dataclasses import dataclass
+from pathlib import Path
+from typing import IO
+
+from .changesets import MOST_AUTHOR_BYTES, Kind
+from .server import Trouble
+
+KINDS = {
+    b"100644": Kind.REGULAR,
+    b"100664": Kind.REGULAR,
+    b"100755": Kind.EXECUTABLE,
+    b"120000": Kind.SYMLINK,
+}
+SUBMODULE = b"160000"
+PERSON = re.compile(rb"(.*?) ?(-?\d+) ([+-])(\d+)(\d\d)", re.DOTALL)
+PIECE = 1 << 20
+READ_BYTES = 1 << 16
+DIFF = "diff-tree --stdin --root --always -r -z --raw --no-renames --no-abbrev".split()
+
+
+@dataclass(frozen=True)
+class GitChange:
+    """A changed path. `kind` is None where the path is gone or a submodule now."""
+
+    path: bytes
+    blob: str
+    kind: Kind | None
+    was_file: bool
+    is_submodule: bool
+
+
+@dataclass(frozen=True)
+class GitCommit:
+    """What a commit says, and the paths that differ from its first parent."""
+
+    oid: str
+    author: str
+    seconds: int
+    offset: int
+    message: str
+    is_altered: bool
+    """Whether author or message aren't as git has them, since no changeset can hold those."""
+    changes: list[GitChange]
+
+
+class GitRepository:
+    """A repository that git reads. Its process for objects ends with it."""
+
+    def __init__(self, folder: Path):
+        self.folder = folder
+        self.directory = Path(self.run("rev-parse", "--absolute-git-dir").strip())
+        self.objects = subprocess.Popen(
+            self.command("cat-file", "--batch"), stdin=subprocess.PIPE, stdout=subprocess.PIPE
+        )
+
+    def __enter__(self) -> GitRepository:
+        return self
+
+    def __exit__(self, *_: object) -> None:
+        self.objects.kill()
+        self.objects.communicate()
+
+    def command(self, *words: str) -> list[str]:
+        """A command of git on this repository."""
+        return ["git", "--no-replace-objects", "-C", str(self.folder), *words]
+
+    def run(self, *words: str) -> str:
+        """The output of a command of git, or trouble with its first line of complaint."""
+        try:
+            done = subprocess.run(self.command(*words), capture_output=True)
+        except FileNotFoundError:
+            raise Trouble("there is no git on this machine") from None
+        if done.returncode != 0:
+            raise Trouble(first_line(done.stderr) or f"git {words[0]} failed")
+        return done.stdout.decode(errors="surrogateescape")
+
+    def line(self, branch: str) -> list[str]:
+        """The commits of a branch by first parents, the oldest first."""
+        commit = self.run("rev-parse", "--verify", "--end-of-options", f"{branch}^{{commit}}")
+        return self.run("rev-list", "--first-parent", "--reverse", commit.strip()).split()
+
+    def commits(self, oids: list[str], before: str | None) -> Iterator[GitCommit]:
+        """The commits with these oids, each the first parent of the next, after `before`."""
+        parents = [before, *oids]
+        asked = "".join(f"{oid} {old or ''}".rstrip() + "\n" for old, oid in zip(parents, oids))
+        with tempfile.TemporaryFile() as feed, tempfile.TemporaryFile() as complaint:
+            feed.write(asked.encode())
+            feed.seek(0)
+            differ = subprocess.Popen(
+                self.command(*DIFF), stdin=feed, stdout=subprocess.PIPE, stderr=complaint
+            )
+            try:
+                for oid, changes in changes_by_commit(pieces(differ, complaint)):
+                    yield self.commit(oid, changes)
+            finally:
+                differ.kill()
+                differ.communicate()
+
+    def commit(self, oid: str, changes: list[GitChange]) -> GitCommit:
+        """A commit by its oid and the paths that differ."""
+        _, data = self.read(oid)
+        head, _, message = data.partition(b"\n\n")
+        headers = dict(line.partition(b" ")[::2] for line in reversed(head.split(b"\n")))
+        encoding = headers.get(b"encoding", b"utf-8").decode("ascii", "replace")
+        author, seconds, offset = person(headers.get(b"author", b""))
+        name, name_altered = text(author, encoding)
+        words, words_altered = text(message, encoding)
+        fitting = fit_author(name)
+        altered = name_altered or words_altered or fitting != name
+        return GitCommit(oid, fitting, seconds, offset, words, altered, changes)
+
+    def read(self, oid: str, most: int | None = None) -> tuple[int, bytes]:
+        """An object's length and bytes; the bytes are left out where they are over `most`."""
+        assert self.objects.stdin and self.objects.stdout
+        self.objects.stdin.write(oid.encode() + b"\n")
+        self.objects.stdin.flush()
+        answer = self.objects.stdout.readline().split()
+        if len(answer) != 3:
+            raise Trouble(f"git has no object {oid}")
+        length = int(answer[2])
+        if most is not None and length > most:
+            skip(self.objects.stdout, length + 1)
+            return length, b""
+        data = self.objects.stdout.read(length + 1)
+        if len(data) <= length:
+            raise Trouble(f"git broke off in the object {oid}")
+        return length, data[:-1]
+
+
+def skip(stream: IO[bytes], count: int) -> None:
+    """Reads on without keeping anything."""
+    while data := stream.read(min(count, PIECE)):
+        count -= len(data)
+
+
+def pieces(process: subprocess.Popen, complaint: IO[bytes]) -> Iterator[bytes]:
+    """What a process writes between zero bytes, each of which ends a piece."""
+    assert process.stdout
+    rest = b""
+    while data := process.stdout.read(READ_BYTES):
+        *whole, rest = (rest + data).split(b"\x00")
+        yield from whole
+    if process.wait() != 0:
+        complaint.seek(0)
+        raise Trouble(first_line(complaint.read()) or "git broke off its list of changes")
+
+
+def first_line(complaint: bytes) -> str:
+    """The first line of what git complains of."""
+    return complaint.decode(errors="replace").strip().partition("\n")[0]
+
+
+def changes_by_commit(tokens: Iterator[bytes]) -> Iterator[tuple[str, list[GitChange]]]:
+    """Commits with their changed paths, from the raw output of git's differ."""
+    oid = ""
+    changes: list[GitChange] = []
+    for token in tokens:
+        if token.startswith(b":"):
+            changes.append(change(token, next(tokens)))
+            continue
+        if oid:
+            yield oid, changes
+        oid, changes = token.decode(), []
+    if oid:
+        yield oid, changes
+
+
+def change(raw: bytes, path: bytes) -> GitChange:
+    """One change from a raw line such as `:100644 100755 OLD NEW M`."""
+    old_mode, new_mode, _, blob, _ = raw[1:].split(b" ")
+    kind = KINDS.get(new_mode)
+    return GitChange(path, blob.decode(), kind, old_mode in KINDS, new_mode == SUBMODULE)
+
+
+def person(line: bytes) -> tuple[bytes, int, int]:
+    """Name with address, seconds since 1970, and seconds east of UTC."""
+    found = PERSON.fullmatch(line)
+    if found is None:
+        return line, 0, 0
+    name, seconds, sign, hours, minutes = found.groups()
+    offset = int(hours) * 3_600 + int(minutes) * 60
+    return name, int(seconds), -offset if sign == b"-" else offset
+
+
+def text(data: bytes, encoding: str) -> tuple[str, bool]:
+    """Text in an encoding, and whether bytes that aren't in it were replaced."""
+    try:
+        return data.decode(encoding), False
+    except (UnicodeDecodeError, LookupError):
+        return data.decode("utf-8", "replace"), True
+
+
+def fit_author(name: str) -> str:
+    """A name that a changeset's author field takes."""
+    clean = name.replace("\x00", "").replace("\n", " ").strip() or "unknown"
+    return clean.encode()[:MOST_AUTHOR_BYTES].decode(errors="ignore")

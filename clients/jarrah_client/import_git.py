@@ -1,0 +1,299 @@
+"""Importing the first-parent line of a git branch."""
+
+from __future__ import annotations
+
+import queue
+import threading
+import time
+from concurrent.futures import Future
+from contextlib import closing
+from dataclasses import dataclass, field, replace
+from pathlib import Path
+
+from .changesets import MOST_CHANGES, MOST_CONTENT_BYTES, Changeset, File, digest
+from .git_source import GitChange, GitCommit, GitRepository
+from .marks import Marks
+from .paths import path_fault, path_key
+from .pool import Pool
+from .progress import Progress
+from .refusals import Refused, about
+from .server import Server, Trouble
+from .trees import tree_of
+
+AHEAD_COMMITS = 64
+AHEAD_BYTES = 64 << 20
+MOST_MESSAGE_BYTES = 262_144
+MOST_CHANGE_BYTES = 700_000
+"""What changes of one changeset may take, so that its message has room beside them."""
+CHANGE_OVERHEAD = 44
+
+
+@dataclass
+class Report:
+    """What an import did."""
+
+    bookmark: str
+    head: str | None = None
+    commits: int = 0
+    changesets: int = 0
+    contents: int = 0
+    content_bytes: int = 0
+    known: int = 0
+    """Commits that an earlier run had imported."""
+    seconds: float = 0.0
+    left_out: list[dict[str, str]] = field(default_factory=list)
+    altered: list[str] = field(default_factory=list)
+
+
+@dataclass(frozen=True)
+class Step:
+    """The changesets of one commit, and the uploads that they wait for."""
+
+    commit: GitCommit
+    changesets: list[Changeset]
+    uploads: list[Future]
+
+
+class Room:
+    """How many bytes may be on their way at a time."""
+
+    def __init__(self, count: int):
+        self.count = count
+        self.changed = threading.Condition()
+
+    def take(self, count: int) -> None:
+        """Waits until there is room for so many."""
+        with self.changed:
+            self.changed.wait_for(lambda: self.count >= count)
+            self.count -= count
+
+    def give(self, count: int) -> None:
+        """Gives back the room of so many."""
+        with self.changed:
+            self.count += count
+            self.changed.notify_all()
+
+
+class Reader:
+    """Turns commits into changesets, and has their contents uploaded ahead of them."""
+
+    def __init__(self, source: GitRepository, pool: Pool, report: Report, progress: Progress):
+        self.source = source
+        self.pool = pool
+        self.report = report
+        self.progress = progress
+        self.room = Room(AHEAD_BYTES)
+        self.steps: queue.Queue[Step | Exception | None] = queue.Queue(AHEAD_COMMITS)
+        self.blobs: dict[str, tuple[str, int]] = {}
+
+    def read(self, oids: list[str], before: str | None, parent: str | None) -> None:
+        """Puts a step for each commit, then None, or what went wrong."""
+        try:
+            for commit in self.source.commits(oids, before):
+                step = self.step(commit, parent)
+                parent = step.changesets[-1].id
+                self.steps.put(step)
+            self.steps.put(None)
+        except Exception as fault:
+            self.steps.put(fault)
+
+    def step(self, commit: GitCommit, parent: str | None) -> Step:
+        """The changesets of a commit onto a parent."""
+        uploads: list[Future] = []
+        changes: dict[str, File | None] = {}
+        for change in commit.changes:
+            self.take(commit, change, changes, uploads)
+        message = commit.message
+        if commit.is_altered:
+            self.alter(commit, "its author or message isn't text that a changeset can hold")
+        if len(message.encode()) > MOST_MESSAGE_BYTES:
+            message = message.encode()[:MOST_MESSAGE_BYTES].decode(errors="ignore")
+            self.alter(commit, f"its message was cut to {MOST_MESSAGE_BYTES:,} bytes")
+        first = Changeset((), commit.author, commit.seconds, commit.offset, message)
+        return Step(commit, stacked(first, parts_of(changes), parent), uploads)
+
+    def take(
+        self,
+        commit: GitCommit,
+        change: GitChange,
+        changes: dict[str, File | None],
+        uploads: list[Future],
+    ) -> None:
+        """Adds one change of a commit, or names why it is left out."""
+        fault = path_fault(change.path)
+        if fault:
+            self.leave_out(commit, change, f"the path is refused: {fault}")
+            return
+        path = change.path.decode()
+        file = self.file(commit, change, uploads)
+        if file or change.was_file:
+            changes[path] = file
+
+    def file(self, commit: GitCommit, change: GitChange, uploads: list[Future]) -> File | None:
+        """The file that a change sets, its content on its way; None where there is none."""
+        if change.is_submodule:
+            self.leave_out(commit, change, "it is a submodule")
+        if change.kind is None:
+            return None
+        if change.blob not in self.blobs:
+            size, data = self.source.read(change.blob, MOST_CONTENT_BYTES)
+            if size > MOST_CONTENT_BYTES:
+                why = f"it has {size:,} bytes, over {MOST_CONTENT_BYTES:,}"
+                self.leave_out(commit, change, why)
+                return None
+            self.blobs[change.blob] = (digest(data), size)
+            uploads.append(self.upload(data))
+        return File(*self.blobs[change.blob], change.kind)
+
+    def upload(self, data: bytes) -> Future:
+        """Has a content uploaded by the next connection that is free."""
+        self.room.take(len(data))
+        self.report.contents += 1
+        self.report.content_bytes += len(data)
+
+        def call(server: Server) -> str:
+            try:
+                return server.put_content(data)
+            finally:
+                self.room.give(len(data))
+
+        return self.pool.ask(call)
+
+    def leave_out(self, commit: GitCommit, change: GitChange, why: str) -> None:
+        """Names a path that isn't imported."""
+        path = change.path.decode(errors="backslashreplace")
+        self.report.left_out.append({"commit": commit.oid, "path": path, "why": why})
+        self.progress.note(f"left out: {path!r} of commit {commit.oid[:12]}: {why}")
+
+    def alter(self, commit: GitCommit, why: str) -> None:
+        """Names a commit whose words aren't kept as git has them."""
+        self.report.altered.append(commit.oid)
+        self.progress.note(f"altered: commit {commit.oid[:12]}: {why}")
+
+
+def parts_of(changes: dict[str, File | None]) -> list[dict[str, File | None]]:
+    """Changes in as few parts as changesets can hold, by rising paths."""
+    parts: list[dict[str, File | None]] = [{}]
+    room = MOST_CHANGE_BYTES
+    for path in sorted(changes, key=path_key):
+        needs = len(path.encode()) + CHANGE_OVERHEAD
+        if len(parts[-1]) == MOST_CHANGES or needs > room:
+            parts.append({})
+            room = MOST_CHANGE_BYTES
+        parts[-1][path] = changes[path]
+        room -= needs
+    return parts
+
+
+def stacked(
+    first: Changeset, parts: list[dict[str, File | None]], parent: str | None
+) -> list[Changeset]:
+    """One changeset for each part, each onto the one before; the last has the whole message."""
+    changesets: list[Changeset] = []
+    for number, part in enumerate(parts, 1):
+        title = first.message.partition("\n")[0]
+        message = first.message if number == len(parts) else f"{title} ({number}/{len(parts)})"
+        parents = (parent,) if parent else ()
+        changesets.append(replace(first, parents=parents, message=message, changes=part))
+        parent = changesets[-1].id
+    return changesets
+
+
+@dataclass(frozen=True)
+class Plan:
+    """Where an import goes on: the bookmark's head, the parent, and the commits to come."""
+
+    head: str | None
+    parent: str | None
+    before: str | None
+    oids: list[str]
+
+
+def plan(server: Server, bookmark: str, line: list[str], marks: Marks) -> Plan:
+    """Finds where to go on, or says why the import would not fit."""
+    head = server.head(bookmark)
+    count = marks.last_of(line)
+    if count:
+        parent = marks.changesets[line[count - 1]]
+        need_known(server, parent, marks)
+        if head is not None and head not in marks.changesets.values():
+            need_empty(server, bookmark, head)
+        return Plan(head, parent, line[count - 1], line[count:])
+    if head is not None:
+        need_empty(server, bookmark, head)
+    return Plan(head, head, None, line)
+
+
+def need_known(server: Server, id: str, marks: Marks) -> None:
+    """Refuses marks of another server."""
+    try:
+        server.changeset(id)
+    except Refused as refusal:
+        if refusal.code != "no-changeset":
+            raise
+        raise Trouble(
+            f"{marks.place} has marks of another server: this one doesn't know {id};"
+            " name another file with --marks"
+        ) from None
+
+
+def need_empty(server: Server, bookmark: str, head: str) -> None:
+    """Refuses a bookmark with files that no run of this import put there."""
+    if tree_of(server, head).count():
+        raise Trouble(
+            f"{bookmark} is at {head}, which this import didn't make;"
+            " import onto a new bookmark, or name its file with --marks"
+        )
+
+
+def import_git(
+    url: str,
+    repository: Path,
+    branch: str,
+    bookmark: str,
+    marks_file: Path | None,
+    connections: int,
+) -> Report:
+    """Imports a branch's first-parent line, and moves the bookmark to its end."""
+    begun = time.monotonic()
+    with GitRepository(repository) as source:
+        line = source.line(branch)
+        place = marks_file or source.directory / "jarrah" / f"{bookmark}.marks"
+        with closing(Marks(place)) as marks, Pool(url, connections) as pool:
+            going = pool.ask(lambda server: plan(server, bookmark, line, marks)).result()
+            report = Report(bookmark, going.parent, known=len(line) - len(going.oids))
+            upload_all(source, pool, going, marks, report)
+            if report.head != going.head:
+                pool.ask(
+                    lambda server: server.move_bookmark(bookmark, going.head, report.head)
+                ).result()
+    report.seconds = time.monotonic() - begun
+    return report
+
+
+def upload_all(
+    source: GitRepository, pool: Pool, going: Plan, marks: Marks, report: Report
+) -> None:
+    """Uploads the commits to come, each changeset after its contents and its parent."""
+    with Progress("commits", len(going.oids)) as progress:
+        reader = Reader(source, pool, report, progress)
+        words = (going.oids, going.before, going.parent)
+        threading.Thread(target=reader.read, args=words, daemon=True).start()
+        while step := reader.steps.get():
+            if isinstance(step, Exception):
+                raise step
+            upload(step, pool, report)
+            marks.add(step.commit.oid, step.changesets[-1].id)
+            report.commits += 1
+            progress.step()
+
+
+def upload(step: Step, pool: Pool, report: Report) -> None:
+    """Uploads the changesets of one commit."""
+    with about(f"stopped at commit {step.commit.oid[:12]} (run again to go on)"):
+        for content in step.uploads:
+            content.result()
+        for changeset in step.changesets:
+            pool.ask(lambda server: server.put_changeset(changeset.encoded), urgent=True).result()
+            report.changesets += 1
+            report.head = changeset.id

@@ -1,0 +1,152 @@
+"""Nodes of manifests: fsnodes and unodes, as docs/FORMATS.md has them."""
+
+from __future__ import annotations
+
+from dataclasses import astuple, dataclass
+
+from .changesets import File, Kind
+from .fields import Fields
+from .paths import element_fault
+
+FSNODE_MARK = 0x46
+UNODE_MARK = 0x55
+FILE_UNODE_MARK = 0x56
+VERSION = 0x01
+
+
+@dataclass(frozen=True)
+class Summary:
+    """Counts and sizes (in bytes) of a directory's files and directories."""
+
+    child_files: int = 0
+    child_files_size: int = 0
+    child_dirs: int = 0
+    descendant_files: int = 0
+    descendant_files_size: int = 0
+
+
+@dataclass(frozen=True)
+class Directory:
+    """A directory in its parent's fsnode."""
+
+    node: str
+    summary: Summary
+
+
+Entries = dict[str, "File | Directory"]
+
+
+@dataclass(frozen=True)
+class Fsnode:
+    """The manifest of a directory: its files and directories by rising names."""
+
+    summary: Summary
+    entries: Entries
+
+
+@dataclass(frozen=True)
+class Unode:
+    """The past of a file or a directory: who made it, and the node before."""
+
+    parent: str | None
+    linknode: str
+    entries: dict[str, str] | None
+    """A directory's nodes by name; None for a file."""
+
+
+def encode_fsnode(node: Fsnode) -> bytes:
+    """The spelling of an fsnode."""
+    parts = [bytes((FSNODE_MARK, VERSION)), encode_summary(node.summary)]
+    parts.append(len(node.entries).to_bytes(4, "big"))
+    for name in sorted(node.entries, key=str.encode):
+        entry = node.entries[name]
+        data = name.encode()
+        parts.append(bytes((len(data),)) + data)
+        if isinstance(entry, File):
+            parts.append(bytes((0, entry.kind)) + entry.size.to_bytes(8, "big"))
+            parts.append(bytes.fromhex(entry.content))
+        else:
+            parts.append(b"\x01" + bytes.fromhex(entry.node) + encode_summary(entry.summary))
+    return b"".join(parts)
+
+
+def encode_summary(summary: Summary) -> bytes:
+    """The forty bytes of a summary."""
+    return b"".join(number.to_bytes(8, "big") for number in astuple(summary))
+
+
+def decode_fsnode(data: bytes) -> Fsnode:
+    """The fsnode that the bytes spell, or BadEncoding."""
+    fields = Fields(data)
+    fields.marks(FSNODE_MARK, VERSION)
+    summary = decode_summary(fields)
+    entries: Entries = {}
+    for name in names(fields):
+        entries[name] = (
+            decode_directory(fields) if fields.number_in(1, 0, 1) else decode_file(fields)
+        )
+    fields.end()
+    return Fsnode(summary, entries)
+
+
+def decode_summary(fields: Fields) -> Summary:
+    """A summary, which is one field."""
+    data = fields.take(40)
+    return Summary(*(int.from_bytes(data[at : at + 8], "big") for at in range(0, 40, 8)))
+
+
+def decode_directory(fields: Fields) -> Directory:
+    """A directory's entry."""
+    return Directory(fields.id(), decode_summary(fields))
+
+
+def decode_file(fields: Fields) -> File:
+    """A file's entry."""
+    kind = Kind(fields.number_in(1, 0, 2))
+    size = fields.number(8)
+    return File(fields.id(), size, kind)
+
+
+def names(fields: Fields):
+    """The names of a node's entries, each before the rest of its entry is read."""
+    last = b""
+    for _ in range(fields.number(4)):
+        name = fields.take(fields.number_in(1, 1, 255))
+        text = name.decode(errors="replace")
+        fields.require(text.encode() == name and element_fault(name) is None and name > last)
+        last = name
+        yield text
+
+
+def decode_unode(data: bytes) -> Unode:
+    """The unode of a file or a directory that the bytes spell, or BadEncoding."""
+    if data[:1] == bytes((FILE_UNODE_MARK,)):
+        return decode_file_unode(data)
+    fields = Fields(data)
+    fields.marks(UNODE_MARK, VERSION)
+    parent = decode_parent(fields)
+    linknode = fields.id()
+    entries: dict[str, str] = {}
+    for name in names(fields):
+        fields.number_in(1, 0, 1)
+        entries[name] = fields.id()
+    fields.end()
+    return Unode(parent, linknode, entries)
+
+
+def decode_file_unode(data: bytes) -> Unode:
+    """The unode of a file."""
+    fields = Fields(data)
+    fields.marks(FILE_UNODE_MARK, VERSION)
+    parent = decode_parent(fields)
+    fields.id()
+    fields.number_in(1, 0, 2)
+    fields.id()
+    linknode = fields.id()
+    fields.end()
+    return Unode(parent, linknode, None)
+
+
+def decode_parent(fields: Fields) -> str | None:
+    """A unode's parent, or None."""
+    return fields.id() if fields.number_in(1, 0, 1) else None

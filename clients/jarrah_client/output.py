@@ -1,0 +1,129 @@
+"""How things are told: to people as text, to scripts as JSON."""
+
+from __future__ import annotations
+
+import json
+import sys
+from collections.abc import Iterable
+from datetime import datetime, timedelta, timezone
+from typing import Any
+
+from .changesets import Changeset, File
+from .nodes import Directory
+
+
+class Output:
+    """Writes lines for people, or one JSON document a line for scripts."""
+
+    def __init__(self, as_json: bool):
+        self.as_json = as_json
+
+    def tell(self, document: Any, lines: str | Iterable[str]) -> None:
+        """Writes a document as JSON, or its lines."""
+        if self.as_json:
+            print(json.dumps(document, ensure_ascii=False), flush=True)
+            return
+        for line in [lines] if isinstance(lines, str) else lines:
+            print(clean(line), flush=True)
+
+    def bytes(self, data: bytes) -> None:
+        """Writes bytes as they are."""
+        sys.stdout.buffer.write(data)
+        sys.stdout.buffer.flush()
+
+
+def clean(text: str) -> str:
+    """Text without control characters that a terminal would obey; tabs stay."""
+    return "".join(c if c.isprintable() or c == "\t" else repr(c)[1:-1] for c in text)
+
+
+def date(seconds: int, offset: int) -> str:
+    """A date in its own offset from UTC."""
+    try:
+        zone = timezone(timedelta(seconds=offset))
+        return datetime.fromtimestamp(seconds, zone).strftime("%Y-%m-%d %H:%M:%S %z")
+    except (ValueError, OverflowError, OSError):
+        return f"@{seconds} {offset:+}"
+
+
+def title(message: str) -> str:
+    """The first line of a message."""
+    return message.strip().partition("\n")[0] or "(no message)"
+
+
+def change_document(path: str, file: File | None) -> dict[str, Any]:
+    """One change for scripts."""
+    if file is None:
+        return {"path": path, "change": "delete"}
+    return {"path": path, "change": "set", **file_document(file)}
+
+
+def file_document(file: File) -> dict[str, Any]:
+    """A file for scripts."""
+    return {"kind": file.kind.word, "size": file.size, "content": file.content}
+
+
+def changeset_document(changeset: Changeset) -> dict[str, Any]:
+    """A changeset for scripts."""
+    return {
+        "id": changeset.id,
+        "parents": list(changeset.parents),
+        "author": changeset.author,
+        "seconds": changeset.seconds,
+        "offset": changeset.offset,
+        "date": date(changeset.seconds, changeset.offset),
+        "message": changeset.message,
+        "changes": [change_document(path, file) for path, file in changeset.changes.items()],
+    }
+
+
+def change_line(path: str, file: File | None) -> str:
+    """One change for people."""
+    if file is None:
+        return f"delete              {path}"
+    return f"set {kind_letter(file)} {file.size:>11,}  {path}"
+
+
+def kind_letter(entry: File | Directory | None) -> str:
+    """One letter for a regular file, an executable, a symlink or a directory."""
+    return "fxl"[entry.kind] if isinstance(entry, File) else "d"
+
+
+def changeset_lines(changeset: Changeset, names: list[str], with_paths: bool) -> Iterable[str]:
+    """A changeset of a log for people, with the bookmarks that are at it."""
+    at = f"  ({', '.join(names)})" if names else ""
+    yield f"changeset {changeset.id}{at}"
+    yield f"author    {changeset.author}"
+    yield f"date      {date(changeset.seconds, changeset.offset)}"
+    yield ""
+    for line in changeset.message.strip().splitlines():
+        yield f"    {line}".rstrip()
+    if with_paths and changeset.changes:
+        yield ""
+        for path, file in changeset.changes.items():
+            yield f"    {change_line(path, file)}"
+    yield ""
+
+
+def short_lines(changeset: Changeset) -> str:
+    """A changeset in one line: its id, day, author and title."""
+    day = date(changeset.seconds, changeset.offset)[:10]
+    return f"{changeset.id}  {day}  {changeset.author}  {title(changeset.message)}"
+
+
+def entry_line(entry: dict[str, Any]) -> str:
+    """One entry of the update log for people."""
+    head = f"{entry['number']:>8}  {entry['kind']:<9}  "
+    if entry["kind"] == "content":
+        return f"{head}{entry['id']}  {entry['size']:,} bytes"
+    if entry["kind"] == "changeset":
+        return head + entry["id"]
+    if entry["kind"] == "bookmark":
+        return f"{head}{entry['name']}  {entry['from'] or 'none'} -> {entry['to'] or 'none'}"
+    count = counted(len(entry["ids"]), "changeset")
+    return f"{head}{entry['name']}  {entry['old']} -> {entry['ids'][-1]}  {count}"
+
+
+def counted(count: int, what: str) -> str:
+    """A count with its word."""
+    return f"{count:,} {what}{'' if count == 1 else 's'}"

@@ -1,0 +1,77 @@
+"""Several connections that share one queue of requests."""
+
+from __future__ import annotations
+
+import itertools
+import queue
+import threading
+from collections.abc import Callable
+from concurrent.futures import Future
+from typing import TypeVar
+
+from .server import Server
+
+Answer = TypeVar("Answer")
+
+STOP, FIRST, LATER = 0, 1, 2
+"""Ranks in the queue: the end of all work, requests that others wait for, and all else."""
+
+
+class Pool:
+    """Connections that take requests from one queue, the urgent ones first.
+
+    A connection takes part once the server has answered its first question. A server serves as
+    many connections at a time as it has lanes; the others wait, and no request waits with them.
+    """
+
+    def __init__(self, url: str, connections: int):
+        self.waiting: queue.PriorityQueue = queue.PriorityQueue()
+        self.order = itertools.count()
+        self.greeted: queue.Queue[Exception | None] = queue.Queue()
+        self.servers = [Server(url) for _ in range(connections)]
+        self.threads = [
+            threading.Thread(target=self.work, args=(server,), daemon=True)
+            for server in self.servers
+        ]
+
+    def __enter__(self) -> Pool:
+        for thread in self.threads:
+            thread.start()
+        for left in reversed(range(len(self.threads))):
+            trouble = self.greeted.get()
+            if trouble is None:
+                break
+            if not left:
+                raise trouble
+        return self
+
+    def __exit__(self, *fault: object) -> None:
+        for _ in self.threads:
+            self.waiting.put((STOP, next(self.order), None))
+        for server in self.servers:
+            server.connection.close()
+
+    def ask(self, call: Callable[[Server], Answer], *, urgent: bool = False) -> Future[Answer]:
+        """Has a connection make a call."""
+        future: Future[Answer] = Future()
+        rank = FIRST if urgent else LATER
+        self.waiting.put((rank, next(self.order), (call, future)))
+        return future
+
+    def work(self, server: Server) -> None:
+        """What the thread of one connection does."""
+        try:
+            server.log(0)
+        except Exception as fault:
+            self.greeted.put(fault)
+            return
+        self.greeted.put(None)
+        while True:
+            _, _, task = self.waiting.get()
+            if task is None:
+                return
+            call, future = task
+            try:
+                future.set_result(call(server))
+            except Exception as fault:
+                future.set_exception(fault)

@@ -1,0 +1,72 @@
+"""A progress bar with a rate, on a terminal alone."""
+
+from __future__ import annotations
+
+import sys
+import time
+from typing import TextIO
+
+WIDTH = 28
+SECONDS_BEFORE = 0.5
+SECONDS_BETWEEN = 0.1
+
+
+class Progress:
+    """Shows `done` of `total` on standard error where that is a terminal; quiet elsewhere.
+
+    What is done soon is done without a bar.
+    """
+
+    def __init__(self, what: str, total: int | None, out: TextIO | None = None):
+        self.what = what
+        self.total = total
+        self.out = out or sys.stderr
+        self.shows = self.out.isatty()
+        self.begun = time.monotonic()
+        self.shown = 0.0
+        self.done = 0
+
+    def __enter__(self) -> Progress:
+        return self
+
+    def __exit__(self, *_: object) -> None:
+        if self.shown:
+            self.show()
+            self.out.write("\n")
+
+    def step(self) -> None:
+        """One more is done."""
+        self.done += 1
+        now = time.monotonic()
+        late = now - self.begun > SECONDS_BEFORE and now - self.shown > SECONDS_BETWEEN
+        if self.shows and late:
+            self.show()
+
+    def note(self, line: str) -> None:
+        """Writes a line above the bar."""
+        clear = "\r\x1b[K" if self.shown else ""
+        self.out.write(f"{clear}{line}\n")
+
+    def show(self) -> None:
+        """Draws the bar."""
+        self.shown = time.monotonic()
+        self.out.write("\r\x1b[K" + self.line())
+        self.out.flush()
+
+    def line(self) -> str:
+        """The bar, the counts, the rate and how long it may still take."""
+        spent = max(time.monotonic() - self.begun, 1e-6)
+        rate = self.done / spent
+        if not self.total:
+            return f"{self.done:,} {self.what}  {rate:,.0f}/s"
+        filled = WIDTH * self.done // self.total
+        bar = "#" * filled + "." * (WIDTH - filled)
+        left = (self.total - self.done) / rate if rate else 0.0
+        counts = f"{self.done:,}/{self.total:,} {self.what}"
+        return f"[{bar}] {counts}  {rate:,.0f}/s  {clock(left)} left"
+
+
+def clock(seconds: float) -> str:
+    """A span of time as minutes and seconds."""
+    minutes, rest = divmod(int(seconds + 0.5), 60)
+    return f"{minutes}:{rest:02}"

@@ -1,0 +1,217 @@
+"""A connection to a server, and its routes as calls."""
+
+from __future__ import annotations
+
+import http.client
+import json
+import socket
+import time
+from dataclasses import dataclass
+from typing import Any
+from urllib.parse import quote, urlsplit
+
+from .changesets import Changeset, decode
+from .fields import BadEncoding, digest
+from .nodes import Fsnode, Unode, decode_fsnode, decode_unode
+from .refusals import Refused
+
+TIMEOUT_SECONDS = 90.0
+IDLE_SECONDS = 30.0
+"""A connection that was silent for so long is made anew: the server ends silent ones."""
+SESSION_BYTES = 1_000_000_000
+"""After so many sent bytes a connection is made anew, before the server's bound ends it."""
+NO_BOOKMARK = "none"
+
+
+class Trouble(Exception):
+    """What went wrong, in one line."""
+
+
+class NotReached(Trouble):
+    """The connection couldn't be made, or broke."""
+
+
+class BadAnswer(Trouble):
+    """The server's answer isn't one that its documents have."""
+
+
+@dataclass(frozen=True)
+class Landed:
+    """What a landing answered: the new head, the new changesets in order, and the old head."""
+
+    head: str
+    ids: list[str]
+    old: str
+
+
+@dataclass(frozen=True)
+class Page:
+    """Entries of the update log, and how many there are in all."""
+
+    entries: list[dict[str, Any]]
+    total: int
+
+
+class Server:
+    """One connection, kept alive. A request that fails is never sent again."""
+
+    def __init__(self, url: str):
+        parts = urlsplit(url if "//" in url else "http://" + url)
+        if parts.scheme not in ("http", "https") or not parts.hostname:
+            raise Trouble(f"{url} is no URL of a server; one is like http://127.0.0.1:8080")
+        self.url = f"{parts.scheme}://{parts.netloc}"
+        make = (
+            http.client.HTTPSConnection if parts.scheme == "https" else http.client.HTTPConnection
+        )
+        try:
+            self.connection = make(parts.hostname, parts.port, timeout=TIMEOUT_SECONDS)
+        except ValueError as fault:
+            raise Trouble(f"{url} is no URL of a server: {fault}") from None
+        self.last_used = 0.0
+        self.sent = 0
+
+    def close(self) -> None:
+        """Ends the connection; the next request makes a new one."""
+        self.connection.close()
+        self.sent = 0
+
+    def ask(self, method: str, target: str, body: bytes | None = None) -> bytes:
+        """The body of a 200, or Refused, NotReached or BadAnswer."""
+        self.refresh(len(body or b""))
+        try:
+            self.connection.request(method, target, body=body, headers={"Accept": "*/*"})
+            response = self.connection.getresponse()
+            answer = response.read()
+        except http.client.HTTPException as fault:
+            self.close()
+            raise NotReached(f"{self.url} broke off its answer ({type(fault).__name__})") from None
+        except OSError as fault:
+            self.close()
+            raise NotReached(f"no answer from {self.url}: {reason(fault)}") from None
+        self.last_used = time.monotonic()
+        if response.status != 200:
+            raise refused(response.status, answer)
+        return answer
+
+    def refresh(self, length: int) -> None:
+        """Ends a connection that the server would end, before a request is on its way."""
+        idle = time.monotonic() - self.last_used > IDLE_SECONDS
+        if idle or self.sent + length > SESSION_BYTES:
+            self.close()
+        self.sent += length + 1_000
+
+    def ask_json(self, method: str, target: str, code: str, body: bytes | None = None) -> dict:
+        """The members of a 200's JSON body, which has this code."""
+        answer = parsed(self.ask(method, target, body))
+        if answer is None or answer.get("code") != code:
+            raise BadAnswer(f"{self.url} answered {method} {target} with something unknown")
+        return answer
+
+    # Contents and changesets
+
+    def put_content(self, data: bytes) -> str:
+        """Stores a content of at most 1,048,576 bytes, and gives its id."""
+        return self.ask_json("PUT", "/content", "content", data)["id"]
+
+    def content(self, id: str) -> bytes:
+        """A stored content; its bytes are compared with its id."""
+        data = self.ask("GET", f"/content/{id}")
+        if digest(data) != id:
+            raise BadAnswer(f"{self.url} sent other bytes than those of the content {id}")
+        return data
+
+    def put_changeset(self, encoded: bytes) -> str:
+        """Stores a changeset by its spelling, and gives its id."""
+        return self.ask_json("PUT", "/changeset", "changeset", encoded)["id"]
+
+    def changeset(self, id: str) -> Changeset:
+        """A stored changeset; its bytes are compared with its id."""
+        data = self.ask("GET", f"/changeset/{id}")
+        if digest(data) != id:
+            raise BadAnswer(f"{self.url} sent other bytes than those of the changeset {id}")
+        return decode(data)
+
+    # Bookmarks, landings and the log
+
+    def move_bookmark(self, name: str, old: str | None, new: str | None) -> str | None:
+        """Makes, moves or deletes a bookmark whose head is `old`, and gives its head."""
+        target = f"/bookmark/{part(name)}/{old or NO_BOOKMARK}/{new or NO_BOOKMARK}"
+        return self.ask_json("PUT", target, "bookmark")["head"]
+
+    def head(self, name: str) -> str | None:
+        """A bookmark's head, or None where there is none."""
+        try:
+            return self.ask_json("GET", f"/bookmark/{part(name)}", "bookmark")["head"]
+        except Refused as refusal:
+            if refusal.code == "no-bookmark":
+                return None
+            raise
+
+    def land(self, name: str, draft: str) -> Landed:
+        """Lands a draft on a bookmark."""
+        answer = self.ask_json("POST", f"/land/{part(name)}/{draft}", "landed")
+        return Landed(answer["head"], answer["ids"], answer["old"])
+
+    def log(self, start: int) -> Page:
+        """At most 100 entries of the update log, from a number on."""
+        answer = self.ask_json("GET", f"/log/{start}", "log")
+        return Page(answer["entries"], answer["total"])
+
+    # Manifests
+
+    def fsnode(self, id: str, directory: str = "") -> Fsnode:
+        """The manifest of a directory at a changeset; the root is the empty text."""
+        return self.node("fsnode", id, directory, decode_fsnode)
+
+    def unode(self, id: str, path: str = "") -> Unode:
+        """The manifest with its past of a file or directory at a changeset."""
+        return self.node("unode", id, path, decode_unode)
+
+    def node(self, route: str, id: str, path: str, decoder):
+        """A node of either kind."""
+        target = f"/{route}/{id}" + (f"/{long_part(path)}" if path else "")
+        try:
+            return decoder(self.ask("GET", target))
+        except BadEncoding as fault:
+            raise BadAnswer(f"{self.url} sent no {route} for {target}: {fault}") from None
+
+    def history(self, id: str, path: str) -> list[str]:
+        """The changesets that set a file, newest first."""
+        return self.ask_json("GET", f"/history/{id}/{long_part(path)}", "history")["ids"]
+
+
+def part(text: str) -> str:
+    """A parameter of a route, percent-encoded."""
+    return quote(text, safe="")
+
+
+def long_part(path: str) -> str:
+    """A path as the last parameter of a route."""
+    return quote(path, safe="/")
+
+
+def parsed(body: bytes) -> dict | None:
+    """The members of a JSON body, or None where it is no JSON object."""
+    try:
+        members = json.loads(body)
+    except ValueError:
+        return None
+    return members if isinstance(members, dict) else None
+
+
+def refused(status: int, body: bytes) -> Exception:
+    """The refusal that a response with another status than 200 tells."""
+    members = parsed(body)
+    if members is None or not isinstance(members.get("code"), str):
+        return BadAnswer(f"the server answered with status {status} and a body that is no refusal")
+    code = members.pop("code")
+    return Refused(status, code, members)
+
+
+def reason(fault: OSError) -> str:
+    """Why a connection failed, in words."""
+    if isinstance(fault, socket.gaierror):
+        return "there is no host of this name"
+    if isinstance(fault, TimeoutError):
+        return f"it took longer than {TIMEOUT_SECONDS:.0f} seconds"
+    return fault.strerror or str(fault) or type(fault).__name__

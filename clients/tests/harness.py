@@ -1,0 +1,151 @@
+"""What the tests share: a server, the client's program, and folders to compare."""
+
+from __future__ import annotations
+
+import contextlib
+import io
+import itertools
+import json
+import os
+import shutil
+import subprocess
+import sys
+import tempfile
+import unittest
+import uuid
+from dataclasses import dataclass
+from pathlib import Path
+from typing import Any
+from unittest import mock
+
+from jarrah_client.cli import main
+
+from .stand_in.http import StandIn
+
+TOP = Path(__file__).resolve().parents[2]
+PROGRAM = TOP / "clients" / "jarrah"
+GIVEN = os.environ.get("JARRAH_SERVER")
+"""A running server that the tests are to use, in place of the stand-in."""
+RUN = uuid.uuid4().hex[:8]
+COUNT = itertools.count()
+ENVIRONMENT = {name: value for name, value in os.environ.items() if name != "JARRAH_SERVER"}
+ENVIRONMENT |= {"JARRAH_AUTHOR": "A Tester <tester@example.org>", "LC_ALL": "C.UTF-8", "TZ": "UTC"}
+
+
+@dataclass(frozen=True)
+class Ran:
+    """What a run of the program wrote, and its status."""
+
+    status: int
+    out: str
+    err: str
+
+    @property
+    def document(self) -> Any:
+        """The one JSON document that was written."""
+        return json.loads(self.out)
+
+    @property
+    def documents(self) -> list[Any]:
+        return [json.loads(line) for line in self.out.splitlines()]
+
+
+def jarrah_process(*words: object, server: str | None = None, data: bytes = b"") -> Ran:
+    """Runs the program in a process of its own, as people do."""
+    command = [sys.executable, str(PROGRAM), *(["--server", server] if server else [])]
+    done = subprocess.run(
+        [*command, *map(str, words)], input=data, capture_output=True, env=ENVIRONMENT, timeout=100
+    )
+    return Ran(done.returncode, done.stdout.decode(), done.stderr.decode())
+
+
+def jarrah(*words: object, server: str, data: bytes = b"") -> Ran:
+    """Runs the program in this process, which is faster."""
+    out, err = (io.TextIOWrapper(io.BytesIO(), "utf-8", newline="\n") for _ in range(2))
+    given = io.TextIOWrapper(io.BytesIO(data))
+    with (
+        contextlib.redirect_stdout(out),
+        contextlib.redirect_stderr(err),
+        mock.patch.object(sys, "stdin", given),
+        mock.patch.dict(os.environ, ENVIRONMENT),
+    ):
+        status = main(["--server", server, *map(str, words)])
+    return Ran(status, written(out), written(err))
+
+
+def written(stream: io.TextIOWrapper) -> str:
+    """What was written to a stream in memory."""
+    stream.flush()
+    return stream.buffer.getvalue().decode()
+
+
+def fresh(name: str = "b") -> str:
+    """A bookmark's name that no other test has, also on a server that is used again."""
+    return f"{name}-{RUN}-{next(COUNT)}"
+
+
+class Case(unittest.TestCase):
+    """A test with a folder and a server: the one that is given, or a stand-in."""
+
+    stand_in: StandIn | None = None
+    server: str
+
+    @classmethod
+    def setUpClass(cls) -> None:
+        if GIVEN:
+            cls.server = GIVEN
+            return
+        cls.stand_in = cls.started()
+        cls.server = cls.stand_in.url
+
+    @classmethod
+    def started(cls, **words: Any) -> StandIn:
+        """A stand-in that runs until the class's tests are over."""
+        stand_in = StandIn(**words).__enter__()
+        cls.addClassCleanup(stand_in.__exit__)
+        return stand_in
+
+    def setUp(self) -> None:
+        self.folder = Path(tempfile.mkdtemp(prefix="jarrah-test-"))
+        self.addCleanup(shutil.rmtree, self.folder)
+
+    def ok(self, *words: object, data: bytes = b"") -> Ran:
+        """Runs the program, which has to end well and quietly."""
+        ran = jarrah(*words, server=self.server, data=data)
+        self.assertEqual((ran.status, ran.err), (0, ""), words)
+        return ran
+
+    def ask(self, *words: object) -> Any:
+        """What the program tells scripts."""
+        return self.ok("--json", *words).document
+
+    def refused(self, *words: object, data: bytes = b"") -> str:
+        """Runs the program, which has to be refused: one line, and nothing else."""
+        ran = jarrah(*words, server=self.server, data=data)
+        self.assertEqual((ran.status, ran.out, ran.err.count("\n")), (1, "", 1), (words, ran))
+        self.assertTrue(ran.err.startswith("jarrah: "))
+        return ran.err.removeprefix("jarrah: ").rstrip("\n")
+
+    def draft(self, parent: str, *words: object, data: bytes = b"") -> str:
+        """Uploads a draft and gives its id."""
+        return self.ok("draft", "--parent", parent, *words, data=data).out.strip()
+
+    def write(self, name: str, data: bytes = b"abc") -> Path:
+        """Writes a file of the test's folder."""
+        place = self.folder / name
+        place.parent.mkdir(parents=True, exist_ok=True)
+        place.write_bytes(data)
+        return place
+
+
+def folder_files(folder: Path) -> dict[str, tuple[str, bytes]]:
+    """All files under a folder, each with what it is and its bytes."""
+    found: dict[str, tuple[str, bytes]] = {}
+    for place in sorted(folder.rglob("*")):
+        name = os.fsencode(place.relative_to(folder)).decode(errors="surrogateescape")
+        if place.is_symlink():
+            found[name] = ("symlink", os.fsencode(os.readlink(place)))
+        elif place.is_file():
+            kind = "executable" if os.access(place, os.X_OK) else "regular"
+            found[name] = (kind, place.read_bytes())
+    return found

@@ -1,0 +1,184 @@
+"""Manifests from scratch: trees, fsnodes, unodes and the history of files."""
+
+from __future__ import annotations
+
+import struct
+from dataclasses import dataclass, field
+from functools import lru_cache
+
+from .spelling import Record, Refusal, Set, digest, summary_bytes
+
+
+@dataclass
+class Node:
+    """A node of a tree: a directory with its names, or a file."""
+
+    file: Set | None = None
+    names: dict[str, Node] = field(default_factory=dict)
+
+
+@dataclass
+class Past:
+    """The unodes of one changeset by path: id, bytes, and whether it is a file."""
+
+    nodes: dict[str, tuple[str, bytes, bool]]
+    tree: dict[str, Set]
+
+
+def tree_after(before: dict[str, Set], record: Record) -> dict[str, Set]:
+    """The tree after a changeset: each path by the last that decides it."""
+    touched = {path for path, _ in record.changes}
+    sets = {path for path, file in record.changes if file}
+    above_sets = {front for path in sets for front in fronts(path)}
+    after = {
+        path: file
+        for path, file in before.items()
+        if path not in touched and path not in above_sets and not sets & set(fronts(path))
+    }
+    after.update({path: file for path, file in record.changes if file})
+    return after
+
+
+def fronts(path: str) -> list[str]:
+    """The paths that a path lies strictly under."""
+    elements = path.split("/")
+    return ["/".join(elements[:count]) for count in range(1, len(elements))]
+
+
+def nested(tree: dict[str, Set]) -> Node:
+    root = Node()
+    for path, file in tree.items():
+        at = root
+        for element in path.split("/"):
+            at = at.names.setdefault(element, Node())
+        at.file = file
+    return root
+
+
+def rising(node: Node) -> list[tuple[str, Node]]:
+    return sorted(node.names.items(), key=lambda entry: entry[0].encode())
+
+
+def name_bytes(name: str) -> bytes:
+    data = name.encode()
+    return bytes((len(data),)) + data
+
+
+def fsnodes(tree: dict[str, Set]) -> dict[str, bytes]:
+    """The fsnode of each directory of a tree, by path; the root is the empty text."""
+    found: dict[str, bytes] = {}
+
+    def visit(node: Node, path: str) -> tuple[str, tuple[int, ...]]:
+        files = [below.file for below in node.names.values() if below.file]
+        entries, below_files, below_size = [], len(files), sum(f.size for f in files)
+        for name, below in rising(node):
+            if below.file:
+                file = below.file
+                rest = struct.pack(">BBQ", 0, file.kind, file.size) + bytes.fromhex(file.content)
+            else:
+                id, inner = visit(below, f"{path}/{name}" if path else name)
+                below_files += inner[3]
+                below_size += inner[4]
+                rest = b"\x01" + bytes.fromhex(id) + summary_bytes(inner)
+            entries.append(name_bytes(name) + rest)
+        directories = len(entries) - len(files)
+        own = (len(files), sum(f.size for f in files), directories, below_files, below_size)
+        head = b"\x46\x01" + summary_bytes(own) + struct.pack(">I", len(entries))
+        found[path] = head + b"".join(entries)
+        return digest(found[path]), own
+
+    visit(nested(tree), "")
+    return found
+
+
+def past_after(before: Past | None, record: Record) -> Past:
+    """The unodes of a changeset: new where it touches, else those of its parent."""
+    old = before.nodes if before else {}
+    tree = tree_after(before.tree if before else {}, record)
+    link = bytes.fromhex(record.id)
+    above_touched = {front for path in record.touched for front in fronts(path)}
+    nodes: dict[str, tuple[str, bytes, bool]] = {}
+
+    def parent(path: str, is_file: bool) -> bytes:
+        found = old.get(path)
+        if found is None or found[2] != is_file:
+            return b"\x00"
+        return b"\x01" + bytes.fromhex(found[0])
+
+    def visit(node: Node, path: str) -> None:
+        for name, below in node.names.items():
+            visit(below, f"{path}/{name}" if path else name)
+        is_file = node.file is not None
+        if is_file:
+            is_new = record.set_at(path) is not None
+        else:
+            is_new = not path or path in above_touched
+        if not is_new:
+            nodes[path] = old[path]
+            return
+        if node.file:
+            data = b"\x56\x01" + parent(path, True) + bytes.fromhex(node.file.content)
+            data += bytes((node.file.kind,)) + bytes.fromhex(digest(path.encode())) + link
+        else:
+            data = b"\x55\x01" + parent(path, False) + link + struct.pack(">I", len(node.names))
+            for name, below in rising(node):
+                id, _, below_is_file = nodes[f"{path}/{name}" if path else name]
+                data += (
+                    name_bytes(name) + (b"\x00" if below_is_file else b"\x01") + bytes.fromhex(id)
+                )
+        nodes[path] = (digest(data), data, is_file)
+
+    visit(nested(tree), "")
+    return Past(nodes, tree)
+
+
+class Manifests:
+    """Manifests of changesets. `chain(id)` gives a chain, the oldest first."""
+
+    def __init__(self, chain, changeset):
+        self.chain = chain
+        self.changeset = changeset
+        self.past = lru_cache(None)(self.derive)
+        self.fsnodes = lru_cache(64)(lambda id: fsnodes(self.past(id).tree))
+
+    def derive(self, id: str) -> Past:
+        """The manifests of a changeset, its parent's being there."""
+        record = self.changeset(id)
+        before = self.past(record.parents[0]) if record.parents else None
+        return past_after(before, record)
+
+    def prepare(self, id: str) -> None:
+        """Derives a chain from its root on, so that no derivation goes deep."""
+        for record in self.chain(id):
+            self.past(record.id)
+
+    def fsnode(self, id: str, directory: str) -> bytes:
+        self.prepare(id)
+        found = self.fsnodes(id).get(directory)
+        if found is None:
+            known = directory in self.past(id).tree
+            raise Refusal(404, "not-a-dir" if known else "no-path")
+        return found
+
+    def unode(self, id: str, path: str) -> bytes:
+        self.prepare(id)
+        found = self.past(id).nodes.get(path)
+        if found is None:
+            raise Refusal(404, "no-path")
+        return found[1]
+
+    def history(self, id: str, path: str) -> list[str]:
+        """The changesets that set the file, newest first, to the first whose parent lacks it."""
+        self.prepare(id)
+        found = self.past(id).nodes.get(path)
+        if found is None:
+            raise Refusal(404, "no-path")
+        if not found[2]:
+            raise Refusal(404, "not-a-file")
+        ids: list[str] = []
+        for record in reversed(self.chain(id)):
+            if record.set_at(path):
+                ids.append(record.id)
+                if not record.parents or path not in self.past(record.parents[0]).tree:
+                    break
+        return ids

@@ -1,0 +1,151 @@
+"""The repository of one thread: each call answers the first refusal that applies, or is done."""
+
+from __future__ import annotations
+
+from .manifests import Manifests
+from .spelling import MOST, Record, Refusal, comparable, digest, key, read_changeset, with_parent
+
+MOST_RANGE = 10_000
+MOST_STACK = 100
+MOST_PAYLOAD = 16_777_216
+PAGE = 100
+
+
+class Repository:
+    """Contents, changesets, bookmarks and the log, in memory."""
+
+    def __init__(self, capacity: int = 34_359_738_368):
+        self.capacity = capacity
+        self.size = 17
+        self.contents: dict[str, bytes] = {}
+        self.changesets: dict[str, Record] = {}
+        self.bookmarks: dict[str, str] = {}
+        self.entries: list[dict] = []
+        self.manifests = Manifests(self.chain, self.changeset)
+
+    def append(self, payload: int, entry: dict) -> None:
+        """Makes an entry whose record has a payload of so many bytes."""
+        if self.size + 5 + payload > self.capacity:
+            raise Refusal(507, "full", length=payload, size=self.size)
+        self.size += 5 + payload
+        self.entries.append({"number": len(self.entries), **entry})
+
+    def chain(self, id: str) -> list[Record]:
+        """A changeset and its ancestors, the oldest first."""
+        record = self.changeset(id)
+        line = [record]
+        while record.parents:
+            record = self.changesets[record.parents[0]]
+            line.append(record)
+        return line[::-1]
+
+    def put_content(self, data: bytes) -> str:
+        if len(data) > MOST:
+            raise Refusal(413, "too-long", length=len(data))
+        id = digest(data)
+        if id not in self.contents:
+            self.append(1 + len(data), {"kind": "content", "id": id, "size": len(data)})
+            self.contents[id] = data
+        return id
+
+    def content(self, id: str) -> bytes:
+        if id not in self.contents:
+            raise Refusal(404, "no-content", id=id)
+        return self.contents[id]
+
+    def put_changeset(self, data: bytes) -> str:
+        record = read_changeset(data)
+        if len(record.parents) == 2:
+            raise Refusal(422, "merge")
+        for parent in record.parents:
+            if parent not in self.changesets:
+                raise Refusal(422, "no-parent", id=parent)
+        for path, file in record.changes:
+            if file and file.content not in self.contents:
+                raise Refusal(422, "missing-content", id=file.content, path=path)
+            if file and len(self.contents[file.content]) != file.size:
+                found = len(self.contents[file.content])
+                raise Refusal(422, "wrong-size", found=found, path=path, wanted=file.size)
+        if record.id not in self.changesets:
+            self.append(len(data), {"kind": "changeset", "id": record.id})
+            self.changesets[record.id] = record
+        return record.id
+
+    def changeset(self, id: str) -> Record:
+        if id not in self.changesets:
+            raise Refusal(404, "no-changeset", id=id)
+        return self.changesets[id]
+
+    def head(self, name: str) -> str:
+        if name not in self.bookmarks:
+            raise Refusal(404, "no-bookmark")
+        return self.bookmarks[name]
+
+    def set_bookmark(self, name: str, old: str | None, new: str | None) -> str | None:
+        if new is not None:
+            self.changeset(new)
+        found = self.bookmarks.get(name)
+        if found != old:
+            raise Refusal(409, "moved", found=found)
+        if old != new:
+            payload = 2 + len(name) + (33 if old else 1) + (33 if new else 1)
+            self.append(payload, {"kind": "bookmark", "name": name, "from": old, "to": new})
+        self.bookmarks.pop(name, None)
+        if new is not None:
+            self.bookmarks[name] = new
+        return new
+
+    def land(self, name: str, draft: str) -> dict:
+        old = self.head(name)
+        self.changeset(draft)
+        stack, behind = self.fork(draft, old)
+        if len(behind) > MOST_RANGE:
+            raise Refusal(413, "too-far-behind", distance=len(behind))
+        if not stack:
+            raise Refusal(409, "already-in")
+        if len(stack) > MOST_STACK:
+            raise Refusal(413, "stack-too-long", count=len(stack))
+        refuse_clash(touched(stack), touched(behind))
+        records = rebased(stack, old)
+        payload = 2 + len(name) + 32 + 32 + 2 + sum(4 + len(r.data) for r in records)
+        if payload > MOST_PAYLOAD:
+            raise Refusal(413, "too-large", length=payload)
+        ids = [record.id for record in records]
+        self.append(
+            payload, {"kind": "landing", "name": name, "old": old, "draft": draft, "ids": ids}
+        )
+        for record in records:
+            self.changesets.setdefault(record.id, record)
+        self.bookmarks[name] = ids[-1]
+        return {"head": ids[-1], "ids": ids, "old": old}
+
+    def fork(self, draft: str, head: str) -> tuple[list[Record], list[Record]]:
+        """What follows the last shared changeset in the chains of a draft and a head."""
+        left, right = self.chain(draft), self.chain(head)
+        there = {record.id: place for place, record in enumerate(right)}
+        shared = [place for place, record in enumerate(left) if record.id in there]
+        if not shared:
+            raise Refusal(409, "no-root")
+        root = shared[-1]
+        return left[root + 1 :], right[there[left[root].id] + 1 :]
+
+    def log(self, start: int) -> dict:
+        return {"entries": self.entries[start : start + PAGE], "total": len(self.entries)}
+
+
+def touched(records: list[Record]) -> list[str]:
+    return sorted({path for record in records for path in record.touched}, key=key)
+
+
+def refuse_clash(left: list[str], right: list[str]) -> None:
+    for ours in left:
+        for theirs in right:
+            if comparable(ours, theirs):
+                raise Refusal(409, "clash", left=ours, right=theirs)
+
+
+def rebased(stack: list[Record], head: str) -> list[Record]:
+    records: list[Record] = []
+    for record in stack:
+        records.append(with_parent(record, records[-1].id if records else head))
+    return records
