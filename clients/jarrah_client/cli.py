@@ -207,6 +207,8 @@ def positive(text: str) -> int:
 def main(words: Sequence[str]) -> int:
     """Runs a command, and gives the status."""
     top = parser()
+    if not all(is_utf8(word) for word in words):
+        top.error("a word isn't UTF-8")
     options = top.parse_args(words)
     if not options.server:
         top.error("no server is named: give --server URL or set JARRAH_SERVER")
@@ -226,6 +228,11 @@ def main(words: Sequence[str]) -> int:
         print("jarrah: interrupted", file=sys.stderr)
         return 130
     return 0
+
+
+def is_utf8(word: str) -> bool:
+    """Whether a word of the command line was UTF-8."""
+    return word == word.encode(errors="replace").decode()
 
 
 def complain(fault: Exception, as_json: bool) -> None:

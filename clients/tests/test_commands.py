@@ -52,6 +52,15 @@ class Words(Case):
             self.assertEqual((ran.status, ran.out), (2, ""), words)
         self.assertEqual(jarrah_process("log", "main").status, 2)
 
+    def test_words_that_are_no_text(self):
+        done = subprocess.run(
+            [sys.executable, str(PROGRAM), "--server", self.server, "init", b"\xff"],
+            capture_output=True,
+            env=ENVIRONMENT,
+        )
+        self.assertEqual(done.returncode, 2)
+        self.assertIn(b"isn't UTF-8", done.stderr)
+
     def test_the_server_by_a_variable(self):
         name = fresh()
         done = subprocess.run(
