@@ -151,6 +151,8 @@ class Reader:
         self.room.take(len(data))
         self.report.contents += 1
         self.report.content_bytes += len(data)
+        contents, size = self.report.contents, self.report.content_bytes / (1 << 20)
+        self.progress.detail = f"{contents:,} contents, {size:,.1f} MiB"
 
         def call(server: Server) -> None:
             try:
@@ -283,17 +285,18 @@ def upload_all(
         while step := reader.steps.get():
             if isinstance(step, Exception):
                 raise step
-            upload(step, pool, report)
+            upload(step, pool, report, progress)
             marks.add(step.commit.oid, step.changesets[-1].id)
             report.commits += 1
             progress.step()
 
 
-def upload(step: Step, pool: Pool, report: Report) -> None:
+def upload(step: Step, pool: Pool, report: Report, progress: Progress) -> None:
     """Uploads the changesets of one commit."""
     with about(f"stopped at commit {step.commit.oid[:12]} (run again to go on)"):
         for content in step.uploads:
             content.result()
+            progress.tick()
         for changeset in step.changesets:
             pool.ask(lambda server: server.put_changeset(changeset), urgent=True).result()
             report.changesets += 1

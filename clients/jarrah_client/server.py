@@ -66,7 +66,8 @@ class Server:
 
     def __init__(self, url: str):
         parts = urlsplit(url if "//" in url else "http://" + url)
-        if parts.scheme not in ("http", "https") or not parts.hostname:
+        elsewhere = parts.path not in ("", "/") or parts.query or parts.fragment
+        if parts.scheme not in ("http", "https") or not parts.hostname or elsewhere:
             raise Trouble(f"{url} is no URL of a server; one is like http://127.0.0.1:8080")
         self.url = f"{parts.scheme}://{parts.netloc}"
         make = (

@@ -73,7 +73,7 @@ class Words(Case):
         self.assertEqual((after.status, after.out), (0, f"{name} is at {ROOT.id}\n"))
 
     def test_urls(self):
-        for url in ("ftp://x", "http://", "http://x:y"):
+        for url in ("ftp://x", "http://", "http://x:y", "http://127.0.0.1:1/below"):
             self.assertEqual(jarrah("log", "main", server=url).status, 1, url)
         bare = self.server.removeprefix("http://")
         self.assertEqual(jarrah("entries", "--from", "9" * 18, server=bare).status, 0)
