@@ -14,8 +14,8 @@ from .changesets import CannotSpell, SelfConflict
 from .drafts import read_date
 from .fields import BadEncoding
 from .output import Output, clean
-from .refusals import Refused
-from .server import Server, Trouble
+from .refusals import Fault, Refused
+from .server import Server
 
 ABOUT = "Work with a running Jarrahchess server: commit, land, look, and import a git history."
 THE_SERVER = "the server; default: $JARRAH_SERVER"
@@ -218,7 +218,7 @@ def main(words: Sequence[str]) -> int:
             options.run(options, server, Output(options.json))
         finally:
             server.close()
-    except (Refused, Trouble, CannotSpell, SelfConflict, BadEncoding) as fault:
+    except (Fault, CannotSpell, SelfConflict, BadEncoding) as fault:
         complain(fault, options.json)
         return 1
     except BrokenPipeError:

@@ -13,7 +13,7 @@ from urllib.parse import quote, urlsplit
 from .changesets import Changeset, decode
 from .fields import BadEncoding, digest
 from .nodes import Fsnode, Unode, decode_fsnode, decode_unode
-from .refusals import Refused
+from .refusals import Fault, Refused
 
 TIMEOUT_SECONDS = 90.0
 IDLE_SECONDS = 30.0
@@ -32,8 +32,8 @@ MEMBERS = {
 """What the bodies of answers have to have, by their codes."""
 
 
-class Trouble(Exception):
-    """What went wrong, in one line."""
+class Trouble(Fault):
+    """A fault that is no refusal of the server."""
 
 
 class NotReached(Trouble):
