@@ -3,6 +3,7 @@
 from __future__ import annotations
 
 import json
+import sys
 import threading
 from collections.abc import Callable
 from functools import lru_cache
@@ -165,17 +166,15 @@ class Handler(BaseHTTPRequestHandler):
 
     def answer(self, target: str) -> None:
         """Answers `/api/QUESTION/REST` and `/raw/CHANGESET/PATH`."""
-        _, root, rest = (target + "/").split("/", 2)
+        root, _, rest = target.removeprefix("/").partition("/")
         try:
             if root == "raw":
-                data = self.server.library.raw(rest.removesuffix("/"))
+                data = self.server.library.raw(rest)
                 self.reply(200, "application/octet-stream", data)
                 return
             question, _, words = rest.partition("/")
-            answer = (
-                self.server.library.answer(question, words.rstrip("/")) if root == "api" else None
-            )
-            self.reply_json(404 if answer is None else 200, answer or {"error": "no such page"})
+            answer = root == "api" and self.server.library.answer(question, words.rstrip("/"))
+            self.reply_json(200 if answer else 404, answer or {"error": "no such page"})
         except Refused as refusal:
             self.reply_json(refusal.status, {"error": str(refusal)})
         except (NotReached, BadAnswer, BadEncoding) as fault:
@@ -213,6 +212,11 @@ class Pages(ThreadingHTTPServer):
         self.port = self.server_address[1]
         self.names = {f"{HOST}:{self.port}", f"localhost:{self.port}"}
         self.url = f"http://{HOST}:{self.port}/"
+
+    def handle_error(self, request: Any, client_address: Any) -> None:
+        """Keeps quiet of a browser that went away."""
+        if not isinstance(sys.exc_info()[1], ConnectionError):
+            super().handle_error(request, client_address)
 
 
 def browse(url: str, port: int, fold: bool, out: Output) -> None:

@@ -14,8 +14,8 @@ from .changesets import CannotSpell, SelfConflict
 from .drafts import read_date
 from .fields import BadEncoding
 from .output import Output, clean
-from .refusals import Refused
-from .server import Server, Trouble
+from .refusals import Fault, Refused
+from .server import Server
 
 ABOUT = "Work with a running Jarrahchess server: commit, land, look, and import a git history."
 THE_SERVER = "the server; default: $JARRAH_SERVER"
@@ -207,6 +207,8 @@ def positive(text: str) -> int:
 def main(words: Sequence[str]) -> int:
     """Runs a command, and gives the status."""
     top = parser()
+    if not all(is_utf8(word) for word in words):
+        top.error("a word isn't UTF-8")
     options = top.parse_args(words)
     if not options.server:
         top.error("no server is named: give --server URL or set JARRAH_SERVER")
@@ -216,7 +218,7 @@ def main(words: Sequence[str]) -> int:
             options.run(options, server, Output(options.json))
         finally:
             server.close()
-    except (Refused, Trouble, CannotSpell, SelfConflict, BadEncoding) as fault:
+    except (Fault, CannotSpell, SelfConflict, BadEncoding) as fault:
         complain(fault, options.json)
         return 1
     except BrokenPipeError:
@@ -226,6 +228,11 @@ def main(words: Sequence[str]) -> int:
         print("jarrah: interrupted", file=sys.stderr)
         return 130
     return 0
+
+
+def is_utf8(word: str) -> bool:
+    """Whether a word of the command line was UTF-8."""
+    return word == word.encode(errors="replace").decode()
 
 
 def complain(fault: Exception, as_json: bool) -> None:

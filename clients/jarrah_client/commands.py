@@ -159,8 +159,9 @@ def listed(name: str, entry: File | None, link: str | None) -> tuple[dict[str, A
 def cat(options: Namespace, server: Server, out: Output) -> None:
     """Writes a file's bytes."""
     path = options.path.strip("/")
+    id = resolve(server, options.revision)
     with about(path):
-        tree = tree_of(server, resolve(server, options.revision), fold=options.fold)
+        tree = tree_of(server, id, fold=options.fold)
         file = tree.file(path)
         data = server.content(file.content)
     if not out.as_json:
@@ -173,10 +174,11 @@ def cat(options: Namespace, server: Server, out: Output) -> None:
 def history(options: Namespace, server: Server, out: Output) -> None:
     """Tells the changesets that set a file, newest first."""
     path = options.path.strip("/")
+    id = resolve(server, options.revision)
     with about(path):
-        ids = history_of(server, resolve(server, options.revision), path, fold=options.fold)
-    for id in ids:
-        changeset = server.changeset(id)
+        ids = history_of(server, id, path, fold=options.fold)
+    for one in ids:
+        changeset = server.changeset(one)
         out.tell(changeset_document(changeset), short_lines(changeset))
 
 

@@ -10,7 +10,6 @@ import time
 from argparse import Namespace
 from dataclasses import dataclass
 from datetime import datetime, timedelta
-from pathlib import Path
 
 from .changesets import MOST_CONTENT_BYTES, Changeset, File, Kind, digest
 from .paths import is_bookmark_name, path_key
@@ -48,7 +47,7 @@ def changes_of(options: Namespace) -> Written:
 def put(written: Written, path: str, data: bytes, kind: Kind) -> None:
     """Adds a set of a path."""
     if len(data) > MOST_CONTENT_BYTES:
-        raise Trouble(f"{path}: {len(data):,} bytes are over {MOST_CONTENT_BYTES:,}")
+        raise Trouble(f"{path} would have over {MOST_CONTENT_BYTES:,} bytes")
     id = digest(data)
     written.contents[id] = data
     add(written, path, File(id, len(data), kind))
@@ -66,7 +65,8 @@ def file_bytes(source: str) -> bytes:
     try:
         if source == "-":
             return sys.stdin.buffer.read(MOST_CONTENT_BYTES + 1)
-        return Path(source).read_bytes()
+        with open(source, "rb") as file:
+            return file.read(MOST_CONTENT_BYTES + 1)
     except OSError as fault:
         raise Trouble(f"{source}: {fault.strerror}") from None
 
@@ -79,11 +79,16 @@ def upload(server: Server, options: Namespace, parent: str | None) -> Changeset:
     parents = (parent,) if parent else ()
     changes = {path: written.changes[path] for path in sorted(written.changes, key=path_key)}
     changeset = Changeset(parents, author, seconds, offset, options.message, changes)
-    encoded = changeset.encoded
-    for data in written.contents.values():
-        server.put_content(data)
-    server.put_changeset(encoded)
+    refuse_faulty(changeset)
+    for id, data in written.contents.items():
+        server.put_content(id, data)
+    server.put_changeset(changeset)
     return changeset
+
+
+def refuse_faulty(changeset: Changeset) -> None:
+    """Finds what no changeset can hold before anything is uploaded."""
+    _ = changeset.encoded
 
 
 def parent_of(server: Server, name: str) -> str | None:
@@ -96,7 +101,7 @@ def initialize(server: Server, bookmark: str) -> str:
     need_name(bookmark)
     if server.head(bookmark) is not None:
         raise Trouble(f"there is a bookmark {bookmark} already")
-    server.put_changeset(ROOT.encoded)
+    server.put_changeset(ROOT)
     server.move_bookmark(bookmark, None, ROOT.id)
     return ROOT.id
 

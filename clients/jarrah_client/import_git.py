@@ -141,19 +141,22 @@ class Reader:
                 why = f"it has {size:,} bytes, over {MOST_CONTENT_BYTES:,}"
                 self.leave_out(commit, change, why)
                 return None
-            self.blobs[change.blob] = (digest(data), size)
-            uploads.append(self.upload(data))
+            id = digest(data)
+            self.blobs[change.blob] = (id, size)
+            uploads.append(self.upload(id, data))
         return File(*self.blobs[change.blob], change.kind)
 
-    def upload(self, data: bytes) -> Future:
+    def upload(self, id: str, data: bytes) -> Future:
         """Has a content uploaded by the next connection that is free."""
         self.room.take(len(data))
         self.report.contents += 1
         self.report.content_bytes += len(data)
+        contents, size = self.report.contents, self.report.content_bytes / (1 << 20)
+        self.progress.detail = f"{contents:,} contents, {size:,.1f} MiB"
 
-        def call(server: Server) -> str:
+        def call(server: Server) -> None:
             try:
-                return server.put_content(data)
+                server.put_content(id, data)
             finally:
                 self.room.give(len(data))
 
@@ -282,18 +285,19 @@ def upload_all(
         while step := reader.steps.get():
             if isinstance(step, Exception):
                 raise step
-            upload(step, pool, report)
+            upload(step, pool, report, progress)
             marks.add(step.commit.oid, step.changesets[-1].id)
             report.commits += 1
             progress.step()
 
 
-def upload(step: Step, pool: Pool, report: Report) -> None:
+def upload(step: Step, pool: Pool, report: Report, progress: Progress) -> None:
     """Uploads the changesets of one commit."""
     with about(f"stopped at commit {step.commit.oid[:12]} (run again to go on)"):
         for content in step.uploads:
             content.result()
+            progress.tick()
         for changeset in step.changesets:
-            pool.ask(lambda server: server.put_changeset(changeset.encoded), urgent=True).result()
+            pool.ask(lambda server: server.put_changeset(changeset), urgent=True).result()
             report.changesets += 1
             report.head = changeset.id

@@ -2,7 +2,9 @@
 
 from __future__ import annotations
 
+import shutil
 import sys
+import threading
 import time
 from typing import TextIO
 
@@ -25,6 +27,9 @@ class Progress:
         self.begun = time.monotonic()
         self.shown = 0.0
         self.done = 0
+        self.detail = ""
+        """What is told behind the bar."""
+        self.turn = threading.Lock()
 
     def __enter__(self) -> Progress:
         return self
@@ -37,6 +42,10 @@ class Progress:
     def step(self) -> None:
         """One more is done."""
         self.done += 1
+        self.tick()
+
+    def tick(self) -> None:
+        """Draws the bar anew where it is time to."""
         now = time.monotonic()
         late = now - self.begun > SECONDS_BEFORE and now - self.shown > SECONDS_BETWEEN
         if self.shows and late:
@@ -45,13 +54,16 @@ class Progress:
     def note(self, line: str) -> None:
         """Writes a line above the bar."""
         clear = "\r\x1b[K" if self.shown else ""
-        self.out.write(f"{clear}{line}\n")
+        with self.turn:
+            self.out.write(f"{clear}{line}\n")
 
     def show(self) -> None:
-        """Draws the bar."""
+        """Draws the bar, as much of it as the terminal has columns for."""
         self.shown = time.monotonic()
-        self.out.write("\r\x1b[K" + self.line())
-        self.out.flush()
+        columns = shutil.get_terminal_size().columns
+        with self.turn:
+            self.out.write("\r\x1b[K" + self.line()[: columns - 1])
+            self.out.flush()
 
     def line(self) -> str:
         """The bar, the counts, the rate and how long it may still take."""
@@ -63,7 +75,7 @@ class Progress:
         bar = "#" * filled + "." * (WIDTH - filled)
         left = (self.total - self.done) / rate if rate else 0.0
         counts = f"{self.done:,}/{self.total:,} {self.what}"
-        return f"[{bar}] {counts}  {rate:,.0f}/s  {clock(left)} left"
+        return f"[{bar}] {counts}  {rate:,.0f}/s  {clock(left)} left  {self.detail}".rstrip()
 
 
 def clock(seconds: float) -> str:

@@ -55,7 +55,18 @@ WORDS = {
 }
 
 
-class Refused(Exception):
+class Fault(Exception):
+    """What went wrong, in one line."""
+
+    about = ""
+    """What was asked for, said before the words."""
+
+    def __str__(self) -> str:
+        words = super().__str__()
+        return f"{self.about}: {words}" if self.about else words
+
+
+class Refused(Fault):
     """The server's refusal: its status, its code and the other members of its body."""
 
     def __init__(self, status: int, code: str, members: dict[str, Any]):
@@ -63,21 +74,15 @@ class Refused(Exception):
         self.status = status
         self.code = code
         self.members = members
-        self.about = ""
-        """What was asked for, said before the words."""
-
-    def __str__(self) -> str:
-        words = super().__str__()
-        return f"{self.about}: {words}" if self.about else words
 
 
 @contextmanager
 def about(what: str) -> Iterator[None]:
-    """Has refusals say what was asked for."""
+    """Has faults say what was asked for."""
     try:
         yield
-    except Refused as refusal:
-        refusal.about = what
+    except Fault as fault:
+        fault.about = what
         raise
 
 

@@ -13,7 +13,7 @@ from urllib.parse import quote, urlsplit
 from .changesets import Changeset, decode
 from .fields import BadEncoding, digest
 from .nodes import Fsnode, Unode, decode_fsnode, decode_unode
-from .refusals import Refused
+from .refusals import Fault, Refused
 
 TIMEOUT_SECONDS = 90.0
 IDLE_SECONDS = 30.0
@@ -21,10 +21,19 @@ IDLE_SECONDS = 30.0
 SESSION_BYTES = 1_000_000_000
 """After so many sent bytes a connection is made anew, before the server's bound ends it."""
 NO_BOOKMARK = "none"
+MEMBERS = {
+    "content": ("id",),
+    "changeset": ("id",),
+    "bookmark": ("head",),
+    "landed": ("head", "ids", "old"),
+    "log": ("entries", "total"),
+    "history": ("ids",),
+}
+"""What the bodies of answers have to have, by their codes."""
 
 
-class Trouble(Exception):
-    """What went wrong, in one line."""
+class Trouble(Fault):
+    """A fault that is no refusal of the server."""
 
 
 class NotReached(Trouble):
@@ -57,7 +66,8 @@ class Server:
 
     def __init__(self, url: str):
         parts = urlsplit(url if "//" in url else "http://" + url)
-        if parts.scheme not in ("http", "https") or not parts.hostname:
+        elsewhere = parts.path not in ("", "/") or parts.query or parts.fragment
+        if parts.scheme not in ("http", "https") or not parts.hostname or elsewhere:
             raise Trouble(f"{url} is no URL of a server; one is like http://127.0.0.1:8080")
         self.url = f"{parts.scheme}://{parts.netloc}"
         make = (
@@ -102,16 +112,26 @@ class Server:
 
     def ask_json(self, method: str, target: str, code: str, body: bytes | None = None) -> dict:
         """The members of a 200's JSON body, which has this code."""
-        answer = parsed(self.ask(method, target, body))
-        if answer is None or answer.get("code") != code:
+        answer = parsed(self.ask(method, target, body)) or {}
+        if answer.get("code") != code or not all(member in answer for member in MEMBERS[code]):
             raise BadAnswer(f"{self.url} answered {method} {target} with something unknown")
         return answer
 
     # Contents and changesets
 
-    def put_content(self, data: bytes) -> str:
-        """Stores a content of at most 1,048,576 bytes, and gives its id."""
-        return self.ask_json("PUT", "/content", "content", data)["id"]
+    def put_content(self, id: str, data: bytes) -> None:
+        """Stores a content of at most 1,048,576 bytes under its id."""
+        self.store("content", id, data)
+
+    def put_changeset(self, changeset: Changeset) -> None:
+        """Stores a changeset whose parent and contents are stored."""
+        self.store("changeset", changeset.id, changeset.encoded)
+
+    def store(self, what: str, id: str, data: bytes) -> None:
+        """Stores bytes, and compares the id that the server found."""
+        found = self.ask_json("PUT", f"/{what}", what, data)["id"]
+        if found != id:
+            raise BadAnswer(f"{self.url} stored the {what} {id} under another id, {found}")
 
     def content(self, id: str) -> bytes:
         """A stored content; its bytes are compared with its id."""
@@ -119,10 +139,6 @@ class Server:
         if digest(data) != id:
             raise BadAnswer(f"{self.url} sent other bytes than those of the content {id}")
         return data
-
-    def put_changeset(self, encoded: bytes) -> str:
-        """Stores a changeset by its spelling, and gives its id."""
-        return self.ask_json("PUT", "/changeset", "changeset", encoded)["id"]
 
     def changeset(self, id: str) -> Changeset:
         """A stored changeset; its bytes are compared with its id."""

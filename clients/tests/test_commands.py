@@ -52,6 +52,15 @@ class Words(Case):
             self.assertEqual((ran.status, ran.out), (2, ""), words)
         self.assertEqual(jarrah_process("log", "main").status, 2)
 
+    def test_words_that_are_no_text(self):
+        done = subprocess.run(
+            [sys.executable, str(PROGRAM), "--server", self.server, "init", b"\xff"],
+            capture_output=True,
+            env=ENVIRONMENT,
+        )
+        self.assertEqual(done.returncode, 2)
+        self.assertIn(b"isn't UTF-8", done.stderr)
+
     def test_the_server_by_a_variable(self):
         name = fresh()
         done = subprocess.run(
@@ -64,7 +73,7 @@ class Words(Case):
         self.assertEqual((after.status, after.out), (0, f"{name} is at {ROOT.id}\n"))
 
     def test_urls(self):
-        for url in ("ftp://x", "http://", "http://x:y"):
+        for url in ("ftp://x", "http://", "http://x:y", "http://127.0.0.1:1/below"):
             self.assertEqual(jarrah("log", "main", server=url).status, 1, url)
         bare = self.server.removeprefix("http://")
         self.assertEqual(jarrah("entries", "--from", "9" * 18, server=bare).status, 0)

@@ -146,6 +146,25 @@ class Whole(Case):
         self.ok("commit", name, "--delete", "nothing", "-m", "not of the import")
         self.assertIn("didn't make", self.refused(*words[:-1], self.line[5]))
 
+    def test_a_server_that_goes_away(self):
+        if GIVEN:
+            self.skipTest("a server of its own")
+        narrow = self.started(lanes=1)
+        calls = narrow.service.repository.put_changeset
+        known = narrow.service.repository.changesets
+
+        def store(data: bytes) -> str:
+            if len(known) == 50:
+                raise ConnectionError
+            return calls(data)
+
+        narrow.service.repository.put_changeset = store
+        words = ("import-git", self.maker.folder, "b", "--marks", self.folder / "marks")
+        ran = jarrah(*words, server=narrow.url)
+        self.assertEqual((ran.status, ran.err.count("\n")), (1, 1))
+        where = f"stopped at commit {self.line[50][:12]} (run again to go on)"
+        self.assertTrue(ran.err.startswith(f"jarrah: {where}: {narrow.url} broke off"), ran.err)
+
     def test_a_server_that_is_full(self):
         if GIVEN:
             self.skipTest("a server with little room")

@@ -107,6 +107,7 @@ class InWords(unittest.TestCase):
             (200, b"{}"),
             (200, b"hello"),
             (200, {"code": "log"}),
+            (200, {"code": "landed", "head": ID}),
             (500, b"oops"),
             (404, b"[]"),
         ):
@@ -120,6 +121,12 @@ class InWords(unittest.TestCase):
         ran = jarrah("diff", ID, server=self.canned.url)
         self.assertEqual((ran.status, ran.out), (1, ""))
         self.assertIn("other bytes", ran.err)
+
+    def test_another_id_of_what_is_stored(self):
+        self.canned.say(200, {"code": "changeset", "id": ID})
+        ran = jarrah("draft", "--parent", "none", server=self.canned.url)
+        self.assertEqual((ran.status, ran.out), (1, ""))
+        self.assertIn(f"under another id, {ID}", ran.err)
 
     def test_no_server(self):
         with socket.socket() as free:
@@ -164,7 +171,7 @@ class Provoked(Case):
         self.assertIn("refused", self.refused("draft", "--parent", self.name, "--delete", "a/../b"))
         large = self.write("large", bytes(1_048_577))
         words = self.refused("draft", "--parent", self.name, "--set", f"l={large}")
-        self.assertEqual(words, "l: 1,048,577 bytes are over 1,048,576")
+        self.assertEqual(words, "l would have over 1,048,576 bytes")
         words = self.refused("draft", "--parent", self.name, "--set", f"l={self.folder}/absent")
         self.assertIn("No such file", words)
 
@@ -237,7 +244,7 @@ class ByCalls(Case):
     def test_uploads(self):
         server = Server(self.server)
         self.addCleanup(server.close)
-        server.put_content(b"abc")
+        server.put_content(ABC, b"abc")
         one = EMPTY.encoded
         two_parents = b"\x43\x01\x02" + bytes.fromhex(ID) + bytes.fromhex(ABC) + one[3:]
         sets = bytes.fromhex("00000001000170" + "0100") + (4).to_bytes(8, "big")
@@ -252,7 +259,7 @@ class ByCalls(Case):
             (wrong, "wrong-size", {"found": 3, "path": "p", "wanted": 4}),
         ):
             with self.subTest(code=code), self.assertRaises(Refused) as caught:
-                server.put_changeset(data)
+                server.ask("PUT", "/changeset", data)
             refusal = caught.exception
             self.assertEqual((refusal.status, refusal.code, refusal.members), (422, code, members))
         for target, code in (
