@@ -1,7 +1,17 @@
 -- For those who call a disk several times.
-use Rattle.std.proofs.Common.{ℕ, List, ◌∙◌, inl, inr, arith}
-use Rattle.blob_disk.specs.Meaning.{Meaning}
-use Rattle.blob_disk.specs.Calls.{Kept, LeavesOnly}
+use Rattle.std.proofs.Common.{ℕ, List, refl, ◌∙◌, inl, inr, arith}
+use Rattle.disk_model.specs.Meaning.{Meaning}
+use Rattle.disk_model.specs.Calls.{Kept, LeavesOnly}
+
+pub kept_none : (m : Meaning) → Kept m m
+kept_none m = record {
+  honest = refl;
+  quiet = refl;
+  no_shorter = λ n long. long;
+  later = omega arith;
+  told = refl;
+  remembers = λ t image left. left;
+}
 
 pub kept_then : (a b c : Meaning) → Kept a b → Kept b c → Kept a c
 kept_then a b c first next = record {

@@ -10,7 +10,7 @@ use Rattle.std.proofs.lemmas.Bool.Decides.{nat_tests}
 use Rattle.byte_fields.specs.Bytes.{IsBytes}
 use Rattle.disk_model.specs.Images.{Range, Disk, Writes, Syncs, IsImage, holding, write_at, marked, after_write, is_written}
 use Rattle.disk_model.proofs.Crashes.{covers, not_marked, untouched, write_at_len, bytes_written, still_image_marked}
-use Rattle.blob_disk.specs.Calls.{Within, DidBy}
+use Rattle.disk_model.specs.Calls.{Within, DidBy}
 use Rattle.blob_disk.specs.MemMeaning.{IsCrashed}
 use Rattle.blob_disk.specs.Memory.{Memory, IsGood, holding_all, marked_in, tore, wrote, synced, after, ranges, disk_of}
 

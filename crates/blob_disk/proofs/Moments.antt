@@ -7,8 +7,8 @@ use Rattle.std.proofs.lemmas.List.Elements.{Contains-append_left, Contains-appen
 use Rattle.byte_fields.proofs.Lists.{each_of}
 use Rattle.disk_model.specs.Images.{Disk, DiskCall, IsImage}
 use Rattle.blob_disk.specs.declared.call_kind.CallKind.{CallKind}
-use Rattle.blob_disk.specs.Meaning.{Meaning, LeftSince}
-use Rattle.blob_disk.specs.Calls.{Kept, LeavesOnly}
+use Rattle.disk_model.specs.Meaning.{Meaning, LeftSince}
+use Rattle.disk_model.specs.Calls.{Kept, LeavesOnly}
 use Rattle.blob_disk.specs.declared.call_kind.CallKind.TheVariants.{Size, Read, Write, Sync}
 use Rattle.blob_disk.specs.Memory.{Memory, blank, after, finally, memories, disk_of}
 use Rattle.blob_disk.specs.Log.{Log, noted}

@@ -1,5 +1,3 @@
-pub mod Meaning
-pub mod Calls
 pub mod Memory
 pub mod Inside
 pub mod Log

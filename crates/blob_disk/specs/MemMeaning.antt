@@ -6,7 +6,7 @@ use Rattle.std.specs.Prelude.{◌≡◌, ℕ, ◌<◌, ◌||◌, nat_le, true, f
 use Rattle.std.specs.Option.{ForSome, option_map, option_map_or}
 use Rattle.disk_model.specs.Images.{Disk}
 use Rattle.blob_disk.specs.declared.call_kind.CallKind.{CallKind}
-use Rattle.blob_disk.specs.Meaning.{Meaning}
+use Rattle.disk_model.specs.Meaning.{Meaning}
 use Rattle.blob_disk.specs.Memory.{Memory, blank, finally, memories, disk_of}
 use Rattle.blob_disk.specs.Log.{Log}
 use Rattle.blob_disk.specs.Tally.{Tally}

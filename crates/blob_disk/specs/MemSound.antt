@@ -3,7 +3,7 @@ use Rattle.std.specs.Prelude.{◌≡◌, List, [], ◌∷◌, length, map, drop,
 use Rattle.std.proofs.Common.{sym, ap, subst, ◌∙◌, arith}
 use Rattle.std.proofs.lemmas.List.{length-take, get_or-take, drop-map}
 use Rattle.disk_model.specs.Images.{DiskCall, IsImage}
-use Rattle.blob_disk.specs.Meaning.{IsSound}
+use Rattle.disk_model.specs.Meaning.{IsSound}
 use Rattle.blob_disk.specs.Memory.{Memory, IsGood, blank, after, finally, memories, disk_of}
 use Rattle.blob_disk.specs.Log.{Log}
 use Rattle.blob_disk.specs.Tally.{Tally}

@@ -1,8 +1,8 @@
 -- How often a disk in memory was called, and which calls are to fail.
 --     Tally      the calls that are to fail, how many of each kind there were, and how many failed
 --     made kind t      how many of this kind there were;  is_due kind t      the next of this kind is to fail
---     counted kind t, failed t      one more call, one more fault
-use Rattle.std.specs.Prelude.{ℕ, Bool, true, false, ◌&&◌, ◌==◌, List}
+--     counted kind t, failed t      one more call, one more fault;  called kind fails t      one more call, with its fault if it failed
+use Rattle.std.specs.Prelude.{ℕ, Bool, true, false, ◌&&◌, ◌==◌, if◌then◌else◌, List}
 use Rattle.std.specs.List.{list_any}
 use Rattle.ports.specs.Memory.{raised}
 use Rattle.blob_disk.specs.declared.call_kind.CallKind.{CallKind}
@@ -40,6 +40,10 @@ failed t = record t { faults = raised t.faults }
 
 abbrev pub is_due : CallKind → Tally → Bool
 is_due kind t = list_any (λ f. is_kind f.0 kind && (f.1 == made kind t)) t.failing
+
+-- after a call of the kind, which was done or failed
+abbrev pub called : CallKind → Bool → Tally → Tally
+called kind fails t = if fails then failed (counted kind t) else counted kind t
 
 -- no call was made
 abbrev pub fresh : List (CallKind × ℕ) → Tally

@@ -3,14 +3,14 @@ ghost use Rattle.std.specs.Prelude.{◌≡◌, ◌≤◌, ◌+◌, length, take,
 ghost use Rattle.std.specs.Option.{ForSome};
 ghost use Rattle.ports.specs.Faults.{Counts};
 ghost use Rattle.disk_model.specs.Images.{IsImage, Writes, Syncs};
-ghost use Rattle.blob_disk.specs.Meaning.{Meaning, IsLong, IsSound};
-ghost use Rattle.blob_disk.specs.Calls.{Kept, LeavesOnly, Looked, Did};
+ghost use Rattle.disk_model.specs.Meaning.{Meaning, IsLong, IsSound};
+ghost use Rattle.disk_model.specs.Calls.{Kept, LeavesOnly, Looked, Did};
 
 use ports::Failed;
 
 /// One file of bytes on a device that may fail, and that a crash may stop at any moment.
 /// No call takes memory.
-pub trait Disk {
+pub trait Disk: Drop {
     /// What is told of the disk: what reads give, what a crash may leave now and may have left
     /// before, the count of faults, the place up to which no call fails, and whether it is honest.
     ghost meaning: { Self → Meaning };

@@ -14,6 +14,3 @@ pub use call_kind::CallKind;
 pub use disk::Disk;
 pub use mem_disk::MemDisk;
 pub use ports::Failed;
-
-#[cfg(test)]
-mod tests;

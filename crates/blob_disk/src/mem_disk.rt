@@ -1,9 +1,14 @@
 //! A disk in memory, whose calls can be made to fail, and which can be crashed.
-ghost use Rattle.std.specs.Prelude.{◌≡◌, ◌≤◌, [], length, IfOk};
-ghost use Rattle.disk_model.specs.Images.{IsImage};
+ghost use Rattle.std.specs.Prelude.{◌≡◌, ◌↔◌, ◌+◌, ◌≤◌, [], length, take, drop, is_ok, is_err, IfOk, OnOk, IsOk, IsErr, IsSome, IsTrue};
+ghost use Rattle.std.specs.Option.{ForSome};
+ghost use Rattle.ports.specs.Faults.{Counts};
+ghost use Rattle.disk_model.specs.Images.{IsImage, Writes, Syncs};
+ghost use Rattle.disk_model.specs.Meaning.{IsLong};
+ghost use Rattle.disk_model.specs.Calls.{Kept, LeavesOnly, Looked, Did};
 ghost use Rattle.blob_disk.specs.Memory.{IsGood, blank, disk_of, holding_all};
 ghost use Rattle.blob_disk.specs.Log.{blank_log};
-ghost use Rattle.blob_disk.specs.Tally.{fresh, made};
+ghost use Rattle.blob_disk.specs.Tally.{called, fresh, is_due, made};
+ghost use Rattle.blob_disk.specs.declared.call_kind.CallKind.TheVariants.{Read, Size, Sync, Write};
 ghost use Rattle.blob_disk.specs.MemMeaning.{AgreesWith, IsCrashed, meaning_of};
 ghost use Rattle.blob_disk.specs.MemSound.{sound};
 
@@ -120,18 +125,41 @@ impl MemDisk {
 }
 
 impl Disk for MemDisk {
+    ghost use Rattle.blob_disk.specs.MemDisk.{memory_of, log_of, tally_of, told_of, IsWritten, IsSynced};
+
     ghost meaning = { λ d. meaning_of d.content d.log d.calls };
 
     ghost sound = { λ d. sound d.content d.log d.calls d.good d.agrees };
 
-    fn size(&mut self) -> Result<u64, Failed> {
+    fn size(&mut self) -> Result<u64, Failed>
+        ensures size { IfOk result (λ n. ForSome (told_of self.old).reads (λ file. n ≡ length file)) }
+        ensures looked { Looked (told_of self.old) (told_of self.new) }
+        ensures kept { Kept (told_of self.old) (told_of self.new) }
+        ensures time { LeavesOnly (IsImage (told_of self.new).state) (told_of self.old) (told_of self.new) }
+        ensures faults { Counts (told_of self.old).faults (told_of self.new).faults (is_err result) }
+        ensures quiet { IsSome (told_of self.old).quiet → IsOk result }
+        ensures fails { IsErr result ↔ IsTrue (is_due Size (tally_of self.old)) }
+        ensures calls { tally_of self.new ≡ called Size (is_err result) (tally_of self.old) }
+        ensures same { (memory_of self.new ≡ memory_of self.old) × (log_of self.new ≡ log_of self.old) }
+    {
         if self.calls.count(CallKind::Size) {
             return Err(self.calls.fail());
         }
         Ok(self.content.len() as u64)
     }
 
-    fn read_at(&mut self, at: u64, buf: &mut [u8]) -> Result<(), Failed> {
+    fn read_at(&mut self, at: u64, buf: &mut [u8]) -> Result<(), Failed>
+        requires { IsLong (told_of self.old).reads (at + length buf.old) }
+        ensures bytes { OnOk result (ForSome (told_of self.old).reads (λ file. buf.new ≡ take (length buf.old) (drop at file))) }
+        ensures looked { Looked (told_of self.old) (told_of self.new) }
+        ensures kept { Kept (told_of self.old) (told_of self.new) }
+        ensures time { LeavesOnly (IsImage (told_of self.new).state) (told_of self.old) (told_of self.new) }
+        ensures faults { Counts (told_of self.old).faults (told_of self.new).faults (is_err result) }
+        ensures quiet { IsSome (told_of self.old).quiet → IsOk result }
+        ensures fails { IsErr result ↔ IsTrue (is_due Read (tally_of self.old)) }
+        ensures calls { tally_of self.new ≡ called Read (is_err result) (tally_of self.old) }
+        ensures same { (memory_of self.new ≡ memory_of self.old) × (log_of self.new ≡ log_of self.old) }
+    {
         if self.calls.count(CallKind::Read) {
             return Err(self.calls.fail());
         }
@@ -140,7 +168,17 @@ impl Disk for MemDisk {
         Ok(())
     }
 
-    fn write_at(&mut self, at: u64, bytes: &[u8]) -> Result<(), Failed> {
+    fn write_at(&mut self, at: u64, bytes: &[u8]) -> Result<(), Failed>
+        requires { IsLong (told_of self.old).reads at }
+        ensures long { OnOk result (IsLong (told_of self.new).reads (at + length bytes.now)) }
+        ensures did { Did (Writes at bytes.now (is_ok result)) (told_of self.old) (told_of self.new) }
+        ensures kept { Kept (told_of self.old) (told_of self.new) }
+        ensures time { LeavesOnly (IsImage (told_of self.new).state) (told_of self.old) (told_of self.new) }
+        ensures faults { Counts (told_of self.old).faults (told_of self.new).faults (is_err result) }
+        ensures quiet { ForSome (told_of self.old).quiet (λ most. at + length bytes.now ≤ most → IsOk result) }
+        ensures done { IsOk result ↔ IsWritten at (length bytes.now) self.old }
+        ensures calls { tally_of self.new ≡ called Write (is_err result) (tally_of self.old) }
+    {
         let due = self.calls.count(CallKind::Write);
         let (at, len) = (at as usize, bytes.len());
         if !recorder::has_room(&self.log, len) {
@@ -156,7 +194,15 @@ impl Disk for MemDisk {
         Ok(())
     }
 
-    fn sync(&mut self) -> Result<(), Failed> {
+    fn sync(&mut self) -> Result<(), Failed>
+        ensures did { Did (Syncs (is_ok result)) (told_of self.old) (told_of self.new) }
+        ensures kept { Kept (told_of self.old) (told_of self.new) }
+        ensures time { LeavesOnly (IsImage (told_of self.new).state) (told_of self.old) (told_of self.new) }
+        ensures faults { Counts (told_of self.old).faults (told_of self.new).faults (is_err result) }
+        ensures quiet { IsSome (told_of self.old).quiet → IsOk result }
+        ensures done { IsOk result ↔ IsSynced self.old }
+        ensures calls { tally_of self.new ≡ called Sync (is_err result) (tally_of self.old) }
+    {
         let due = self.calls.count(CallKind::Sync);
         if !recorder::has_room(&self.log, 0) {
             return Err(self.calls.fail());

@@ -2,6 +2,8 @@ pub mod AllRead
 pub mod Between
 pub mod Conflicts
 pub mod Find
+pub mod Lengths
+pub mod Rising
 pub mod Rules
 pub mod Run
 pub mod Touched

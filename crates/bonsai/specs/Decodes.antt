@@ -2,6 +2,8 @@
 use Rattle.std.specs.Prelude.{◌≡◌, ℕ, Result, Ok, Err}
 use Rattle.changeset_model.specs.Changeset.{Changeset}
 use Rattle.changeset_model.specs.Decoding as decoding
+use Rattle.bonsai.specs.declared.fields.Fields.{Fields}
+use Rattle.bonsai.specs.View.{fields_view}
 use Rattle.bonsai.specs.declared.decode_fault.DecodeFault.{DecodeFault}
 use Rattle.bonsai.specs.declared.decode_fault.DecodeFault.TheVariants.{TooLong, BadEncoding, SelfConflict, Memory}
 
@@ -19,3 +21,8 @@ Decodes (Err fault) answer = Refuses fault answer
 abbrev pub placed : Result Changeset ℕ → Result Changeset decoding.DecodeFault
 placed (Ok c) = Ok c
 placed (Err at) = Err (decoding.BadEncoding at)
+
+-- the same of fields, before a conflict is sought
+abbrev pub DecodesFields : Result Fields DecodeFault → Result Changeset ℕ → Type 0
+DecodesFields (Ok f) answer = answer ≡ Ok (fields_view f)
+DecodesFields (Err fault) answer = Refuses fault (placed answer)

@@ -1,5 +1,8 @@
 pub mod Decodes
 pub mod Conflict
-pub mod Parts
-pub mod Reads
+pub mod Equal
+pub mod EqualViews
+pub mod Kept
+pub mod LastPath
+pub mod Making
 pub mod View

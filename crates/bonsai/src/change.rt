@@ -1,42 +1,56 @@
 //! What a changeset does at one path.
-ghost use Rattle.std.specs.Prelude.{◌≡◌};
-ghost use Rattle.changeset_model.specs.Changeset.{kind_byte};
-ghost use Rattle.bonsai.specs.View.{kind_view};
+ghost use Rattle.std.specs.Cmp.{partial_equiv_from_equiv};
+ghost use Rattle.bonsai.specs.Equal.{change_eq};
+ghost use Rattle.bonsai.specs.EqualViews.{changes_equiv};
+ghost use Rattle.bonsai.specs.View.{change_view};
 
+use file_kind::FileKind;
 use object_id::Id;
 
-/// The type of a file.
-#[derive(Clone, Copy, Debug, PartialEq, Eq)]
-pub enum FileKind {
-    Regular,
-    Executable,
-    Symlink,
-}
-
-impl FileKind {
-    /// The byte that stands for it: 0, 1 or 2.
-    pub(crate) fn code(self) -> u8
-        ensures { result ≡ kind_byte (kind_view self) }
-    {
-        match self {
-            FileKind::Regular => 0,
-            FileKind::Executable => 1,
-            FileKind::Symlink => 2,
-        }
-    }
-}
-
 /// What a changeset does at a path.
-#[derive(Clone, Copy, Debug, PartialEq, Eq)]
+#[derive(Clone, Copy, Debug)]
 pub enum Change {
     /// It sets a file.
     Set {
         /// The id of the content.
         content: Id,
         kind: FileKind,
-        /// The content's length in bytes, at most 1,048,576.
+        /// The content's length in bytes, at most `MOST_CONTENT`.
         size: u64,
     },
     /// It removes what stands at the path, and nothing where nothing does.
     Delete,
+}
+
+impl PartialEq for Change {
+    ghost eq = { λ a b. change_eq (change_view a) (change_view b) };
+
+    ghost laws = { partial_equiv_from_equiv changes_equiv };
+
+    fn eq(&self, other: &Change) -> bool {
+        match (self, other) {
+            (
+                Change::Set {
+                    content,
+                    kind,
+                    size,
+                },
+                Change::Set {
+                    content: other_content,
+                    kind: other_kind,
+                    size: other_size,
+                },
+            ) => {
+                content == other_content
+                    && kind.to_byte() == other_kind.to_byte()
+                    && size == other_size
+            }
+            (Change::Delete, Change::Delete) => true,
+            (Change::Set { .. }, Change::Delete) | (Change::Delete, Change::Set { .. }) => false,
+        }
+    }
+}
+
+impl Eq for Change {
+    ghost laws = { changes_equiv };
 }

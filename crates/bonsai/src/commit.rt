@@ -1,8 +1,7 @@
 //! A changeset with its id.
-ghost use Rattle.std.specs.Prelude.{◌≡◌, length, IfOk};
+ghost use Rattle.std.specs.Prelude.{◌≡◌, ◌<◌, ◌^◌, length, IfOk};
 ghost use Rattle.changeset_model.specs.Changeset as model;
 ghost use Rattle.changeset_model.specs.Decoding.{decoded};
-ghost use Rattle.history_model.specs.Pushrebase.{on_parent};
 ghost use Rattle.bonsai.specs.Decodes.{Decodes};
 
 use crate::changeset::Changeset;
@@ -33,7 +32,7 @@ impl Model for Commit {
 
     ghost view = { λ c. c.changeset };
 
-    ghost invariant = { λ c. (c.id.0 ≡ model.id_of c.changeset) × (c.encoded_length ≡ length (model.spelling c.changeset)) };
+    ghost invariant = { λ c. (c.id ≡ model.id_of c.changeset) × (c.encoded_length ≡ length (model.spelling c.changeset)) };
 }
 
 impl Commit {
@@ -63,15 +62,18 @@ impl Commit {
 
     /// The id: the SHA-256 (FIPS 180-4) of the spelling.
     pub fn id(&self) -> Id
-        ensures { result.0 ≡ model.id_of self.now }
+        ensures { result ≡ model.id_of self.now }
     {
         self.id
     }
 
-    /// The length of the spelling in bytes.
+    /// The length of the encoding in bytes.
     pub fn encoded_length(&self) -> usize
-        ensures { result ≡ length (model.spelling self.now) }
+        ensures value { result ≡ length (model.spelling self.now) }
+        ensures short { result < 2 ^ 25 }
     {
+        // The changeset keeps its rules, and so is short.
+        let _edits = self.changeset.edits();
         self.encoded_length
     }
 
@@ -80,13 +82,5 @@ impl Commit {
         ensures { result.now ≡ self.now }
     {
         &self.changeset
-    }
-
-    /// The changeset with this one parent, in memory of its own.
-    pub fn with_parent(&self, alloc: Global, parent: Id) -> Result<Commit, AllocError>
-        ensures { IfOk result (λ c. c ≡ on_parent parent.0 self.now) }
-    {
-        let changeset = self.changeset.with_parent(alloc, parent)?;
-        Commit::of(alloc, changeset)
     }
 }

@@ -2,6 +2,8 @@
 ghost use Rattle.std.specs.Prelude.{◌≡◌, map, option_map, IfOk};
 ghost use Rattle.std.specs.FinMap.{find as find_key};
 ghost use Rattle.changeset_model.specs.Path.{path_cmp};
+ghost use Rattle.std.specs.Cmp.Lexicographic.{pointwise};
+ghost use Rattle.bonsai.specs.Equal.{edit_eq};
 ghost use Rattle.bonsai.specs.View.{change_view, edits_view};
 
 use crate::change::Change;
@@ -41,4 +43,11 @@ pub(crate) fn copy_of(alloc: Global, edits: &[Edit]) -> Result<Vec<Edit>, AllocE
         copies.push(edit.copy(alloc)?)?;
     }
     Ok(copies)
+}
+
+/// Whether two lists have the same edits.
+pub(crate) fn are_equal(left: &[Edit], right: &[Edit]) -> bool
+    ensures { result ≡ pointwise edit_eq (edits_view left.now) (edits_view right.now) }
+{
+    left == right
 }

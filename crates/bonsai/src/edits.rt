@@ -1,18 +1,17 @@
 //! The edits of a changeset, read one after another.
 ghost use Rattle.std.specs.Prelude.{◌≡◌, None, option_map};
 ghost use Rattle.changeset_model.specs.Decoding as decoding;
-ghost use Rattle.bonsai.specs.Parts.{last_path as last_path_of};
-ghost use Rattle.bonsai.specs.Reads.{Reads};
+ghost use Rattle.byte_fields.specs.Reads.{Reads};
+ghost use Rattle.bonsai.specs.LastPath.{last_path as last_path_of};
 ghost use Rattle.bonsai.specs.View.{edits_view};
 
 use crate::edit::Edit;
-use crate::field_fault::FieldFault;
-use crate::parts::{edit_at, u32_up_to};
+use crate::limits::MOST_EDITS;
+use crate::parts::edit_at;
+use byte_fields::FieldFault;
+use byte_fields::fields::u32_up_to;
 use repo_path::RepoPath;
 use std::alloc::Global;
-
-/// The most edits of a changeset.
-const MOST_EDITS: u32 = 4096;
 
 /// The edits, by rising paths.
 pub(crate) fn edit_list_at(alloc: Global, bytes: &[u8]) -> Result<(Vec<Edit>, &[u8]), FieldFault>

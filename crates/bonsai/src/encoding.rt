@@ -4,7 +4,7 @@ ghost use Rattle.std.specs.List.{concat};
 ghost use Rattle.std.specs.Int.{w16, w32, w64, to_be_bytes, cast_unsigned};
 ghost use Rattle.byte_fields.specs.Bytes.{sized};
 ghost use Rattle.changeset_model.specs.Changeset as model;
-ghost use Rattle.bonsai.specs.View.{ids_view, change_view, edit_view, edits_view, fields_view};
+ghost use Rattle.bonsai.specs.View.{change_view, edit_view, edits_view, fields_view};
 
 use crate::change::Change;
 use crate::changeset::Changeset;
@@ -13,13 +13,40 @@ use crate::fields::Fields;
 use object_id::Id;
 use std::alloc::{AllocError, Global};
 
-/// The one spelling of a changeset.
+/// The one encoding of a changeset.
 pub fn encode(alloc: Global, changeset: &Changeset) -> Result<Vec<u8>, AllocError>
     ensures { IfOk result (λ bytes. bytes.items ≡ model.spelling changeset.now) }
 {
-    let mut out = Vec::new(alloc);
-    put_fields(&mut out, &changeset.fields)?;
+    let mut out = Vec::with_capacity(alloc, room_for(&changeset.fields))?;
+    encode_into(&mut out, changeset)?;
     Ok(out)
+}
+
+/// Writes the one encoding of a changeset at the end.
+pub fn encode_into(out: &mut Vec<u8>, changeset: &Changeset) -> Result<(), AllocError>
+    ensures { OnOk result (out.new.items ≡ out.old.items ++ model.spelling changeset.now) }
+{
+    put_fields(out, &changeset.fields)
+}
+
+// As many bytes as the encoding has, so that it is written without moving.
+fn room_for(fields: &Fields) -> usize {
+    let ids = fields.parents.len().saturating_mul(32);
+    let texts = fields.author.len().saturating_add(fields.message.len());
+    fields
+        .edits
+        .iter()
+        .fold(ids.saturating_add(texts).saturating_add(25), |room, edit| {
+            room.saturating_add(room_for_edit(edit))
+        })
+}
+
+fn room_for_edit(edit: &Edit) -> usize {
+    let path = edit.path.as_str().len();
+    match edit.change {
+        Change::Delete => path + 3,
+        Change::Set { .. } => path + 44,
+    }
 }
 
 fn put_fields(out: &mut Vec<u8>, fields: &Fields) -> Result<(), AllocError>
@@ -37,7 +64,7 @@ fn put_fields(out: &mut Vec<u8>, fields: &Fields) -> Result<(), AllocError>
 // The mark, the version and the parents.
 fn put_head(out: &mut Vec<u8>, parents: &[Id]) -> Result<(), AllocError>
     requires { length parents.now ≤ 2 }
-    ensures { OnOk result (out.new.items ≡ out.old.items ++ 0x43 ∷ 1 ∷ length parents.now ∷ concat (ids_view parents.now)) }
+    ensures { OnOk result (out.new.items ≡ out.old.items ++ 0x43 ∷ 1 ∷ length parents.now ∷ concat parents.now) }
 {
     out.extend_from_slice(&[b'C', 1, parents.len() as u8])?;
     put_parents(out, parents)
@@ -60,10 +87,10 @@ fn put_edit_list(out: &mut Vec<u8>, edits: &[Edit]) -> Result<(), AllocError>
 }
 
 fn put_parents(out: &mut Vec<u8>, parents: &[Id]) -> Result<(), AllocError>
-    ensures { OnOk result (out.new.items ≡ out.old.items ++ concat (ids_view parents.now)) }
+    ensures { OnOk result (out.new.items ≡ out.old.items ++ concat parents.now) }
 {
     for parent in parents {
-        out.extend_from_slice(parent.0.as_slice())?;
+        out.extend_from_slice(parent.as_bytes())?;
     }
     Ok(())
 }
@@ -118,9 +145,9 @@ fn put_change(out: &mut Vec<u8>, change: &Change) -> Result<(), AllocError>
             kind,
             size,
         } => {
-            out.extend_from_slice(&[1, kind.code()])?;
+            out.extend_from_slice(&[1, kind.to_byte()])?;
             out.extend_from_slice(&size.to_be_bytes())?;
-            out.extend_from_slice(content.0.as_slice())?;
+            out.extend_from_slice(content.as_bytes())?;
         }
     }
     Ok(())

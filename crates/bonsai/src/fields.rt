@@ -1,33 +1,42 @@
 //! A changeset's fields.
-ghost use Rattle.std.specs.Prelude.{◌≡◌, IfOk};
+ghost use Rattle.std.specs.Prelude.{◌≡◌, IfOk, IsTrue, option_map};
+ghost use Rattle.changeset_model.specs.Changeset as model;
 ghost use Rattle.changeset_model.specs.Decoding as decoding;
-ghost use Rattle.bonsai.specs.Reads.{Reads};
-ghost use Rattle.bonsai.specs.View.{ids_view, fields_view};
+ghost use Rattle.byte_fields.specs.Reads.{Reads};
+ghost use Rattle.bonsai.specs.Equal.{changeset_eq};
+ghost use Rattle.bonsai.specs.View.{fields_view};
 
+use crate::conflict::{Conflict, first_conflict};
 use crate::edit::Edit;
-use crate::edit_list::copy_of;
+use crate::edit_list::{are_equal, copy_of};
 use crate::edits::edit_list_at;
-use crate::field_fault::FieldFault;
-use crate::parts::{author_at, byte_at, message_at, parent_list_at};
-use byte_fields::fields::{i32_at, i64_at};
+use crate::parts::{author_at, message_at, parent_list_at};
+use byte_fields::FieldFault;
+use byte_fields::fields::{exactly_at, i32_at, i64_at};
 use object_id::Id;
 use std::alloc::{AllocError, Global};
 
-/// The fields of a changeset as they stand in its bytes, before it is known that all of the bytes were read.
+/// The fields of a changeset. Whether they keep its rules is known once they are in a `Changeset`.
 #[derive(Debug, Drop)]
-pub(crate) struct Fields {
-    pub(crate) parents: Vec<Id>,
-    pub(crate) author: String,
-    pub(crate) seconds: i64,
-    pub(crate) offset: i32,
-    pub(crate) message: String,
-    pub(crate) edits: Vec<Edit>,
+pub struct Fields {
+    /// The ids of the parents, at most two different ones.
+    pub parents: Vec<Id>,
+    /// 1 to `LONGEST_AUTHOR` bytes without 00 and 0A.
+    pub author: String,
+    /// Seconds since 1970-01-01 00:00 UTC.
+    pub seconds: i64,
+    /// The offset of the author's clock from UTC in seconds.
+    pub offset: i32,
+    /// At most `LONGEST_MESSAGE` bytes.
+    pub message: String,
+    /// At most `MOST_EDITS`, by rising paths.
+    pub edits: Vec<Edit>,
 }
 
 impl Fields {
     /// The same fields but for the parents, in memory of their own.
     pub(crate) fn with_parents(&self, alloc: Global, parents: Vec<Id>) -> Result<Fields, AllocError>
-        ensures { IfOk result (λ f. fields_view f ≡ record (fields_view self.now) { parents = ids_view parents.items }) }
+        ensures { IfOk result (λ f. fields_view f ≡ record (fields_view self.now) { parents = parents.items }) }
     {
         let author = String::from_str(alloc, self.author.as_str())?;
         let message = String::from_str(alloc, self.message.as_str())?;
@@ -41,14 +50,22 @@ impl Fields {
             edits,
         })
     }
+
+    /// The first set path under another set path, with the shortest set path above it.
+    pub(crate) fn self_conflict(&self) -> Option<Conflict<'_>>
+        requires { IsTrue (model.is_changeset (fields_view self.now)) }
+        ensures { option_map (λ c. (c.short.now, c.long.now)) result ≡ model.self_conflict (fields_view self.now) }
+    {
+        first_conflict(self.edits.as_slice())
+    }
 }
 
 /// The fields at the front of some bytes.
 pub(crate) fn fields_at(alloc: Global, bytes: &[u8]) -> Result<(Fields, &[u8]), FieldFault>
     ensures { Reads (λ x. (fields_view x.0, x.1.now)) result (decoding.changeset bytes.now) }
 {
-    let rest = byte_at(bytes, b'C')?;
-    let rest = byte_at(rest, 1)?;
+    let rest = exactly_at(bytes, b'C')?;
+    let rest = exactly_at(rest, 1)?;
     let (parents, rest) = parent_list_at(alloc, rest)?;
     let (author, rest) = author_at(alloc, rest)?;
     let (seconds, rest) = i64_at(rest)?;
@@ -64,4 +81,16 @@ pub(crate) fn fields_at(alloc: Global, bytes: &[u8]) -> Result<(Fields, &[u8]), 
         edits,
     };
     Ok((fields, rest))
+}
+
+/// Whether all fields are the same.
+pub(crate) fn are_same(left: &Fields, right: &Fields) -> bool
+    ensures { result ≡ changeset_eq (fields_view left.now) (fields_view right.now) }
+{
+    left.parents == right.parents
+        && left.author == right.author
+        && left.seconds == right.seconds
+        && left.offset == right.offset
+        && left.message == right.message
+        && are_equal(left.edits.as_slice(), right.edits.as_slice())
 }

@@ -11,18 +11,22 @@ pub mod edit;
 mod edit_list;
 mod edits;
 pub mod encoding;
-mod field_fault;
-mod fields;
+pub mod fields;
+pub mod limits;
+pub mod making;
 mod parts;
 mod text;
 
-pub use change::{Change, FileKind};
+pub use change::Change;
 pub use changeset::Changeset;
 pub use commit::Commit;
 pub use decode_fault::DecodeFault;
 pub use decoding::decode;
 pub use edit::Edit;
-pub use encoding::encode;
-
-#[cfg(test)]
-mod tests;
+pub use encoding::{encode, encode_into};
+pub use fields::Fields;
+pub use file_kind::FileKind;
+pub use limits::{
+    LONGEST_AUTHOR, LONGEST_ENCODING, LONGEST_MESSAGE, MOST_CONTENT, MOST_EDITS, MOST_PARENTS,
+};
+pub use making::FieldsFault;

@@ -1,35 +1,24 @@
 //! The parts of a changeset, each read from left to right.
-ghost use Rattle.std.specs.Prelude.{◌≡◌, ◌∷◌, [], string_bytes, nat_lt, nat_le, ◌&&◌, not, bytes_eq, option_map, IfOk, IfErr};
-ghost use Rattle.std.specs.Int.{w8, w16, w32, w64};
+ghost use Rattle.std.specs.Prelude.{◌≡◌, string_bytes, nat_lt, nat_le, ◌&&◌, not, bytes_eq, option_map, IfOk, IfErr};
+ghost use Rattle.std.specs.Int.{w16};
 ghost use Rattle.byte_fields.specs.Gives.{Gives};
-ghost use Rattle.byte_fields.specs.Reading.{number, bytes_of, exactly, keeping};
+ghost use Rattle.byte_fields.specs.Reading.{number, bytes_of, keeping};
+ghost use Rattle.byte_fields.specs.Reads.{Reads};
+ghost use Rattle.byte_fields.specs.declared.field_fault.FieldFault.TheVariants.{Memory};
 ghost use Rattle.changeset_model.specs.Path.{elements, is_path};
 ghost use Rattle.changeset_model.specs.Decoding as decoding;
-ghost use Rattle.bonsai.specs.Reads.{Reads};
-ghost use Rattle.bonsai.specs.Parts.{kind_field};
-ghost use Rattle.bonsai.specs.declared.field_fault.FieldFault.TheVariants.{Memory};
-ghost use Rattle.bonsai.specs.View.{ids_view, kind_view, change_view, edit_view};
+ghost use Rattle.bonsai.specs.View.{change_view, edit_view};
 
-use crate::change::{Change, FileKind};
+use crate::change::Change;
 use crate::edit::Edit;
-use crate::field_fault::FieldFault;
+use crate::limits::{LONGEST_AUTHOR, LONGEST_MESSAGE, MOST_CONTENT};
 use crate::text::{line_of, text_of};
-use byte_fields::BadField;
-use byte_fields::fields::{bytes_at, id_at, u8_at, u16_at, u32_at, u64_at};
+use byte_fields::fields::{bytes_at, id_at, u8_below, u16_at, u32_up_to, u64_up_to};
+use byte_fields::{BadField, FieldFault};
+use file_kind::kind_at;
 use object_id::Id;
-use repo_path::{PathFault, RepoPath};
+use repo_path::{LONGEST_PATH, PathFault, RepoPath};
 use std::alloc::Global;
-
-// A number of 8 bits below a bound.
-fn u8_below(bytes: &[u8], bound: u8) -> Result<(u8, &[u8]), BadField>
-    ensures { Gives (λ x. (x.0, x.1.now)) result (number w8 (λ n. nat_lt n bound) bytes.now) }
-{
-    let (value, rest) = u8_at(bytes)?;
-    if value >= bound {
-        return Err(BadField { left: bytes.len() });
-    }
-    Ok((value, rest))
-}
 
 // A length of 16 bits, at least 1.
 fn short_len(bytes: &[u8], most: u16) -> Result<(usize, &[u8]), BadField>
@@ -42,33 +31,11 @@ fn short_len(bytes: &[u8], most: u16) -> Result<(usize, &[u8]), BadField>
     Ok((usize::from(len), rest))
 }
 
-/// A number of 32 bits up to a bound.
-pub(crate) fn u32_up_to(bytes: &[u8], most: u32) -> Result<(u32, &[u8]), BadField>
-    ensures { Gives (λ x. (x.0, x.1.now)) result (number w32 (λ n. nat_le n most) bytes.now) }
-{
-    let (value, rest) = u32_at(bytes)?;
-    if value > most {
-        return Err(BadField { left: bytes.len() });
-    }
-    Ok((value, rest))
-}
-
-// A number of 64 bits up to a bound.
-fn u64_up_to(bytes: &[u8], most: u64) -> Result<(u64, &[u8]), BadField>
-    ensures { Gives (λ x. (x.0, x.1.now)) result (number w64 (λ n. nat_le n most) bytes.now) }
-{
-    let (value, rest) = u64_at(bytes)?;
-    if value > most {
-        return Err(BadField { left: bytes.len() });
-    }
-    Ok((value, rest))
-}
-
 /// The author.
 pub(crate) fn author_at(alloc: Global, bytes: &[u8]) -> Result<(String, &[u8]), FieldFault>
     ensures { Reads (λ x. (string_bytes x.0, x.1.now)) result (decoding.author bytes.now) }
 {
-    let (len, rest) = short_len(bytes, 1024)?;
+    let (len, rest) = short_len(bytes, LONGEST_AUTHOR)?;
     let (text, after) = bytes_at(rest, len)?;
     let Some(author) = line_of(text) else {
         return Err(FieldFault::Bad { left: rest.len() });
@@ -80,7 +47,7 @@ pub(crate) fn author_at(alloc: Global, bytes: &[u8]) -> Result<(String, &[u8]), 
 pub(crate) fn message_at(alloc: Global, bytes: &[u8]) -> Result<(String, &[u8]), FieldFault>
     ensures { Reads (λ x. (string_bytes x.0, x.1.now)) result (decoding.message bytes.now) }
 {
-    let (len, rest) = u32_up_to(bytes, 1_048_576)?;
+    let (len, rest) = u32_up_to(bytes, LONGEST_MESSAGE)?;
     let (text, after) = bytes_at(rest, len as usize)?;
     let Some(message) = text_of(text) else {
         return Err(FieldFault::Bad { left: rest.len() });
@@ -88,20 +55,9 @@ pub(crate) fn message_at(alloc: Global, bytes: &[u8]) -> Result<(String, &[u8]),
     Ok((String::from_str(alloc, message)?, after))
 }
 
-/// One byte, which has to be the wanted one.
-pub(crate) fn byte_at(bytes: &[u8], wanted: u8) -> Result<&[u8], BadField>
-    ensures { Gives (λ r. (wanted ∷ [], r.now)) result (exactly (wanted ∷ []) bytes.now) }
-{
-    let (field, rest) = bytes_at(bytes, 1)?;
-    if [wanted].as_slice() != field {
-        return Err(BadField { left: bytes.len() });
-    }
-    Ok(rest)
-}
-
 /// The parents: at most two, the second another one than the first.
 pub(crate) fn parent_list_at(alloc: Global, bytes: &[u8]) -> Result<(Vec<Id>, &[u8]), FieldFault>
-    ensures { Reads (λ x. (ids_view x.0.items, x.1.now)) result (decoding.parent_list bytes.now) }
+    ensures { Reads (λ x. (x.0.items, x.1.now)) result (decoding.parent_list bytes.now) }
 {
     let (count, rest) = u8_below(bytes, 3)?;
     match count {
@@ -112,19 +68,19 @@ pub(crate) fn parent_list_at(alloc: Global, bytes: &[u8]) -> Result<(Vec<Id>, &[
 }
 
 fn one_parent(alloc: Global, bytes: &[u8]) -> Result<(Vec<Id>, &[u8]), FieldFault>
-    ensures { Reads (λ x. (ids_view x.0.items, x.1.now)) result (decoding.parents 1 bytes.now) }
+    ensures { Reads (λ x. (x.0.items, x.1.now)) result (decoding.parents 1 bytes.now) }
 {
     let (first, rest) = id_at(bytes)?;
-    let parents = Vec::from_array(alloc, [Id(first)])?;
+    let parents = Vec::from_array(alloc, [Id::from_bytes(first)])?;
     Ok((parents, rest))
 }
 
 fn two_parents(alloc: Global, bytes: &[u8]) -> Result<(Vec<Id>, &[u8]), FieldFault>
-    ensures { Reads (λ x. (ids_view x.0.items, x.1.now)) result (decoding.parents 2 bytes.now) }
+    ensures { Reads (λ x. (x.0.items, x.1.now)) result (decoding.parents 2 bytes.now) }
 {
     let (first, rest) = id_at(bytes)?;
     let (second, rest) = other_id_at(rest, &first)?;
-    let parents = Vec::from_array(alloc, [Id(first), Id(second)])?;
+    let parents = Vec::from_array(alloc, [Id::from_bytes(first), Id::from_bytes(second)])?;
     Ok((parents, rest))
 }
 
@@ -139,34 +95,19 @@ fn other_id_at<'a>(bytes: &'a [u8], first: &[u8; 32]) -> Result<([u8; 32], &'a [
     Ok((id, rest))
 }
 
-fn kind_at(bytes: &[u8]) -> Result<(FileKind, &[u8]), BadField>
-    ensures { Gives (λ x. (kind_view x.0, x.1.now)) result (kind_field bytes.now) }
-{
-    let (code, rest) = u8_below(bytes, 3)?;
-    let kind = match code {
-        0 => FileKind::Regular,
-        1 => FileKind::Executable,
-        _ => FileKind::Symlink,
-    };
-    Ok((kind, rest))
-}
-
 // A file's type, size and content, which a change sets.
 fn set_at(bytes: &[u8]) -> Result<(Change, &[u8]), BadField>
     ensures { Gives (λ x. (change_view x.0, x.1.now)) result (decoding.change_of 1 bytes.now) }
 {
     let (kind, rest) = kind_at(bytes)?;
-    let (size, rest) = u64_up_to(rest, 1_048_576)?;
+    let (size, rest) = u64_up_to(rest, MOST_CONTENT)?;
     let (content, rest) = id_at(rest)?;
-    let content = Id(content);
-    Ok((
-        Change::Set {
-            content,
-            kind,
-            size,
-        },
-        rest,
-    ))
+    let set = Change::Set {
+        content: Id::from_bytes(content),
+        kind,
+        size,
+    };
+    Ok((set, rest))
 }
 
 fn change_at(bytes: &[u8]) -> Result<(Change, &[u8]), BadField>
@@ -207,7 +148,7 @@ fn path_at<'a>(
 ) -> Result<(RepoPath, &'a [u8]), FieldFault>
     ensures { Reads (λ x. (x.0, x.1.now)) result (decoding.path (option_map (λ q. q.now) before.entry) bytes.now) }
 {
-    let (len, rest) = short_len(bytes, 4096)?;
+    let (len, rest) = short_len(bytes, LONGEST_PATH as u16)?;
     let (text, after) = bytes_at(rest, len)?;
     let Some(path) = next_path(alloc, before, text)? else {
         return Err(FieldFault::Bad { left: rest.len() });
@@ -224,6 +165,8 @@ pub(crate) fn edit_at<'a>(
     ensures { Reads (λ x. (edit_view x.0, x.1.now)) result (decoding.edit (option_map (λ q. q.now) before.entry) bytes.now) }
 {
     let (path, rest) = path_at(alloc, before, bytes)?;
-    let (change, rest) = change_at(rest)?;
-    Ok((Edit { path, change }, rest))
+    match change_at(rest) {
+        Ok((change, rest)) => Ok((Edit { path, change }, rest)),
+        Err(fault) => Err(fault.into()),
+    }
 }

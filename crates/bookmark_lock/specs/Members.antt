@@ -1,7 +1,7 @@
 -- A seat among all those of its lock, and what each step makes of it.
 use Rattle.std.specs.Prelude.{ℕ, ◌+◌, ◌-◌, Bool, true, false, List, [], ◌∷◌, Option, None, Some}
 use Rattle.history_model.specs.History.{Entry}
-use Rattle.turn_history.specs.Opening.{Opening}
+use Rattle.turn_history.specs.Opening.{Opening, unopened}
 use Rattle.bookmark_lock.specs.Place.{Post, longer}
 
 -- what the lead and another seat knew when the lead joined that one
@@ -48,7 +48,7 @@ settling m = record m { met = None }
 abbrev pub spent_member : Member
 spent_member = record {
   spent = true;
-  post = record { number = 0; front = []; opening = record { header = record { capacity = 0 }; moment = 0; length = 0; faults = 0; quiet = None; honest = false }; split = 0; out = 0; joined = [] };
+  post = record { number = 0; front = []; opening = unopened; split = 0; out = 0; joined = [] };
   drawn = 0;
   met = None;
 }

@@ -1,14 +1,15 @@
 -- Readers and spellings: which bytes a reader reads as a value.
 --     Reads r bytes x      whatever follows these bytes, r reads them as x and leaves the rest
-use Rattle.std.proofs.Common.{◌≡◌, ℕ, ◌^◌, ◌<◌, Bool, true, cond, List, [], ◌∷◌, ◌++◌, length, refl, ap, subst, ◌∙◌, arith}
-use Rattle.std.specs.Prelude.{Option, Some, None, Ok, Err, nat_le, flat_map}
+use Rattle.std.proofs.Common.{◌≡◌, ℕ, suc, ◌^◌, ◌<◌, Bool, true, cond, List, [], ◌∷◌, ◌++◌, length, refl, ap, subst, ◌∙◌, arith}
+use Rattle.std.specs.Prelude.{Option, Some, None, Ok, Err, nat_lt, nat_le, flat_map}
 use Rattle.std.specs.Option.{option_map_or}
 use Rattle.std.specs.Int.{Width, w8, w16, w32, w64, byte_len, from_be_bytes, to_be_bytes}
 use Rattle.std.proofs.Math.Seq.{take-append_seam, drop-append_seam}
 use Rattle.std.proofs.lemmas.List.{append_assoc, length-append}
-use Rattle.std.proofs.lemmas.Bool.{le-leb}
+use Rattle.std.specs.List.{list_all}
+use Rattle.std.proofs.lemmas.Bool.{le-leb, lt-ltb, and_from}
 use Rattle.std.proofs.lemmas.Nat.{from_be_bytes-to_be_bytes_2, from_be_bytes-to_be_bytes_4, from_be_bytes-to_be_bytes_8}
-use Rattle.byte_fields.specs.Bytes.{sized}
+use Rattle.byte_fields.specs.Bytes.{IsBytes, sized}
 use Rattle.byte_fields.specs.Reading.{Reader, value, and_then, ◌>>=◌, field, keeping, number, with_len, times}
 
 abbrev pub Reads : {A : Type 0} → Reader A → List ℕ → A → Type 0
@@ -66,3 +67,9 @@ spelled_32 n h = record { len = refl; back = from_be_bytes-to_be_bytes_4 n h }
 
 pub spelled_64 : (n : ℕ) → n < 2 ^ 64 → Spelled w64 (to_be_bytes w64 n) n
 spelled_64 n h = record { len = refl; back = from_be_bytes-to_be_bytes_8 n h }
+
+-- ---- bytes
+
+pub all_bytes : (bytes : List ℕ) → IsBytes bytes → list_all (λ b. nat_lt b 256) bytes ≡ true
+all_bytes [] fits = refl
+all_bytes (b ∷ bytes) fits = and_from _ _ (lt-ltb b 256 (fits 0)) (all_bytes bytes (λ i. fits (suc i)))

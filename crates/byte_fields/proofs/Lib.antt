@@ -1,3 +1,4 @@
 pub mod FieldLemmas
 pub mod Lists
+pub mod Run
 pub mod TextLemmas

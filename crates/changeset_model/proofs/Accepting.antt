@@ -15,6 +15,7 @@ use Rattle.std.proofs.lemmas.Int.{of_z-to_z}
 use Rattle.changeset_model.proofs.Spelling.{a_file, put_together, from_message, from_author, from_message_bytes, from_author_bytes, starts_after, read-spelling}
 use Rattle.changeset_model.proofs.Rising.{path_lt-trans}
 use Rattle.std.specs.FinMap.Entries.{below_all}
+use Rattle.byte_fields.proofs.FieldLemmas.{all_bytes}
 use Rattle.byte_fields.specs.Bytes.{IsBytes, Id, sized, is_bytes, is_line, is_text}
 use Rattle.changeset_model.specs.Path.{Path, text_of, elements, is_path, path_lt, path_cmp}
 use Rattle.changeset_model.specs.Changeset.{most_encoded, self_conflict, File, FileChange, Set, Delete, Changeset, kind_byte, file_bytes, change_bytes, edit_bytes, spelling, most_size, are_parents, is_author, is_message, is_signed, is_change, are_changes, is_changeset, Spells}
@@ -148,10 +149,6 @@ with_len_ok w limit wide rule view bytes x rest fits e =
     }
 
 -- ---- ids, dates and files
-
-pub all_bytes : (bytes : List ℕ) → IsBytes bytes → list_all (λ b. nat_lt b 256) bytes ≡ true
-all_bytes [] fits = refl
-all_bytes (b ∷ bytes) fits = and_from _ _ (lt-ltb b 256 (fits 0)) (all_bytes bytes (λ i. fits (suc i)))
 
 pub record IdRead (bytes : List ℕ) (x : Id) (rest : List ℕ) : Type 0 where
   pub took : Took bytes x rest

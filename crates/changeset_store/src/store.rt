@@ -2,6 +2,7 @@
 ghost use Rattle.std.specs.Prelude.{◌≡◌, ◌≤◌, ◌<◌, ◌+◌, ◌++◌, ◌∷◌, [], ◌↔◌, true, false, length, map, reverse, option_map, IsSome, IsNone, IsTrue, find, not, IsOk, OnOk, IfOk, IfSome};
 ghost use Rattle.std.specs.List.{AllByRecursion};
 ghost use Rattle.std.specs.Option.{option_and_then};
+ghost use Rattle.std.specs.Arc.{arc_value};
 ghost use Rattle.changeset_model.specs.Changeset as model;
 ghost use Rattle.history_model.specs.History as history;
 ghost use Rattle.history_model.specs.History.{with_id, each_id_once, changeset_of};
@@ -10,6 +11,7 @@ ghost use Rattle.history_model.specs.Pushrebase as pushrebase;
 ghost use Rattle.changeset_store.specs.Store.{number_in, known_at, changeset_at};
 ghost use Rattle.changeset_store.specs.Fork.{chain_at, fork_between, IsAncestor, IsFork};
 ghost use Rattle.changeset_store.specs.Numbers.{most};
+ghost use Rattle.changeset_store.specs.Shared.{values};
 
 use crate::fork::Fork;
 use ancestry::Chain;
@@ -18,15 +20,16 @@ use object_id::Id;
 use std::alloc::{AllocError, Global};
 use std::collections::HashMap;
 use std::marker::Model;
+use std::sync::Arc;
 
 /// The most known changesets.
 pub const MOST_CHANGESETS: usize = 2_147_483_648;
 
 /// The known changesets of a repository, each once, numbered from 0 in the order in which they came. All parents of a
-/// changeset came before it.
+/// changeset came before it. The changesets are shared, so that whoever holds some needs no copy.
 #[derive(Drop)]
 pub struct ChangesetStore {
-    commits: Vec<Commit>,
+    commits: Vec<Arc<Commit>>,
     numbers: HashMap<Id, u32>,
     chain: Chain,
 }
@@ -42,10 +45,11 @@ impl Model for ChangesetStore {
     ghost use Rattle.std.specs.Vec.{vec_len, vec_capacity};
     ghost use Rattle.std.specs.HashMap.{get, spare};
     ghost use Rattle.changeset_store.specs.Numbers.{known_of, room_beside, AreNumbers};
+    ghost use Rattle.changeset_store.specs.Shared.{values};
 
-    ghost view = { λ s. record { known = known_of s.commits.items; room = room_beside (vec_len s.commits) (vec_capacity s.commits) (spare s.numbers) s.chain.room } };
+    ghost view = { λ s. record { known = known_of (values s.commits.items); room = room_beside (vec_len s.commits) (vec_capacity s.commits) (spare s.numbers) s.chain.room } };
 
-    ghost invariant = { λ s. AreNumbers (reverse (known_of s.commits.items)) (λ x. get ⟦<Id as PartialEq>⟧.eq s.numbers (record { 0 = x })) s.chain.parents };
+    ghost invariant = { λ s. AreNumbers (reverse (known_of (values s.commits.items))) (λ x. get ⟦<Id as PartialEq>⟧.eq s.numbers x) s.chain.parents };
 }
 
 impl ChangesetStore {
@@ -82,17 +86,19 @@ impl ChangesetStore {
 
     /// The number of the changeset with this id.
     pub fn number_of(&self, id: &Id) -> Option<u32>
-        ensures number { result ≡ number_in self.now.known id.now.0 }
-        ensures known { IsSome result ↔ (history.is_known self.now.known id.now.0 ≡ true) }
+        ensures number { result ≡ number_in self.now.known id.now }
+        ensures known { IsSome result ↔ (history.is_known self.now.known id.now ≡ true) }
         ensures in_range { IfSome result (λ number. number < length self.now.known) }
-        ensures has_id { IfSome result (λ number. model.id_of (changeset_at self.now.known number) ≡ id.now.0) }
+        ensures has_id { IfSome result (λ number. model.id_of (changeset_at self.now.known number) ≡ id.now) }
+        // No two have one id.
+        ensures once { each_id_once self.now.known ≡ self.now.known }
     {
         self.numbers.get(id).copied()
     }
 
     /// Whether a changeset has this id.
     pub fn is_known(&self, id: &Id) -> bool
-        ensures { result ≡ history.is_known self.now.known id.now.0 }
+        ensures { result ≡ history.is_known self.now.known id.now }
     {
         self.numbers.contains_key(id)
     }
@@ -107,9 +113,10 @@ impl ChangesetStore {
 
     /// The changeset with this id.
     pub fn get(&self, id: &Id) -> Option<&Commit>
-        ensures found { option_map (λ c. c.now) result ≡ changeset_of self.now.known id.now.0 }
-        ensures known { IsSome result ↔ (history.is_known self.now.known id.now.0 ≡ true) }
-        ensures has_id { IfSome result (λ c. model.id_of c.now ≡ id.now.0) }
+        ensures found { option_map (λ c. c.now) result ≡ changeset_of self.now.known id.now }
+        ensures known { IsSome result ↔ (history.is_known self.now.known id.now ≡ true) }
+        ensures has_id { IfSome result (λ c. model.id_of c.now ≡ id.now) }
+        ensures once { each_id_once self.now.known ≡ self.now.known }
     {
         let number = self.number_of(id)?;
         Some(self.at(number))
@@ -134,7 +141,7 @@ impl ChangesetStore {
 
     /// The first parent that isn't known.
     pub fn unknown_parent<'a>(&self, commit: &'a Commit) -> Option<&'a Id>
-        ensures first { option_map (λ p. p.now.0) result ≡ find (λ p. not (history.is_known self.now.known p)) commit.now.parents }
+        ensures first { option_map (λ p. p.now) result ≡ find (λ p. not (history.is_known self.now.known p)) commit.now.parents }
         ensures none { IsNone result → AllByRecursion (λ p. history.is_known self.now.known p ≡ true) commit.now.parents }
     {
         let parents = commit.changeset().parents();
@@ -142,11 +149,11 @@ impl ChangesetStore {
     }
 
     /// Adds a changeset, and answers its number.
-    pub fn add(&mut self, commit: Commit) -> u32
+    pub fn add(&mut self, commit: Arc<Commit>) -> u32
         requires room { 0 < self.old.room }
-        requires new { history.is_known self.old.known (model.id_of commit) ≡ false }
-        requires parents { AllByRecursion (λ p. history.is_known self.old.known p ≡ true) commit.parents }
-        ensures known { self.new.known ≡ self.old.known ++ with_id commit ∷ [] }
+        requires new { history.is_known self.old.known (model.id_of (arc_value commit)) ≡ false }
+        requires parents { AllByRecursion (λ p. history.is_known self.old.known p ≡ true) (arc_value commit).parents }
+        ensures known { self.new.known ≡ self.old.known ++ with_id (arc_value commit) ∷ [] }
         ensures number { result ≡ length self.old.known }
         ensures room { self.old.room ≤ self.new.room + 1 }
     {
@@ -171,9 +178,9 @@ impl ChangesetStore {
     /// Where the chain of a draft parts from that of a head, if they have a changeset in common. It costs at most a step
     /// for each changeset from the two down to that one, and no memory.
     pub fn fork(&self, head: &Id, draft: &Id) -> Option<Fork>
-        requires head { history.is_known self.now.known head.now.0 ≡ true }
-        requires draft { history.is_known self.now.known draft.now.0 ≡ true }
-        ensures fork { option_map (fork_between self.now.known) result ≡ pushrebase.fork self.now.known head.now.0 draft.now.0 }
+        requires head { history.is_known self.now.known head.now ≡ true }
+        requires draft { history.is_known self.now.known draft.now ≡ true }
+        ensures fork { option_map (fork_between self.now.known) result ≡ pushrebase.fork self.now.known head.now draft.now }
         ensures is_fork { IfSome result (IsFork self.now.known) }
     {
         let head = self.number_of(head).unwrap();
@@ -214,6 +221,14 @@ impl ChangesetStore {
         self.following(alloc, fork.root, fork.head)
     }
 
+    /// The same, shared: it outlives the store's borrow.
+    pub fn shared_stack(&self, alloc: Global, fork: &Fork) -> Result<Vec<Arc<Commit>>, AllocError>
+        requires { IsFork self.now.known fork.now }
+        ensures { IfOk result (λ stack. values stack.items ≡ (fork_between self.now.known fork.now).stack) }
+    {
+        self.following_shared(alloc, fork.root, fork.draft)
+    }
+
     // How many changesets of the chain of a number follow an ancestor.
     fn distance(&self, ancestor: u32, last: u32) -> u32
         requires { IsAncestor self.now.known ancestor last }
@@ -241,5 +256,34 @@ impl ChangesetStore {
         }
         found.reverse();
         Ok(found)
+    }
+
+    // The same, shared.
+    fn following_shared(
+        &self,
+        alloc: Global,
+        ancestor: u32,
+        last: u32,
+    ) -> Result<Vec<Arc<Commit>>, AllocError>
+        requires { IsAncestor self.now.known ancestor last }
+        ensures { IfOk result (λ found. values found.items ≡ pushrebase.following (known_at self.now.known ancestor) (chain_at self.now.known last)) }
+    {
+        let count = self.chain.distance(ancestor, last);
+        let mut found = Vec::with_capacity(alloc, count as usize)?;
+        let mut number = last;
+        for _ in 0..count {
+            found.push_reserved(self.shared_at(number)?);
+            number = self.chain.parent(number).unwrap();
+        }
+        found.reverse();
+        Ok(found)
+    }
+
+    // The changeset of a number, shared.
+    fn shared_at(&self, number: u32) -> Result<Arc<Commit>, AllocError>
+        requires { number < length self.now.known }
+        ensures { IfOk result (λ shared. arc_value shared ≡ changeset_at self.now.known number) }
+    {
+        Arc::try_clone(&self.commits[number as usize])
     }
 }

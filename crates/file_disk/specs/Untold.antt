@@ -3,7 +3,7 @@ use Rattle.std.specs.Prelude.{ℕ, false, [], None, refl}
 use mathlib.Core.Bool.{true≢false}
 use Rattle.std.proofs.Common.{sym}
 use Rattle.disk_model.specs.Images.{holding}
-use Rattle.blob_disk.specs.Meaning.{Meaning, IsSound}
+use Rattle.disk_model.specs.Meaning.{Meaning, IsSound}
 
 abbrev pub untold : ℕ → Meaning
 untold faults = record { reads = None; state = holding []; past = None; moment = 0; faults = faults; quiet = None; honest = false }

@@ -1,8 +1,9 @@
 //! A disk over an open file.
-ghost use Rattle.std.specs.Prelude.{◌≡◌, None, false};
-ghost use Rattle.disk_model.specs.Images.{holding};
+ghost use Rattle.std.specs.Prelude.{◌≡◌, IfOk, OnOk, is_err};
+ghost use Rattle.ports.specs.Faults.{Counts};
 ghost use Rattle.file_disk.specs.Untold.{untold, untold_sound};
 
+use crate::tally::Tally;
 use blob_disk::{Disk, Failed};
 use std::fs::File;
 use std::os::unix::fs::FileExt;
@@ -12,7 +13,7 @@ use std::os::unix::fs::FileExt;
 #[derive(Drop)]
 pub struct FileDisk {
     file: File,
-    faults: u64,
+    calls: Tally,
 }
 
 impl FileDisk {
@@ -20,58 +21,38 @@ impl FileDisk {
     pub fn new(file: File) -> Self
         ensures { ⟦<Self as Disk>⟧.meaning result ≡ untold 0 }
     {
-        FileDisk { file, faults: 0 }
+        FileDisk {
+            file,
+            calls: Tally::new(),
+        }
     }
 }
 
 impl Disk for FileDisk {
-    ghost meaning = { λ d. untold d.faults };
+    ghost meaning = { λ d. untold d.calls.faults };
 
-    ghost sound = { λ d. untold_sound d.faults };
+    ghost sound = { λ d. untold_sound d.calls.faults };
 
     fn size(&mut self) -> Result<u64, Failed> {
-        match self.file.metadata() {
-            Ok(metadata) => Ok(metadata.len()),
-            Err(_) => {
-                self.faults = self.faults.saturating_add(1);
-                Err(Failed)
-            }
-        }
+        let metadata = self.calls.count(self.file.metadata())?;
+        Ok(metadata.len())
     }
 
     fn read_at(&mut self, at: u64, buf: &mut [u8]) -> Result<(), Failed> {
-        match self.file.read_exact_at(buf, at) {
-            Ok(()) => Ok(()),
-            Err(_) => {
-                self.faults = self.faults.saturating_add(1);
-                Err(Failed)
-            }
-        }
+        self.calls.count(self.file.read_exact_at(buf, at))
     }
 
     fn write_at(&mut self, at: u64, bytes: &[u8]) -> Result<(), Failed> {
-        match self.file.write_all_at(bytes, at) {
-            Ok(()) => Ok(()),
-            Err(_) => {
-                self.faults = self.faults.saturating_add(1);
-                Err(Failed)
-            }
-        }
+        self.calls.count(self.file.write_all_at(bytes, at))
     }
 
     /// An `fdatasync` of the file: its bytes, and the length that is needed to read them.
     fn sync(&mut self) -> Result<(), Failed> {
-        match self.file.sync_data() {
-            Ok(()) => Ok(()),
-            Err(_) => {
-                self.faults = self.faults.saturating_add(1);
-                Err(Failed)
-            }
-        }
+        self.calls.count(self.file.sync_data())
     }
 
     fn faults(&self) -> u64 {
-        self.faults
+        self.calls.faults()
     }
 
     fn moment(&self) -> u64 {

@@ -3,9 +3,7 @@
 
 pub mod disk;
 pub mod opener;
+mod tally;
 
 pub use disk::FileDisk;
 pub use opener::FileOpener;
-
-#[cfg(test)]
-mod tests;

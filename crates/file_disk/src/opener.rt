@@ -2,15 +2,17 @@
 ghost use Rattle.std.specs.Prelude.{◌≡◌, None};
 
 use crate::disk::FileDisk;
+use crate::tally::Tally;
 use ports::{Failed, Opener};
 use std::fs::{File, OpenOptions};
 use std::rt::Files;
 
-/// Opens files by their paths. It counts its failures, and tells nothing of the files.
+/// Opens files by their paths, and makes one only where that is asked for. It counts its failures,
+/// and tells nothing of the files.
 #[derive(Drop)]
 pub struct FileOpener<R> {
     rt: R,
-    faults: u64,
+    calls: Tally,
 }
 
 impl<R: Files<File = File>> FileOpener<R> {
@@ -18,12 +20,15 @@ impl<R: Files<File = File>> FileOpener<R> {
     pub fn new(rt: R) -> Self
         ensures { ⟦<Self as Opener<FileDisk>>⟧.faults result ≡ 0 }
     {
-        FileOpener { rt, faults: 0 }
+        FileOpener {
+            rt,
+            calls: Tally::new(),
+        }
     }
 }
 
 impl<R: Files<File = File>> Opener<FileDisk> for FileOpener<R> {
-    ghost faults = { λ o. o.faults };
+    ghost faults = { λ o. o.calls.faults };
 
     ghost shelf = { λ o. None };
 
@@ -33,12 +38,6 @@ impl<R: Files<File = File>> Opener<FileDisk> for FileOpener<R> {
             .write(true)
             .create(create)
             .open(&self.rt, name);
-        match opened {
-            Ok(file) => Ok(FileDisk::new(file)),
-            Err(_) => {
-                self.faults = self.faults.saturating_add(1);
-                Err(Failed)
-            }
-        }
+        Ok(FileDisk::new(self.calls.count(opened)?))
     }
 }

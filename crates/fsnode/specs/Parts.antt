@@ -4,7 +4,7 @@
 use Rattle.std.specs.Prelude.{ℕ, List, map}
 use Rattle.std.specs.Global.{Vec}
 use Rattle.manifest_model.specs.Fsnode.{Summary, FsEntry, FsFile, FsDir, Fsnode}
-use Rattle.node_fields.specs.Views.{kind_seen}
+use Rattle.file_kind.specs.Kinds.{kind_view}
 use Rattle.fsnode.specs.declared.summary.Summary.{Summary as RustSummary}
 use Rattle.fsnode.specs.declared.entry.FsEntry.{FsEntry as RustEntry}
 use Rattle.fsnode.specs.declared.entry.FsEntry.TheVariants as entries
@@ -20,8 +20,8 @@ summary_seen s = record {
 }
 
 abbrev pub entry_seen : RustEntry → FsEntry
-entry_seen (entries.File content kind size) = FsFile (record { content = content.0; kind = kind_seen kind; size = size })
-entry_seen (entries.Directory id summary) = FsDir id.0 (summary_seen summary)
+entry_seen (entries.File content kind size) = FsFile (record { content = content; kind = kind_view kind; size = size })
+entry_seen (entries.Directory id summary) = FsDir id (summary_seen summary)
 
 abbrev pub child_seen : FsChild → List ℕ × FsEntry
 child_seen c = (c.name, entry_seen c.entry)

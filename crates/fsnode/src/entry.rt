@@ -1,7 +1,8 @@
 //! What a directory has under a name.
 
 use crate::summary::Summary;
-use node_fields::{FileKind, Name};
+use file_kind::FileKind;
+use node_fields::Name;
 use object_id::Id;
 
 /// A file or a directory.

@@ -13,6 +13,3 @@ pub use node::Fsnode;
 pub use reading::decode;
 pub use summary::Summary;
 pub use writing::encode;
-
-#[cfg(test)]
-mod tests;

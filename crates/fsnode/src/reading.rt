@@ -2,20 +2,22 @@
 ghost use Rattle.std.specs.Prelude.{◌≡◌, ◌&&◌, true, None, Ok, Err, IfOk, IfErr, length};
 ghost use Rattle.std.specs.Option.{option_copied};
 ghost use Rattle.byte_fields.specs.Gives.{Gives};
+ghost use Rattle.byte_fields.specs.Reads.{Reads};
 ghost use Rattle.changeset_model.specs.Path.{is_element};
 ghost use Rattle.manifest_model.specs.Fsnode.{Fsnode as ModelFsnode, fsnode_bytes, is_fsnode};
 ghost use Rattle.manifest_model.specs.NodeReading.{summary_fields, summary as summary_field, fs_entry, fs_entry_of, entry, entries, fsnode_fields, fsnode_of};
-ghost use Rattle.node_fields.specs.Answers.{GivesInMemory, DecodesTo};
+ghost use Rattle.node_fields.specs.Answers.{DecodesTo};
 ghost use Rattle.fsnode.specs.Parts.{summary_seen, entry_seen, children_seen, fsnode_of_parts};
 ghost use Rattle.fsnode.specs.Views.{fsnode_seen};
 
 use crate::entry::{FsChild, FsEntry};
 use crate::node::Fsnode;
 use crate::summary::Summary;
-use byte_fields::BadField;
-use byte_fields::fields::{id_at, u32_at, u64_at};
-use node_fields::field::{bad_node, below_at, exactly_at, name_at};
-use node_fields::{FileKind, Name, NodeFault, ReadFault};
+use byte_fields::fields::{exactly_at, id_at, u8_below, u32_at, u64_at};
+use byte_fields::{BadField, FieldFault};
+use file_kind::kind_at;
+use node_fields::field::{bad_node, name_at};
+use node_fields::{Name, NodeFault};
 use object_id::Id;
 use std::alloc::Global;
 
@@ -40,14 +42,14 @@ fn node_of(alloc: Global, bytes: &[u8]) -> Result<Fsnode, NodeFault>
     match parts_at(alloc, bytes) {
         Ok(((summary, entries), [])) => Ok(Fsnode { summary, entries }),
         Ok((_, rest)) => Err(bad_node(bytes, rest.len())),
-        Err(ReadFault::Field(bad)) => Err(bad_node(bytes, bad.left)),
-        Err(ReadFault::Memory) => Err(NodeFault::Memory),
+        Err(FieldFault::Bad { left }) => Err(bad_node(bytes, left)),
+        Err(FieldFault::Memory) => Err(NodeFault::Memory),
     }
 }
 
 // An fsnode by its fields.
-fn parts_at(alloc: Global, bytes: &[u8]) -> Result<((Summary, Vec<FsChild>), &[u8]), ReadFault>
-    ensures { GivesInMemory (λ x. (fsnode_of_parts x.0.0 x.0.1, x.1.now)) result (fsnode_fields bytes.now) }
+fn parts_at(alloc: Global, bytes: &[u8]) -> Result<((Summary, Vec<FsChild>), &[u8]), FieldFault>
+    ensures { Reads (λ x. (fsnode_of_parts x.0.0 x.0.1, x.1.now)) result (fsnode_fields bytes.now) }
 {
     let rest = exactly_at(bytes, 0x46)?;
     let rest = exactly_at(rest, 1)?;
@@ -58,15 +60,18 @@ fn parts_at(alloc: Global, bytes: &[u8]) -> Result<((Summary, Vec<FsChild>), &[u
 }
 
 // A number of entries.
-fn entries_at(alloc: Global, count: u32, bytes: &[u8]) -> Result<(Vec<FsChild>, &[u8]), ReadFault>
-    ensures { GivesInMemory (λ x. (children_seen x.0.items, x.1.now)) result (entries fs_entry count None bytes.now) }
+fn entries_at(alloc: Global, count: u32, bytes: &[u8]) -> Result<(Vec<FsChild>, &[u8]), FieldFault>
+    ensures { Reads (λ x. (children_seen x.0.items, x.1.now)) result (entries fs_entry count None bytes.now) }
 {
     let room = (bytes.len() / SHORTEST_ENTRY).min(count as usize);
     let mut children = Vec::with_capacity(alloc, room)?;
     let mut rest = bytes;
     let mut before = None;
     for _ in 0..count {
-        let ((name, entry), after) = named_at(rest, before)?;
+        let ((name, entry), after) = match named_at(rest, before) {
+            Ok(read) => read,
+            Err(fault) => return Err(fault.into()),
+        };
         let name_copy = Name::copy_of(alloc, name)?;
         children.push(FsChild {
             name: name_copy,
@@ -87,14 +92,16 @@ fn named_at<'a>(
     ensures element { IfOk result (λ x. is_element x.0.0.now ≡ true) }
 {
     let (name, rest) = name_at(bytes, before)?;
-    let (entry, rest) = entry_at(rest)?;
-    Ok(((name, entry), rest))
+    match entry_at(rest) {
+        Ok((entry, rest)) => Ok(((name, entry), rest)),
+        Err(fault) => Err(fault),
+    }
 }
 
 fn entry_at(bytes: &[u8]) -> Result<(FsEntry, &[u8]), BadField>
     ensures { Gives (λ x. (entry_seen x.0, x.1.now)) result (fs_entry bytes.now) }
 {
-    let (tag, rest) = below_at(bytes, 2)?;
+    let (tag, rest) = u8_below(bytes, 2)?;
     if tag == 0 {
         file_at(rest)
     } else {
@@ -105,12 +112,12 @@ fn entry_at(bytes: &[u8]) -> Result<(FsEntry, &[u8]), BadField>
 fn file_at(bytes: &[u8]) -> Result<(FsEntry, &[u8]), BadField>
     ensures { Gives (λ x. (entry_seen x.0, x.1.now)) result (fs_entry_of 0 bytes.now) }
 {
-    let (kind, rest) = below_at(bytes, 3)?;
+    let (kind, rest) = kind_at(bytes)?;
     let (size, rest) = u64_at(rest)?;
     let (content, rest) = id_at(rest)?;
     let file = FsEntry::File {
-        content: Id(content),
-        kind: FileKind::of_byte(kind),
+        content: Id::from_bytes(content),
+        kind,
         size,
     };
     Ok((file, rest))
@@ -122,7 +129,7 @@ fn directory_at(bytes: &[u8]) -> Result<(FsEntry, &[u8]), BadField>
     let (id, rest) = id_at(bytes)?;
     let (summary, rest) = summary_at(rest)?;
     let directory = FsEntry::Directory {
-        id: Id(id),
+        id: Id::from_bytes(id),
         summary,
     };
     Ok((directory, rest))

@@ -67,11 +67,11 @@ fn put_entry(out: &mut Vec<u8>, entry: &FsEntry) -> Result<(), AllocError>
             out.push(0)?;
             out.push(kind.to_byte())?;
             out.extend_from_slice(&size.to_be_bytes())?;
-            out.extend_from_slice(&content.0)?;
+            out.extend_from_slice(content.as_bytes())?;
         }
         FsEntry::Directory { id, summary } => {
             out.push(1)?;
-            out.extend_from_slice(&id.0)?;
+            out.extend_from_slice(id.as_bytes())?;
             put_summary(out, summary)?;
         }
     }

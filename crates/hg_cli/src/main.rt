@@ -1,29 +1,26 @@
 //! The program: `hg_cli session FILE` serves one HTTP connection on standard input and output.
 #![tactic(auto)]
 
-mod run;
-#[cfg(test)]
-mod tests;
-
+use command_line::{refuse_words, run};
 use net_ports::{ReaderSource, WriterSink};
-use run::run;
-use std::env;
 use std::process::ExitCode;
+use std::{env, io};
+
+// The words of the command line, the program's name first.
+fn words(rt: &HostRuntime) -> io::Result<Vec<String>> {
+    let mut words = Vec::new(rt.alloc());
+    for word in env::args(rt)? {
+        words.push(word)?;
+    }
+    Ok(words)
+}
 
 fn main(rt: HostRuntime) -> ExitCode {
-    let alloc = rt.alloc();
-    let mut words = Vec::new(alloc);
-    // A word that is no text makes a faulty command line, as no words at all do.
-    if let Ok(given) = env::args(&rt) {
-        for word in given {
-            if words.push(word).is_err() {
-                words.clear();
-                break;
-            }
-        }
-    }
     let mut source = ReaderSource::new(rt.stdin());
     let mut sink = WriterSink::new(rt.stdout());
-    let ran = run(alloc, words.as_slice(), &mut source, &mut sink);
+    let ran = match words(&rt) {
+        Ok(words) => run(rt.alloc(), words.as_slice(), &mut source, &mut sink),
+        Err(error) => refuse_words(error.kind(), &mut sink),
+    };
     ExitCode::from(ran.status.code())
 }

@@ -9,19 +9,20 @@ use Rattle.history_model.specs.Journal.{Header}
 use Rattle.reply_model.specs.Reply as reply
 use Rattle.reply_model.specs.Reply.{Ask, Question, Absent, Sees}
 use Rattle.reply_model.specs.After.{Answer, Call, Asks, Looks, Refuses, Shows, Lacks, Memory, Replies, nothing, entries_of}
-use Rattle.repo_machine.specs.declared.refusal.Refusal as machine
-use Rattle.repo_machine.specs.declared.refusal.Refusal.TheVariants as refusals
-use Rattle.repo_machine.specs.Answering.{refused, id_seen}
+use Rattle.repo_calls.specs.declared.refusal.Refusal as calls
+use Rattle.repo_calls.specs.declared.refusal.Refusal.TheVariants as refusals
+use Rattle.repo_calls.specs.Calls.{refused}
 use Rattle.session_model.specs.Responses.{Response, text_of}
 use Rattle.session_model.specs.Bodies.{memory}
 use Rattle.http_model.specs.Stream.{Request, is_head_only}
 use Rattle.session_model.specs.Asking as model
 use Rattle.session_model.specs.Asking.{Asked, asked, change_response, read_response, seen, absent}
 use Rattle.session_model.specs.Session.{Answers, AnswersAsked, AnswersAlone}
-use Rattle.routes.specs.declared.failure.Failure.{Failure}
-use Rattle.routes.specs.declared.failure.Failure.TheVariants as failures
+use Rattle.routes.specs.declared.route_refusal.RouteRefusal.{RouteRefusal}
+use Rattle.routes.specs.declared.route_refusal.RouteRefusal.TheVariants as route_refusals
 use Rattle.routes.specs.Failed.{failed, unless_memory}
 use Rattle.repo_text.specs.Refusing.{response_to}
+use Rattle.repo_text.proofs.Answered.{change_response-refused}
 use Rattle.http_front.specs.Answered.{AnswersAs, AnswersFor}
 use Rattle.http_front.specs.Reading.{spelled_or_absent, changeset_shown, log_shown}
 
@@ -33,17 +34,18 @@ refused_keeps header h who ask refusal after r = r.new_is ∙ ap (λ m. h ++ ent
 memory_keeps : (header : Header) (h : List Entry) (who : ℕ) (ask : Ask) (after : List Entry) → Replies header h who (Asks ask) Memory after → after ≡ h
 memory_keeps header h who ask after r = r.new_is ∙ ap (λ m. h ++ entries_of who m) r.answers ∙ append-nil h
 
-same_history : (header : Header) (h : List Entry) (who : ℕ) (ask : Ask) (refusal : machine.Refusal) (after : List Entry) → Replies header h who (Asks ask) (refused refusal) after → after ≡ h
+pub same_history : (header : Header) (h : List Entry) (who : ℕ) (ask : Ask) (refusal : calls.Refusal) (after : List Entry) → Replies header h who (Asks ask) (refused refusal) after → after ≡ h
+same_history header h who ask refusals.Down after r = refused_keeps header h who ask reply.Down after r
 same_history header h who ask (refusals.TooLong n) after r = refused_keeps header h who ask (reply.TooLong n) after r
 same_history header h who ask (refusals.BadEncoding at) after r = refused_keeps header h who ask (reply.BadEncoding at) after r
 same_history header h who ask (refusals.SelfConflict short long) after r = refused_keeps header h who ask (reply.SelfConflict short long) after r
 same_history header h who ask refusals.Merge after r = refused_keeps header h who ask reply.Merge after r
-same_history header h who ask (refusals.NoParent x) after r = refused_keeps header h who ask (reply.NoParent x.0) after r
-same_history header h who ask (refusals.NoContent p x) after r = refused_keeps header h who ask (reply.NoContent p x.0) after r
+same_history header h who ask (refusals.NoParent x) after r = refused_keeps header h who ask (reply.NoParent x) after r
+same_history header h who ask (refusals.NoContent p x) after r = refused_keeps header h who ask (reply.NoContent p x) after r
 same_history header h who ask (refusals.WrongSize p wanted found) after r = refused_keeps header h who ask (reply.WrongSize p wanted found) after r
-same_history header h who ask (refusals.Collision x) after r = refused_keeps header h who ask (reply.Collision x.0) after r
-same_history header h who ask (refusals.NoChangeset x) after r = refused_keeps header h who ask (reply.NoChangeset x.0) after r
-same_history header h who ask (refusals.Moved found) after r = refused_keeps header h who ask (reply.Moved (id_seen found)) after r
+same_history header h who ask (refusals.Collision x) after r = refused_keeps header h who ask (reply.Collision x) after r
+same_history header h who ask (refusals.NoChangeset x) after r = refused_keeps header h who ask (reply.NoChangeset x) after r
+same_history header h who ask (refusals.Moved found) after r = refused_keeps header h who ask (reply.Moved found) after r
 same_history header h who ask refusals.NoBookmark after r = refused_keeps header h who ask reply.NoBookmark after r
 same_history header h who ask refusals.NoRoot after r = refused_keeps header h who ask reply.NoRoot after r
 same_history header h who ask (refusals.TooFarBehind n) after r = refused_keeps header h who ask (reply.TooFarBehind n) after r
@@ -54,34 +56,13 @@ same_history header h who ask (refusals.TooLarge n) after r = refused_keeps head
 same_history header h who ask (refusals.Full size n) after r = refused_keeps header h who ask (reply.Full size n) after r
 same_history header h who ask refusals.Memory after r = memory_keeps header h who ask after r
 
-same_response : (ask : Ask) (refusal : machine.Refusal) → change_response ask (refused refusal) ≡ response_to refusal
-same_response ask (refusals.TooLong n) = refl
-same_response ask (refusals.BadEncoding at) = refl
-same_response ask (refusals.SelfConflict short long) = refl
-same_response ask refusals.Merge = refl
-same_response ask (refusals.NoParent x) = refl
-same_response ask (refusals.NoContent p x) = refl
-same_response ask (refusals.WrongSize p wanted found) = refl
-same_response ask (refusals.Collision x) = refl
-same_response ask (refusals.NoChangeset x) = refl
-same_response ask (refusals.Moved found) = refl
-same_response ask refusals.NoBookmark = refl
-same_response ask refusals.NoRoot = refl
-same_response ask (refusals.TooFarBehind n) = refl
-same_response ask refusals.AlreadyIn = refl
-same_response ask (refusals.StackTooLong n) = refl
-same_response ask (refusals.Clash left right) = refl
-same_response ask (refusals.TooLarge n) = refl
-same_response ask (refusals.Full size n) = refl
-same_response ask refusals.Memory = refl
-
 -- a change that is refused is answered by its refusal, or by want of memory
-pub refusal_answers : (header : Header) (h : List Entry) (who : ℕ) (ask : Ask) (refusal : machine.Refusal) (close head_only : Bool) (text : List ℕ) (after : List Entry)
+pub refusal_answers : (header : Header) (h : List Entry) (who : ℕ) (ask : Ask) (refusal : calls.Refusal) (close head_only : Bool) (text : List ℕ) (after : List Entry)
     → Replies header h who (Asks ask) (refused refusal) after
     → ((text ≡ text_of (response_to refusal) close head_only) ⊎ (text ≡ text_of memory close head_only))
     → AnswersAs header who h (Asks ask) (change_response ask) close head_only text after
 refusal_answers header h who ask refusal close head_only text after replies (inl e) =
-    inl (record { answer = refused refusal; replies = replies; text = e ∙ ap (λ r. text_of r close head_only) (sym (same_response ask refusal)) })
+    inl (record { answer = refused refusal; replies = replies; text = e ∙ ap (λ r. text_of r close head_only) (sym (change_response-refused ask refusal)) })
 refusal_answers header h who ask refusal close head_only text after replies (inr e) = inr (record { same = same_history header h who ask refusal after replies; text = e })
 
 -- ---- reads
@@ -135,10 +116,10 @@ pub asked_answers : (header : Header) (h : List Entry) (who : ℕ) (q : Request)
 asked_answers header h who q a text after asks answers =
     subst (λ b. AnswersAsked header who h b q text after ⊎ AnswersAlone h q memory text after) (sym asks) (answered_for header h who q a text after answers)
 
-failure_asked : (header : Header) (h : List Entry) (who : ℕ) (q : Request) (r : Response) (text : List ℕ)
+route_refusal_asked : (header : Header) (h : List Entry) (who : ℕ) (q : Request) (r : Response) (text : List ℕ)
     → asked q ≡ model.Fails r → ((text ≡ text_of r q.close (is_head_only q)) ⊎ (text ≡ text_of memory q.close (is_head_only q))) → Answers header who h q text h
-failure_asked header h who q r text asks (inl e) = inl (subst (λ b. AnswersAsked header who h b q text h) (sym asks) (record { same = refl; text = e }))
-failure_asked header h who q r text asks (inr e) = inr (record { same = refl; text = e })
+route_refusal_asked header h who q r text asks (inl e) = inl (subst (λ b. AnswersAsked header who h b q text h) (sym asks) (record { same = refl; text = e }))
+route_refusal_asked header h who q r text asks (inr e) = inr (record { same = refl; text = e })
 
 without_memory : (header : Header) (h : List Entry) (who : ℕ) (q : Request) (text : List ℕ)
     → ((text ≡ text_of memory q.close (is_head_only q)) ⊎ (text ≡ text_of memory q.close (is_head_only q))) → Answers header who h q text h
@@ -146,12 +127,12 @@ without_memory header h who q text (inl e) = inr (record { same = refl; text = e
 without_memory header h who q text (inr e) = inr (record { same = refl; text = e })
 
 -- a request that asks for nothing is answered by why
-pub failure_answers : (header : Header) (h : List Entry) (who : ℕ) (q : Request) (failure : Failure) (text : List ℕ)
-    → unless_memory failure (asked q ≡ model.Fails (failed failure)) → ((text ≡ text_of (failed failure) q.close (is_head_only q)) ⊎ (text ≡ text_of memory q.close (is_head_only q))) → Answers header who h q text h
-failure_answers header h who q failures.BadTarget text asks e = failure_asked header h who q (failed failures.BadTarget) text asks e
-failure_answers header h who q failures.NoRoute text asks e = failure_asked header h who q (failed failures.NoRoute) text asks e
-failure_answers header h who q (failures.Method m) text asks e = failure_asked header h who q (failed (failures.Method m)) text asks e
-failure_answers header h who q (failures.BadName at) text asks e = failure_asked header h who q (failed (failures.BadName at)) text asks e
-failure_answers header h who q (failures.BadId at) text asks e = failure_asked header h who q (failed (failures.BadId at)) text asks e
-failure_answers header h who q failures.BadNumber text asks e = failure_asked header h who q (failed failures.BadNumber) text asks e
-failure_answers header h who q failures.Memory text asks e = without_memory header h who q text e
+pub route_refusal_answers : (header : Header) (h : List Entry) (who : ℕ) (q : Request) (refusal : RouteRefusal) (text : List ℕ)
+    → unless_memory refusal (asked q ≡ model.Fails (failed refusal)) → ((text ≡ text_of (failed refusal) q.close (is_head_only q)) ⊎ (text ≡ text_of memory q.close (is_head_only q))) → Answers header who h q text h
+route_refusal_answers header h who q route_refusals.BadTarget text asks e = route_refusal_asked header h who q (failed route_refusals.BadTarget) text asks e
+route_refusal_answers header h who q route_refusals.NoRoute text asks e = route_refusal_asked header h who q (failed route_refusals.NoRoute) text asks e
+route_refusal_answers header h who q (route_refusals.Method m) text asks e = route_refusal_asked header h who q (failed (route_refusals.Method m)) text asks e
+route_refusal_answers header h who q (route_refusals.BadName at) text asks e = route_refusal_asked header h who q (failed (route_refusals.BadName at)) text asks e
+route_refusal_answers header h who q (route_refusals.BadId at) text asks e = route_refusal_asked header h who q (failed (route_refusals.BadId at)) text asks e
+route_refusal_answers header h who q route_refusals.BadNumber text asks e = route_refusal_asked header h who q (failed route_refusals.BadNumber) text asks e
+route_refusal_answers header h who q route_refusals.Memory text asks e = without_memory header h who q text e

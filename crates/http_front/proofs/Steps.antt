@@ -6,7 +6,7 @@ use Rattle.std.proofs.lemmas.List.{append-nil, take-append-drop, length-take-le}
 use mathlib.Core.List.{IsPrefix}
 use Rattle.history_model.specs.History.{Entry}
 use Rattle.history_model.specs.Journal.{Header}
-use Rattle.http_model.specs.declared.refusal.Refusal.{Refusal}
+use Rattle.http_model.specs.declared.head_refusal.HeadRefusal.{HeadRefusal}
 use Rattle.http_model.specs.Refusals.{status_of}
 use Rattle.http_model.specs.Stream.{Request, Whole, Partial, Refuses, Begins, skip_blank}
 use Rattle.http_model.specs.Session as http
@@ -107,6 +107,7 @@ without_memory from end after (Cut_text e puts) =
       ends = record {
         requests = [];
         took = inl ([], takes_none []);
+        few = omega arith;
         texts = [];
         serves = refl;
         last = closing_memory ∷ [];
@@ -117,6 +118,10 @@ without_memory from end after (Cut_text e puts) =
     })
 
 module _ (from : Start) (g : List Entry) (rest written : Option (List ℕ)) (held : List ℕ) (budget : ℕ) (now : Going from g rest written held budget) where
+  -- no more was read than may be
+  few : length now.read ≤ http.most_read
+  few = let all = now.may_read in omega arith
+
   all_texts : (text : List ℕ) (after : Option (List ℕ)) → Puts text written after → Puts (concat (now.texts ++ text ∷ [])) from.written after
   all_texts text after puts = subst (λ l. Puts l from.written after) (sym (concat-push now.texts text)) (puts_then (concat now.texts) text from.written written after now.emits puts)
 
@@ -146,7 +151,7 @@ module _ (from : Start) (g : List Entry) (rest written : Option (List ℕ)) (hel
     emits = all_texts text after puts;
     ends = record {
       requests = now.requests ++ q ∷ [];
-      told = ends_closed now.read now.requests held q left now.takes begins close;
+      told = ends_closed now.read now.requests held q left now.takes begins close few;
       texts = now.texts ++ text ∷ [];
       serves = serves_more from.header from.who from.history g k now.requests now.texts q text now.serves answers;
       last = [];
@@ -168,6 +173,7 @@ module _ (from : Start) (g : List Entry) (rest written : Option (List ℕ)) (hel
         ends = record {
           requests = now.requests ++ q ∷ [];
           took = inr (now.requests, q, left, refl, (held, now.takes, begins));
+          few = few;
           texts = now.texts ++ text ∷ [];
           serves = serves_more from.header from.who from.history g k now.requests now.texts q text now.serves answers;
           last = [];
@@ -178,7 +184,7 @@ module _ (from : Start) (g : List Entry) (rest written : Option (List ℕ)) (hel
       }
 
   -- no message can begin here, and that was written
-  pub refuses : (refusal : Refusal) (status : ℕ) (after : Option (List ℕ)) → Begins held (Refuses refusal) → status ≡ status_of refusal → Puts (closing refusal) written after → Finished from g rest after (ended.Refused status)
+  pub refuses : (refusal : HeadRefusal) (status : ℕ) (after : Option (List ℕ)) → Begins held (Refuses refusal) → status ≡ status_of refusal → Puts (closing refusal) written after → Finished from g rest after (ended.Refused status)
   refuses refusal status after begins e puts = record {
     read = now.read;
     out = concat (now.texts ++ closing refusal ∷ []);
@@ -186,7 +192,7 @@ module _ (from : Start) (g : List Entry) (rest written : Option (List ℕ)) (hel
     emits = all_texts (closing refusal) after puts;
     ends = record {
       requests = now.requests;
-      told = subst (λ n. http.Requests now.read now.requests (http.Refused n)) (sym e) (ends_refused now.read now.requests held refusal now.takes begins);
+      told = subst (λ n. http.Requests now.read now.requests (http.Refused n)) (sym e) (ends_refused now.read now.requests held refusal now.takes begins few);
       texts = now.texts;
       serves = now.serves;
       last = closing refusal ∷ [];
@@ -197,7 +203,7 @@ module _ (from : Start) (g : List Entry) (rest written : Option (List ℕ)) (hel
   }
 
   -- the link fails under the closing text
-  pub cut_refusal : (refusal : Refusal) (after : Option (List ℕ)) → Begins held (Refuses refusal) → PutsFront (closing refusal) written after → Finished from g rest after ended.LinkFault
+  pub cut_refusal : (refusal : HeadRefusal) (after : Option (List ℕ)) → Begins held (Refuses refusal) → PutsFront (closing refusal) written after → Finished from g rest after ended.LinkFault
   cut_refusal refusal after begins puts =
       let part = a_front (closing refusal) written after puts in
       record {
@@ -208,6 +214,7 @@ module _ (from : Start) (g : List Entry) (rest written : Option (List ℕ)) (hel
         ends = record {
           requests = now.requests;
           took = inl (held, now.takes);
+          few = few;
           texts = now.texts;
           serves = now.serves;
           last = closing refusal ∷ [];
@@ -227,6 +234,7 @@ module _ (from : Start) (g : List Entry) (rest written : Option (List ℕ)) (hel
     ends = record {
       requests = now.requests;
       took = inl (held, now.takes);
+      few = few;
       texts = now.texts;
       serves = now.serves;
       last = [];

@@ -9,7 +9,6 @@ use Rattle.std.specs.Prelude.{◌≡◌, ℕ, ◌+◌, List, [], ◌++◌, lengt
 use Rattle.std.specs.List.{concat}
 use Rattle.history_model.specs.History.{Entry}
 use Rattle.history_model.specs.Journal.{Header}
-use Rattle.history_model.specs.Repository.{Repository}
 use Rattle.http_model.specs.Stream.{Request}
 use Rattle.http_model.specs.Session as http
 use Rattle.ports.specs.Streams.{Puts}
@@ -79,10 +78,10 @@ pub record Finished (from : Start) (h : List Entry) (rest written : Option (List
   pub drained : Drains end rest
 
 -- a session after a turn: it goes on, or has ended
-abbrev pub Goes : Start → Repository → Option (List ℕ) → Option (List ℕ) → List ℕ → ℕ → Option Ended → Type 0
-Goes from new left kept more may_read result = MatchOption result (Going from new.history left kept more may_read) (Finished from new.history left kept)
+abbrev pub Goes : Start → List Entry → Option (List ℕ) → Option (List ℕ) → List ℕ → ℕ → Option Ended → Type 0
+Goes from h left kept more may_read result = MatchOption result (Going from h left kept more may_read) (Finished from h left kept)
 
 -- what one turn does to a session that goes on
-abbrev pub TurnGoes : ℕ → Repository → Repository → Option (List ℕ) → Option (List ℕ) → Option (List ℕ) → Option (List ℕ) → List ℕ → ℕ → List ℕ → ℕ → Option Ended → Type 0
-TurnGoes who old new rest left written kept held budget more may_read result =
-    (from : Start) → from.header ≡ old.header → from.who ≡ who → Going from old.history rest written held budget → Goes from new left kept more may_read result
+abbrev pub TurnGoes : Header → ℕ → List Entry → List Entry → Option (List ℕ) → Option (List ℕ) → Option (List ℕ) → Option (List ℕ) → List ℕ → ℕ → List ℕ → ℕ → Option Ended → Type 0
+TurnGoes header who front next rest left written kept held budget more may_read result =
+    (from : Start) → from.header ≡ header → from.who ≡ who → Going from front rest written held budget → Goes from next left kept more may_read result

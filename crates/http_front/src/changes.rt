@@ -1,100 +1,104 @@
 //! The answers to changes.
 ghost use Rattle.std.specs.Prelude.{◌≡◌};
 ghost use Rattle.reply_model.specs.Legal.{IsLegal};
+ghost use Rattle.session_model.specs.Faults.{fault_count};
 ghost use Rattle.reply_model.specs.Reply.{PutContent, PutChangeset, SetBookmark, LandDraft};
 ghost use Rattle.reply_model.specs.After.{Asks};
 ghost use Rattle.session_model.specs.Asking.{change_response};
-ghost use Rattle.repo_machine.specs.Answering.{id_seen};
 ghost use Rattle.http_front.specs.Answered.{AnswersAs};
 
 use crate::refusing::put_refusal;
-use crate::room::{Form, Room};
+use crate::response_buffer::{ResponseBuffer, ResponseForm};
 use object_id::Id;
 use repo_machine::Machine;
 use repo_path::BookName;
 use std::alloc::Global;
 
-/// Stores a content for the seat `who`. The text of the response is in the room then.
+/// Stores a content for the seat `who`. The text of the response is in the buffer then.
 pub(crate) fn put_content(
     alloc: Global,
     who: u64,
     machine: &mut Machine,
-    room: &mut Room,
+    buffer: &mut ResponseBuffer,
     bytes: &[u8],
-    form: Form,
+    form: ResponseForm,
 )
-    ensures answers { AnswersAs machine.old.header who machine.old.history (Asks (PutContent bytes.now)) (change_response (PutContent bytes.now)) form.close form.head_only room.new machine.new.history }
+    ensures answers { AnswersAs machine.old.header who machine.old.history (Asks (PutContent bytes.now)) (change_response (PutContent bytes.now)) form.close form.head_only buffer.new machine.new.history }
     ensures header { machine.new.header ≡ machine.old.header }
+    ensures faultless { fault_count machine.new.history ≡ fault_count machine.old.history }
     ensures legal { IsLegal machine.new.header machine.new.history }
 {
-    match machine.put_content(who, bytes) {
-        Ok(id) => room.put_content(&id, bytes.len(), form),
-        Err(refusal) => put_refusal(alloc, room, &refusal, form),
+    match machine.put_content(alloc, who, bytes) {
+        Ok(id) => buffer.put_content(&id, bytes.len(), form),
+        Err(refusal) => put_refusal(alloc, buffer, &refusal, form),
     }
 }
 
-/// Stores a changeset for the seat `who`. The text of the response is in the room then.
+/// Stores a changeset for the seat `who`. The text of the response is in the buffer then.
 pub(crate) fn put_changeset(
     alloc: Global,
     who: u64,
     machine: &mut Machine,
-    room: &mut Room,
+    buffer: &mut ResponseBuffer,
     bytes: &[u8],
-    form: Form,
+    form: ResponseForm,
 )
-    ensures answers { AnswersAs machine.old.header who machine.old.history (Asks (PutChangeset bytes.now)) (change_response (PutChangeset bytes.now)) form.close form.head_only room.new machine.new.history }
+    ensures answers { AnswersAs machine.old.header who machine.old.history (Asks (PutChangeset bytes.now)) (change_response (PutChangeset bytes.now)) form.close form.head_only buffer.new machine.new.history }
     ensures header { machine.new.header ≡ machine.old.header }
+    ensures faultless { fault_count machine.new.history ≡ fault_count machine.old.history }
     ensures legal { IsLegal machine.new.header machine.new.history }
 {
     match machine.put_changeset(alloc, who, bytes) {
-        Ok(id) => room.put_changeset(&id, form),
-        Err(refusal) => put_refusal(alloc, room, &refusal, form),
+        Ok(id) => buffer.put_changeset(&id, form),
+        Err(refusal) => put_refusal(alloc, buffer, &refusal, form),
     }
 }
 
 /// Where a bookmark is to move from, and to where.
 #[derive(Clone, Copy, Debug)]
-pub(crate) struct Way {
+pub(crate) struct BookmarkMove {
     pub(crate) from: Option<Id>,
     pub(crate) to: Option<Id>,
 }
 
-/// Moves a bookmark for the seat `who`. The text of the response is in the room then.
+/// Moves a bookmark for the seat `who`. The text of the response is in the buffer then.
 pub(crate) fn set_bookmark(
     alloc: Global,
     who: u64,
     machine: &mut Machine,
-    room: &mut Room,
+    buffer: &mut ResponseBuffer,
     name: &BookName,
-    way: Way,
-    form: Form,
+    movement: BookmarkMove,
+    form: ResponseForm,
 )
-    ensures answers { AnswersAs machine.old.header who machine.old.history (Asks (SetBookmark name.now (id_seen way.from) (id_seen way.to))) (change_response (SetBookmark name.now (id_seen way.from) (id_seen way.to))) form.close form.head_only room.new machine.new.history }
+    ensures answers { AnswersAs machine.old.header who machine.old.history (Asks (SetBookmark name.now movement.from movement.to)) (change_response (SetBookmark name.now movement.from movement.to)) form.close form.head_only buffer.new machine.new.history }
     ensures header { machine.new.header ≡ machine.old.header }
+    ensures faultless { fault_count machine.new.history ≡ fault_count machine.old.history }
     ensures legal { IsLegal machine.new.header machine.new.history }
 {
-    match machine.set_bookmark(alloc, who, name, way.from, way.to) {
-        Ok(()) => room.put_bookmark(way.to, name, form),
-        Err(refusal) => put_refusal(alloc, room, &refusal, form),
+    match machine.set_bookmark(alloc, who, name, movement.from, movement.to) {
+        Ok(()) => buffer.put_bookmark(movement.to, name, form),
+        Err(refusal) => put_refusal(alloc, buffer, &refusal, form),
     }
 }
 
-/// Lands a draft on a bookmark for the seat `who`. The text of the response is in the room then.
+/// Lands a draft on a bookmark for the seat `who`. The text of the response is in the buffer then.
 pub(crate) fn land(
     alloc: Global,
     who: u64,
     machine: &mut Machine,
-    room: &mut Room,
+    buffer: &mut ResponseBuffer,
     name: &BookName,
     draft: Id,
-    form: Form,
+    form: ResponseForm,
 )
-    ensures answers { AnswersAs machine.old.header who machine.old.history (Asks (LandDraft name.now draft.0)) (change_response (LandDraft name.now draft.0)) form.close form.head_only room.new machine.new.history }
+    ensures answers { AnswersAs machine.old.header who machine.old.history (Asks (LandDraft name.now draft)) (change_response (LandDraft name.now draft)) form.close form.head_only buffer.new machine.new.history }
     ensures header { machine.new.header ≡ machine.old.header }
+    ensures faultless { fault_count machine.new.history ≡ fault_count machine.old.history }
     ensures legal { IsLegal machine.new.header machine.new.history }
 {
     match machine.land(alloc, who, name, draft) {
-        Ok(landed) => room.put_landed(&landed.old, landed.ids.as_slice(), form),
-        Err(refusal) => put_refusal(alloc, room, &refusal, form),
+        Ok(landed) => buffer.put_landed(&landed.old, landed.ids.as_slice(), form),
+        Err(refusal) => put_refusal(alloc, buffer, &refusal, form),
     }
 }

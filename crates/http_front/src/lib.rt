@@ -7,5 +7,5 @@ pub mod ended;
 mod link;
 mod reads;
 mod refusing;
-pub mod room;
+pub mod response_buffer;
 pub mod session;

@@ -4,17 +4,17 @@ ghost use Rattle.ports.specs.Faults.{Rose};
 ghost use Rattle.http_front.specs.Turns.{ReadMore, Sent};
 
 use crate::ended::Ended;
-use crate::room::Room;
+use crate::response_buffer::ResponseBuffer;
 use http_wire::{Cutter, MOST_PIECE};
 use ports::{Failed, Sink, Source};
 
-/// Writes the text in the room. The session goes on where the link holds and the request doesn't ask for its end.
-pub(crate) fn send<K: Sink>(room: &Room, sink: &mut K, close: bool) -> Option<Ended>
-    ensures sent { Sent result close room.now (K.written sink.old) (K.written sink.new) }
+/// Writes the text in the buffer. The session goes on where the link holds and the request doesn't ask for its end.
+pub(crate) fn send<K: Sink>(buffer: &ResponseBuffer, sink: &mut K, close: bool) -> Option<Ended>
+    ensures sent { Sent result close buffer.now (K.written sink.old) (K.written sink.new) }
     ensures faults { K.faults sink.old ≤ K.faults sink.new }
     ensures cause { result ≡ Some Ended.LinkFault → Rose (K.faults sink.old) (K.faults sink.new) }
 {
-    match sink.write(room.text()) {
+    match sink.write(buffer.text()) {
         Err(Failed) => Some(Ended::LinkFault),
         Ok(()) if close => Some(Ended::Closed),
         Ok(()) => None,
@@ -39,12 +39,12 @@ pub(crate) fn read_more<S: Source>(
         return Some(Ended::Spent);
     }
     let most = MOST_PIECE.min(*budget);
-    let room = &mut piece.as_mut_slice()[..most];
-    match source.read(room) {
+    let space = &mut piece.as_mut_slice()[..most];
+    match source.read(space) {
         Err(Failed) => Some(Ended::LinkFault),
         Ok(0) => Some(end_of(cutter)),
         Ok(count) => {
-            cutter.feed(&room[..count]);
+            cutter.feed(&space[..count]);
             *budget -= count;
             None
         }

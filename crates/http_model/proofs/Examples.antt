@@ -8,7 +8,7 @@ use Rattle.std.proofs.lemmas.Bool.{agree_below_at}
 use Rattle.std.proofs.lemmas.List.Sums.{AllPass-from_list_all}
 use Rattle.std.proofs.lemmas.List.Elements.{All-cons, All-nil}
 use Rattle.std.proofs.lemmas.Str.{IsUtf8-from_ascii}
-use Rattle.http_model.specs.declared.refusal.Refusal.TheVariants.{TransferEncoding, BadLength, NoLength, BodyTooLarge}
+use Rattle.http_model.specs.declared.head_refusal.HeadRefusal.TheVariants.{TransferEncoding, BadLength, NoLength, BodyTooLarge}
 use Rattle.http_model.specs.Head.{Head, Header, closes, path_of, lengths_of, body_length, refusal_of}
 use Rattle.http_model.specs.Stream.{Whole, Partial, skip_blank, ends_head, IsHeadEnd, after_head, Begins}
 

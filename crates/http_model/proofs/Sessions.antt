@@ -2,7 +2,7 @@
 use Rattle.std.proofs.Common.{◌≡◌, ℕ, ◌<◌, ◌≤◌, true, false, refl, List, [], ◌∷◌, ◌++◌, length, sym, ap, ◌∙◌, subst, arith, cond}
 use Rattle.std.specs.Prelude.{nat_le, ◌==◌}
 use Rattle.std.proofs.lemmas.Bool.{cond-true, cond-false, le-leb, lt-leb, ne_eqb}
-use Rattle.http_model.specs.declared.refusal.Refusal.{Refusal}
+use Rattle.http_model.specs.declared.head_refusal.HeadRefusal.{HeadRefusal}
 use Rattle.http_model.specs.Refusals.{status_of}
 use Rattle.http_model.specs.Stream.{Request, Next, Whole, Partial, Refuses, skip_blank, Stands, Begins}
 use Rattle.http_model.specs.Session.{End, Ended, Closed, Cut, Refused, Spent, Takes, Leaves, Requests, most_read}
@@ -38,15 +38,15 @@ takes_one bytes (first ∷ requests) rest request after takes begins open_after 
 -- ---- how it ends
 
 pub ends_closed : (bytes : List ℕ) (requests : List Request) (rest : List ℕ) (last : Request) (after : List ℕ)
-    → Takes bytes requests rest → Begins rest (Whole last after) → last.close ≡ true → Requests bytes (requests ++ last ∷ []) Closed
-ends_closed bytes requests rest last after takes begins close = (requests, last, after, refl, (rest, takes, begins), close)
+    → Takes bytes requests rest → Begins rest (Whole last after) → last.close ≡ true → length bytes ≤ most_read → Requests bytes (requests ++ last ∷ []) Closed
+ends_closed bytes requests rest last after takes begins close few = (requests, last, after, refl, (rest, takes, begins), close, few)
 
-pub ends_refused : (bytes : List ℕ) (requests : List Request) (rest : List ℕ) (refusal : Refusal)
-    → Takes bytes requests rest → Begins rest (Refuses refusal) → Requests bytes requests (Refused (status_of refusal))
-ends_refused bytes requests rest refusal takes begins = (refusal, (rest, takes, begins), refl)
+pub ends_refused : (bytes : List ℕ) (requests : List Request) (rest : List ℕ) (refusal : HeadRefusal)
+    → Takes bytes requests rest → Begins rest (Refuses refusal) → length bytes ≤ most_read → Requests bytes requests (Refused (status_of refusal))
+ends_refused bytes requests rest refusal takes begins few = (refusal, (rest, takes, begins), refl, few)
 
 pub ends_spent : (bytes : List ℕ) (requests : List Request) (rest : List ℕ) (read : ℕ)
-    → Takes bytes requests rest → Begins rest (Partial read) → most_read ≤ length bytes → Requests bytes requests Spent
+    → Takes bytes requests rest → Begins rest (Partial read) → length bytes ≡ most_read → Requests bytes requests Spent
 ends_spent bytes requests rest read takes begins all = (read, (rest, takes, begins), all)
 
 pub ends_between : (bytes : List ℕ) (requests : List Request) (rest : List ℕ)
@@ -136,7 +136,7 @@ requests_finish bytes requests Spent x = record {
   next = Partial x.0;
   leaves = x.1;
   last = tt;
-  gives = cond-true _ _ _ (le-leb most_read (length bytes) x.2);
+  gives = cond-true _ _ _ (le-leb most_read (length bytes) (let all = x.2 in omega arith));
 }
 
 -- the bytes alone say which requests a session takes and how it ends
@@ -148,3 +148,11 @@ requests_unique bytes requests others end other x y =
     let same = leaves_unique bytes a.taken b.taken a.next b.next a.leaves a.last b.leaves b.last in
     let both : (requests, end) ≡ (others, other) = sym a.gives ∙ ap (λ t. finish (length bytes) t a.next) same.0 ∙ ap (finish (length bytes) b.taken) same.1 ∙ b.gives in
     (ap (λ p. p.0) both, ap (λ p. p.1) both)
+
+-- no session reads more bytes than it may
+pub few_read : (bytes : List ℕ) (requests : List Request) (end : End) → Requests bytes requests end → length bytes ≤ most_read
+few_read bytes requests Ended x = let fewer = x.1 in omega arith
+few_read bytes requests Closed x = x.6
+few_read bytes requests (Cut read) x = let fewer = x.2 in omega arith
+few_read bytes requests (Refused status) x = x.3
+few_read bytes requests Spent x = let all = x.2 in omega arith

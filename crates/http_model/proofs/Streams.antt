@@ -4,8 +4,8 @@ use Rattle.std.specs.Prelude.{nat_le, ◌==◌, ◌&&◌, ◌||◌}
 use Rattle.std.proofs.lemmas.Bool.{leb-true, leb-false, le-leb, cond-true, cond-false}
 use Rattle.std.proofs.lemmas.List.{take-append-le, drop-append-le}
 use Rattle.httparse.proofs.GrammarLemmas.{request_unique}
-use Rattle.http_model.specs.declared.refusal.Refusal.{Refusal}
-use Rattle.http_model.specs.declared.refusal.Refusal.TheVariants.{HeadTooLarge}
+use Rattle.http_model.specs.declared.head_refusal.HeadRefusal.{HeadRefusal}
+use Rattle.http_model.specs.declared.head_refusal.HeadRefusal.TheVariants.{HeadTooLarge}
 use Rattle.http_model.specs.Head.{Head, head_of, IsHead, lengths_of, body_length, refusal_of}
 use Rattle.http_model.specs.Stream.{Request, Next, Whole, Partial, Refuses, skip_blank, ends_head, IsHeadEnd, most_head, with_body, unless_refused, IsReading, after_head, LacksHead, HasHead, Stands, Begins}
 use Rattle.http_model.proofs.Blank.{skip_skip, skip_keeps}
@@ -115,7 +115,7 @@ with_body-append bytes more len body head = by_order (nat_le (len + body) (lengt
         let partial : with_body bytes len body head ≡ Partial (length bytes) = cond-false _ _ _ gt in
         absurd (subst IsDecided partial decided)
 
-unless_refused-append : (refusal : Option Refusal) (bytes more : List ℕ) (len body : ℕ) (head : Head)
+unless_refused-append : (refusal : Option HeadRefusal) (bytes more : List ℕ) (len body : ℕ) (head : Head)
     → IsDecided (unless_refused refusal (with_body bytes len body head))
     → unless_refused refusal (with_body (bytes ++ more) len body head) ≡ followed (unless_refused refusal (with_body bytes len body head)) more
 unless_refused-append None bytes more len body head decided = with_body-append bytes more len body head decided
@@ -179,5 +179,5 @@ pub whole_stays : (bytes more : List ℕ) (request : Request) (rest : List ℕ) 
 whole_stays bytes more request rest begins = begins-append bytes more (Whole request rest) tt begins
 
 -- a refusal stays whatever bytes follow
-pub refusal_stays : (bytes more : List ℕ) (refusal : Refusal) → Begins bytes (Refuses refusal) → Begins (bytes ++ more) (Refuses refusal)
+pub refusal_stays : (bytes more : List ℕ) (refusal : HeadRefusal) → Begins bytes (Refuses refusal) → Begins (bytes ++ more) (Refuses refusal)
 refusal_stays bytes more refusal begins = begins-append bytes more (Refuses refusal) tt begins

@@ -14,8 +14,8 @@ use Rattle.std.specs.Str.Parse.{digits_value}
 use Rattle.httparse.specs.Ascii.{comma}
 use Rattle.httparse.specs.Grammar.{RequestHead, ReadsRequest, trim_ows}
 use Rattle.httparse.specs.Spans.{name_and_value}
-use Rattle.http_model.specs.declared.refusal.Refusal.{Refusal}
-use Rattle.http_model.specs.declared.refusal.Refusal.TheVariants.{TooManyHeaders, TransferEncoding, BadLength, NoLength, BodyTooLarge}
+use Rattle.http_model.specs.declared.head_refusal.HeadRefusal.{HeadRefusal}
+use Rattle.http_model.specs.declared.head_refusal.HeadRefusal.TheVariants.{TooManyHeaders, TransferEncoding, BadLength, NoLength, BodyTooLarge}
 
 -- a name, and a value without the blanks round it
 abbrev pub Header : Type 0
@@ -104,7 +104,7 @@ abbrev pub most_body : ℕ
 most_body = 1048576
 
 -- The tests in their order: the first that applies is the refusal.
-abbrev pub refusal_of : Head → Option Refusal
+abbrev pub refusal_of : Head → Option HeadRefusal
 refusal_of head =
     if nat_lt most_headers (length head.headers) then Some TooManyHeaders
     else (if list_any (is_named (codes "transfer-encoding")) head.headers then Some TransferEncoding

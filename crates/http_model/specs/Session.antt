@@ -1,8 +1,8 @@
 -- The requests of a stream, and how its session ends.
 --     Takes bytes requests rest      the bytes are these requests, none of which ends the session, and then the rest, but for empty lines before it
---     Requests bytes requests end      the requests that a session takes from these bytes, and how it ends
+--     Requests bytes requests end      the requests that a session takes from these bytes, which are no more than it may read, and how it ends
 use Rattle.std.specs.Prelude.{◌≡◌, ℕ, ◌<◌, ◌≤◌, true, false, List, [], ◌∷◌, ◌++◌, length}
-use Rattle.http_model.specs.declared.refusal.Refusal.{Refusal}
+use Rattle.http_model.specs.declared.head_refusal.HeadRefusal.{HeadRefusal}
 use Rattle.http_model.specs.Refusals.{status_of}
 use Rattle.http_model.specs.Stream.{Request, Next, Whole, Partial, Refuses, skip_blank, Begins}
 
@@ -32,7 +32,7 @@ Leaves bytes requests next = (rest : List ℕ) × Takes bytes requests rest × B
 
 abbrev pub Requests : List ℕ → List Request → End → Type 0
 Requests bytes requests Ended = Leaves bytes requests (Partial 0) × (length bytes < most_read)
-Requests bytes requests Closed = (before : List Request) × (last : Request) × (rest : List ℕ) × (requests ≡ before ++ last ∷ []) × Leaves bytes before (Whole last rest) × (last.close ≡ true)
+Requests bytes requests Closed = (before : List Request) × (last : Request) × (rest : List ℕ) × (requests ≡ before ++ last ∷ []) × Leaves bytes before (Whole last rest) × (last.close ≡ true) × (length bytes ≤ most_read)
 Requests bytes requests (Cut read) = Leaves bytes requests (Partial read) × (0 < read) × (length bytes < most_read)
-Requests bytes requests (Refused status) = (refusal : Refusal) × Leaves bytes requests (Refuses refusal) × (status_of refusal ≡ status)
-Requests bytes requests Spent = (read : ℕ) × Leaves bytes requests (Partial read) × (most_read ≤ length bytes)
+Requests bytes requests (Refused status) = (refusal : HeadRefusal) × Leaves bytes requests (Refuses refusal) × (status_of refusal ≡ status) × (length bytes ≤ most_read)
+Requests bytes requests Spent = (read : ℕ) × Leaves bytes requests (Partial read) × (length bytes ≡ most_read)

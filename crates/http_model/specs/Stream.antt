@@ -7,8 +7,8 @@
 use Rattle.std.specs.Prelude.{◌≡◌, ℕ, ◌+◌, ◌<◌, ◌≤◌, ◌⊎◌, Bool, true, false, ◌&&◌, ◌||◌, ◌==◌, nat_le, if◌then◌else◌, List, [], ◌∷◌, length, take, drop, bytes_eq, codes, Option, None, Some}
 use Rattle.std.specs.List.{ends_with}
 use Rattle.httparse.specs.Ascii.{line_feed, carriage_return}
-use Rattle.http_model.specs.declared.refusal.Refusal.{Refusal}
-use Rattle.http_model.specs.declared.refusal.Refusal.TheVariants.{HeadTooLarge, BadHead}
+use Rattle.http_model.specs.declared.head_refusal.HeadRefusal.{HeadRefusal}
+use Rattle.http_model.specs.declared.head_refusal.HeadRefusal.TheVariants.{HeadTooLarge, BadHead}
 use Rattle.http_model.specs.Head.{Head, IsHead, IsNoHead, lengths_of, body_length, closes, refusal_of}
 
 -- its target is whole, with what follows a '?'; the session ends after it where `close` says so
@@ -27,7 +27,7 @@ pub data Next : Type 0 where
   Whole : (request : Request) (rest : List ℕ) → Next
   -- this many bytes of the message were read; with none of them a message has ended
   Partial : (read : ℕ) → Next
-  Refuses : (refusal : Refusal) → Next
+  Refuses : (refusal : HeadRefusal) → Next
 
 -- a line ends in CR LF, or in LF alone
 abbrev pub skip_blank : List ℕ → List ℕ
@@ -54,7 +54,7 @@ request_of head body = record { method = head.method; target = head.target; mino
 abbrev pub with_body : List ℕ → ℕ → ℕ → Head → Next
 with_body bytes len body head = if nat_le (len + body) (length bytes) then Whole (request_of head (take body (drop len bytes))) (drop (len + body) bytes) else Partial (length bytes)
 
-abbrev pub unless_refused : Option Refusal → Next → Next
+abbrev pub unless_refused : Option HeadRefusal → Next → Next
 unless_refused None next = next
 unless_refused (Some refusal) next = Refuses refusal
 

@@ -9,7 +9,7 @@ use Rattle.http_model.specs.Stream as model
 use Rattle.http_model.specs.Stream.{Next, Whole, Partial, skip_blank, ends_head, IsHeadEnd, request_of, with_body, unless_refused, IsReading, Stands}
 use Rattle.http_model.proofs.Blank.{skip_keeps}
 use Rattle.http_model.proofs.Streams.{head_end-append, head_end_two}
-use Rattle.http_wire.specs.declared.head.Demand.{Demand}
+use Rattle.http_wire.specs.declared.head.Framing.{Framing}
 use Rattle.http_wire.specs.declared.next as declared
 use Rattle.http_wire.specs.Seen.{seen, request_at}
 use Rattle.http_wire.specs.Answers.{Answers, OnMessage, OnMemory}
@@ -18,49 +18,49 @@ use Rattle.http_wire.specs.Holding.{Awaits}
 
 -- ---- a head that passes its tests
 
-good_stands : (bytes : List ℕ) (len : ℕ) (spans : RequestSpans) (demand : Demand) (next : Next) → (good : HasGoodHead bytes len spans demand)
+good_stands : (bytes : List ℕ) (len : ℕ) (spans : RequestSpans) (framing : Framing) (next : Next) → (good : HasGoodHead bytes len spans framing)
     → with_body bytes len (body_length (lengths_of good.head)) good.head ≡ next → Stands bytes next
-good_stands bytes len spans demand next good gives = inr record {
+good_stands bytes len spans framing next good gives = inr record {
   len = len;
   reading = Some good.head;
   end = good.end;
   fits = good.fits;
   reads = good.reads;
-  gives = sym gives ∙ sym (ap (λ r. unless_refused r (with_body bytes len (body_length (lengths_of good.head)) good.head)) good.demands.passes);
+  gives = sym gives ∙ sym (ap (λ r. unless_refused r (with_body bytes len (body_length (lengths_of good.head)) good.head)) good.frames.passes);
 }
 
-pub good_partial : (bytes : List ℕ) (len : ℕ) (spans : RequestSpans) (demand : Demand) → HasGoodHead bytes len spans demand → length bytes < len + demand.body → Stands bytes (Partial (length bytes))
-good_partial bytes len spans demand good short =
-    let body = good.demands.body in
+pub good_partial : (bytes : List ℕ) (len : ℕ) (spans : RequestSpans) (framing : Framing) → HasGoodHead bytes len spans framing → length bytes < len + framing.body → Stands bytes (Partial (length bytes))
+good_partial bytes len spans framing good short =
+    let body = good.frames.body in
     let fewer : length bytes < len + body_length (lengths_of good.head) = omega arith in
-    good_stands bytes len spans demand (Partial (length bytes)) good (cond-false _ _ _ (lt-leb (len + body_length (lengths_of good.head)) (length bytes) fewer))
+    good_stands bytes len spans framing (Partial (length bytes)) good (cond-false _ _ _ (lt-leb (len + body_length (lengths_of good.head)) (length bytes) fewer))
 
-pub good_whole : (bytes : List ℕ) (len : ℕ) (spans : RequestSpans) (demand : Demand) → HasGoodHead bytes len spans demand → len + demand.body ≤ length bytes
-    → Stands bytes (Whole (request_at (take len bytes) spans demand.close (take demand.body (drop len bytes))) (drop (len + demand.body) bytes))
-good_whole bytes len spans demand good long =
-    let size = good.demands.body in
+pub good_whole : (bytes : List ℕ) (len : ℕ) (spans : RequestSpans) (framing : Framing) → HasGoodHead bytes len spans framing → len + framing.body ≤ length bytes
+    → Stands bytes (Whole (request_at (take len bytes) spans framing.close (take framing.body (drop len bytes))) (drop (len + framing.body) bytes))
+good_whole bytes len spans framing good long =
+    let size = good.frames.body in
     let body = take (body_length (lengths_of good.head)) (drop len bytes) in
-    let asked : request_of good.head body ≡ request_at (take len bytes) spans demand.close (take demand.body (drop len bytes)) = λ i. record {
+    let asked : request_of good.head body ≡ request_at (take len bytes) spans framing.close (take framing.body (drop len bytes)) = λ i. record {
       method = sym good.method i;
       target = sym good.target i;
       minor = sym good.minor i;
-      close = sym good.demands.close i;
+      close = sym good.frames.close i;
       body = take (sym size i) (drop len bytes);
     } in
     let enough : len + body_length (lengths_of good.head) ≤ length bytes = omega arith in
-    good_stands bytes len spans demand _ good
+    good_stands bytes len spans framing _ good
     (cond-true _ _ _ (le-leb (len + body_length (lengths_of good.head)) (length bytes) enough) ∙ ap (λ r. Whole r (drop (len + body_length (lengths_of good.head)) bytes)) asked
-    ∙ ap (λ n. Whole (request_at (take len bytes) spans demand.close (take demand.body (drop len bytes))) (drop (len + n) bytes)) (sym size))
+    ∙ ap (λ n. Whole (request_at (take len bytes) spans framing.close (take framing.body (drop len bytes))) (drop (len + n) bytes)) (sym size))
 
-good-append : (bytes more : List ℕ) (len : ℕ) (spans : RequestSpans) (demand : Demand) → HasGoodHead bytes len spans demand → HasGoodHead (bytes ++ more) len spans demand
-good-append bytes more len spans demand good =
+good-append : (bytes more : List ℕ) (len : ℕ) (spans : RequestSpans) (framing : Framing) → HasGoodHead bytes len spans framing → HasGoodHead (bytes ++ more) len spans framing
+good-append bytes more len spans framing good =
     let same : take len bytes ≡ take len (bytes ++ more) = sym (take-append-le len bytes more good.end.within) in
     record {
       end = head_end-append bytes more len good.end;
       fits = good.fits;
       head = good.head;
       reads = subst (λ (bs : List ℕ). IsReading bs (Some good.head)) same good.reads;
-      demands = good.demands;
+      frames = good.frames;
       method = subst (λ (bs : List ℕ). span_bytes bs spans.method ≡ good.head.method) same good.method;
       method_within = good.method_within;
       token = good.token;
@@ -72,13 +72,13 @@ good-append bytes more len spans demand good =
     }
 
 -- until its body is there nothing can be told
-pub good_awaits : (bytes : List ℕ) (len : ℕ) (spans : RequestSpans) (demand : Demand) → skip_blank bytes ≡ bytes → HasGoodHead bytes len spans demand → Awaits bytes (len + demand.body)
-good_awaits bytes len spans demand none good more short =
+pub good_awaits : (bytes : List ℕ) (len : ℕ) (spans : RequestSpans) (framing : Framing) → skip_blank bytes ≡ bytes → HasGoodHead bytes len spans framing → Awaits bytes (len + framing.body)
+good_awaits bytes len spans framing none good more short =
     let two = head_end_two bytes len good.end in
     let within = good.end.within in
     let same = ap length none in
     let some : 2 ≤ length (skip_blank bytes) = omega arith in
-    (skip_keeps bytes more some ∙ ap (λ bs. bs ++ more) none, good_partial (bytes ++ more) len spans demand (good-append bytes more len spans demand good) short)
+    (skip_keeps bytes more some ∙ ap (λ bs. bs ++ more) none, good_partial (bytes ++ more) len spans framing (good-append bytes more len spans framing good) short)
 
 -- ---- more bytes
 
@@ -111,19 +111,19 @@ answers_memory asked (declared.Next.TheVariants.Refused status code) P answers h
 pub waiting_is : (slice items old : List ℕ) (start : ℕ) → slice ≡ items → drop start items ≡ old → take (length slice - start) (drop start slice) ≡ old
 waiting_is slice items old start same view = take_rest slice start ∙ ap (drop start) same ∙ view
 
-pub whole_at : (waiting old items : List ℕ) (start len : ℕ) (spans : RequestSpans) (demand : Demand) → waiting ≡ old → drop start items ≡ old → HasGoodHead waiting len spans demand → len + demand.body ≤ length waiting
-    → Stands old (Whole (request_at (take len waiting) spans demand.close (take ((len + demand.body) - len) (drop len waiting))) (drop (start + (len + demand.body)) items))
-whole_at waiting old items start len spans demand same view good long =
-    let body : (len + demand.body) - len ≡ demand.body = omega arith in
-    let rest : drop (len + demand.body) waiting ≡ drop (start + (len + demand.body)) items =
-    ap (drop (len + demand.body)) (same ∙ sym view) ∙ drop-drop (len + demand.body) start items in
-    let here = good_whole waiting len spans demand good long in
-    let P : List ℕ → Type 0 = λ bs. Stands bs (Whole (request_at (take len waiting) spans demand.close (take ((len + demand.body) - len) (drop len waiting))) (drop (start + (len + demand.body)) items)) in
+pub whole_at : (waiting old items : List ℕ) (start len : ℕ) (spans : RequestSpans) (framing : Framing) → waiting ≡ old → drop start items ≡ old → HasGoodHead waiting len spans framing → len + framing.body ≤ length waiting
+    → Stands old (Whole (request_at (take len waiting) spans framing.close (take ((len + framing.body) - len) (drop len waiting))) (drop (start + (len + framing.body)) items))
+whole_at waiting old items start len spans framing same view good long =
+    let body : (len + framing.body) - len ≡ framing.body = omega arith in
+    let rest : drop (len + framing.body) waiting ≡ drop (start + (len + framing.body)) items =
+    ap (drop (len + framing.body)) (same ∙ sym view) ∙ drop-drop (len + framing.body) start items in
+    let here = good_whole waiting len spans framing good long in
+    let P : List ℕ → Type 0 = λ bs. Stands bs (Whole (request_at (take len waiting) spans framing.close (take ((len + framing.body) - len) (drop len waiting))) (drop (start + (len + framing.body)) items)) in
     let Q : Next → Type 0 = λ next. Stands waiting next in
-    let next : Whole (request_at (take len waiting) spans demand.close (take demand.body (drop len waiting))) (drop (len + demand.body) waiting)
-    ≡ Whole (request_at (take len waiting) spans demand.close (take ((len + demand.body) - len) (drop len waiting))) (drop (start + (len + demand.body)) items) =
-    ap (λ r. Whole (request_at (take len waiting) spans demand.close (take demand.body (drop len waiting))) r) rest
-    ∙ ap (λ n. Whole (request_at (take len waiting) spans demand.close (take n (drop len waiting))) (drop (start + (len + demand.body)) items)) (sym body) in
+    let next : Whole (request_at (take len waiting) spans framing.close (take framing.body (drop len waiting))) (drop (len + framing.body) waiting)
+    ≡ Whole (request_at (take len waiting) spans framing.close (take ((len + framing.body) - len) (drop len waiting))) (drop (start + (len + framing.body)) items) =
+    ap (λ r. Whole (request_at (take len waiting) spans framing.close (take framing.body (drop len waiting))) r) rest
+    ∙ ap (λ n. Whole (request_at (take len waiting) spans framing.close (take n (drop len waiting))) (drop (start + (len + framing.body)) items)) (sym body) in
     subst P same (subst Q next here)
 
 -- writing all the elements of a list keeps its length

@@ -2,5 +2,5 @@ pub mod TextLemmas
 pub mod ElementLemmas
 pub mod HeaderLemmas
 pub mod HeadLemmas
-pub mod StandingLemmas
+pub mod HeadOutcomeLemmas
 pub mod CutterLemmas

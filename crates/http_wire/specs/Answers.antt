@@ -1,6 +1,6 @@
 -- What a cutter answered, by its kind.
 use Rattle.std.specs.Prelude.{◌≡◌, ℕ, Bool}
-use Rattle.http_model.specs.declared.refusal.Refusal.{Refusal}
+use Rattle.http_model.specs.declared.head_refusal.HeadRefusal.{HeadRefusal}
 use Rattle.http_model.specs.Stream as model
 use Rattle.http_wire.specs.Seen.{seen}
 use Rattle.http_wire.specs.declared.request.Request.{Request}
@@ -25,7 +25,7 @@ OnNeedMore (Memory close head_only) P = Unit {0}
 OnNeedMore NeedMore P = P
 OnNeedMore (Refused status code) P = Unit {0}
 
-abbrev pub OnRefused : Next → (ℕ → Refusal → Type 0) → Type 0
+abbrev pub OnRefused : Next → (ℕ → HeadRefusal → Type 0) → Type 0
 OnRefused (Message request) P = Unit {0}
 OnRefused (Memory close head_only) P = Unit {0}
 OnRefused NeedMore P = Unit {0}

@@ -5,18 +5,18 @@ use Rattle.httparse.specs.Grammar.{IsToken}
 use Rattle.httparse.specs.Spans.{span_bytes, IsWithin}
 use Rattle.http_model.specs.Head as model
 use Rattle.http_model.specs.Stream.{Refuses, ends_head, IsHeadEnd, most_head, Stands}
-use Rattle.http_wire.specs.Judging.{Demands}
-use Rattle.http_wire.specs.declared.head.Demand.{Demand}
-use Rattle.http_wire.specs.declared.standing.Standing.{Standing}
-use Rattle.http_wire.specs.declared.standing.Standing.TheVariants.{Unfinished, Refused, Head}
+use Rattle.http_wire.specs.Judging.{Frames}
+use Rattle.http_wire.specs.declared.head.Framing.{Framing}
+use Rattle.http_wire.specs.declared.head_outcome.HeadOutcome.{HeadOutcome}
+use Rattle.http_wire.specs.declared.head_outcome.HeadOutcome.TheVariants.{Unfinished, Refused, Head}
 
 -- the first len bytes are a head that passes its tests, with its parts at these places
-pub record HasGoodHead (bytes : List ℕ) (len : ℕ) (spans : RequestSpans) (demand : Demand) : Type 0 where
+pub record HasGoodHead (bytes : List ℕ) (len : ℕ) (spans : RequestSpans) (framing : Framing) : Type 0 where
   pub end : IsHeadEnd bytes len
   pub fits : len ≤ most_head
   pub head : model.Head
   pub reads : model.IsHead (take len bytes) head
-  pub demands : Demands head demand
+  pub frames : Frames head framing
   pub method : span_bytes (take len bytes) spans.method ≡ head.method
   pub method_within : IsWithin len spans.method
   pub token : IsToken head.method
@@ -31,7 +31,7 @@ pub record MayBecomeHead (bytes : List ℕ) : Type 0 where
   pub none : (n : ℕ) → n ≤ most_head → ends_head (take n bytes) ≡ false
   pub short : length bytes < most_head
 
-abbrev pub StandsFirst : List ℕ → Standing → Type 0
+abbrev pub StandsFirst : List ℕ → HeadOutcome → Type 0
 StandsFirst bytes Unfinished = MayBecomeHead bytes
 StandsFirst bytes (Refused refusal) = Stands bytes (Refuses refusal)
-StandsFirst bytes (Head len spans demand) = HasGoodHead bytes len spans demand
+StandsFirst bytes (Head len spans framing) = HasGoodHead bytes len spans framing

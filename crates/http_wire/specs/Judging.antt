@@ -3,9 +3,9 @@ use Rattle.std.specs.Prelude.{◌≡◌, ◌≤◌, ℕ, List, map, None, Some, 
 use Rattle.httparse.specs.declared.spans.HeaderSpan.{HeaderSpan}
 use Rattle.httparse.specs.declared.spans.RequestSpans.{RequestSpans}
 use Rattle.httparse.specs.Spans.{span_bytes, header_bytes}
-use Rattle.http_model.specs.declared.refusal.Refusal.{Refusal}
+use Rattle.http_model.specs.declared.head_refusal.HeadRefusal.{HeadRefusal}
 use Rattle.http_model.specs.Head.{Head, closes, lengths_of, body_length, most_body, refusal_of}
-use Rattle.http_wire.specs.declared.head.Demand.{Demand}
+use Rattle.http_wire.specs.declared.head.Framing.{Framing}
 
 -- the head whose parts stand at these places
 abbrev pub seen_head : List ℕ → RequestSpans → List HeaderSpan → Head
@@ -17,12 +17,12 @@ seen_head bytes spans headers = record {
 }
 
 -- the head passes its tests, and asks for this
-pub record Demands (head : Head) (demand : Demand) : Type 0 where
+pub record Frames (head : Head) (framing : Framing) : Type 0 where
   pub passes : refusal_of head ≡ None
-  pub body : demand.body ≡ body_length (lengths_of head)
-  pub most : demand.body ≤ most_body
-  pub close : demand.close ≡ closes head
+  pub body : framing.body ≡ body_length (lengths_of head)
+  pub most : framing.body ≤ most_body
+  pub close : framing.close ≡ closes head
 
-abbrev pub Judges : Head → Result Demand Refusal → Type 0
-Judges head (Ok demand) = Demands head demand
+abbrev pub Judges : Head → Result Framing HeadRefusal → Type 0
+Judges head (Ok framing) = Frames head framing
 Judges head (Err refusal) = refusal_of head ≡ Some refusal

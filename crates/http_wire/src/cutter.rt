@@ -3,9 +3,9 @@ ghost use Rattle.std.specs.Prelude.{◌≡◌, ◌≤◌, length, drop, vec_capa
 
 use crate::cutting::blank_len;
 use crate::head::{HEADER_ROOM, MOST_HEAD};
+use crate::head_outcome::{HeadOutcome, read_head};
 use crate::next::Next;
 use crate::request::message;
-use crate::standing::{Standing, look};
 use crate::texts::MOST_BODY;
 use httparse::spans::{EMPTY_HEADER_SPAN, HeaderSpan};
 use std::alloc::{AllocError, Global};
@@ -130,23 +130,27 @@ impl Cutter {
         ensures stays { OnRefused result (λ status code. self.new ≡ self.old) }
     {
         let waiting = &self.bytes.as_slice()[self.start..];
-        match look(waiting, self.scanned, self.headers.as_mut_slice()) {
-            Standing::Unfinished => {
+        match read_head(waiting, self.scanned, self.headers.as_mut_slice()) {
+            HeadOutcome::Unfinished => {
                 self.scanned = waiting.len();
                 Next::NeedMore
             }
-            Standing::Refused(code) => Next::Refused {
+            HeadOutcome::Refused(code) => Next::Refused {
                 status: code.status(),
                 code,
             },
-            Standing::Head { len, spans, demand } => {
-                let end = len + demand.body;
+            HeadOutcome::Head {
+                len,
+                spans,
+                framing,
+            } => {
+                let end = len + framing.body;
                 if waiting.len() < end {
                     self.wanted = end;
                     return Next::NeedMore;
                 }
                 let (head, body) = (&waiting[..len], &waiting[len..end]);
-                let answer = message(alloc, head, &spans, demand.close, body);
+                let answer = message(alloc, head, &spans, framing.close, body);
                 self.start += end;
                 self.scanned = 0;
                 self.wanted = 0;

@@ -6,7 +6,7 @@ ghost use Rattle.http_wire.specs.Judging.{Judges, seen_head};
 
 use crate::header_fields::{Length, asks_to_close, has_header, length_given};
 use crate::texts::{MOST_BODY, path_of};
-use http_model::Refusal;
+use http_model::HeadRefusal;
 use httparse::Status;
 use httparse::spans::{HeaderSpan, RequestSpans, parse_request};
 
@@ -36,7 +36,7 @@ pub(crate) fn parse(bytes: &[u8], headers: &mut [HeaderSpan]) -> Option<RequestS
 
 /// What a head that passes the tests asks for.
 #[derive(Clone, Copy, Debug, PartialEq, Eq)]
-pub(crate) struct Demand {
+pub(crate) struct Framing {
     /// The bytes of its body.
     pub body: usize,
     /// Whether the session ends after it.
@@ -56,27 +56,27 @@ pub(crate) fn judge(
     bytes: &[u8],
     spans: &RequestSpans,
     headers: &[HeaderSpan],
-) -> Result<Demand, Refusal>
+) -> Result<Framing, HeadRefusal>
     requires method { IsWithin (length bytes.now) spans.now.method }
     requires target { IsWithin (length bytes.now) spans.now.path }
     requires headers { All (IsHeaderWithin (length bytes.now)) headers.now }
     ensures { Judges (seen_head bytes.now spans.now headers.now) result }
 {
     if headers.len() > MOST_HEADERS {
-        return Err(Refusal::TooManyHeaders);
+        return Err(HeadRefusal::TooManyHeaders);
     }
     if has_header(bytes, headers, b"transfer-encoding") {
-        return Err(Refusal::TransferEncoding);
+        return Err(HeadRefusal::TransferEncoding);
     }
     let body = match length_given(bytes, headers) {
-        Length::Bad => return Err(Refusal::BadLength),
+        Length::Bad => return Err(HeadRefusal::BadLength),
         Length::Absent if stores_its_body(spans.method.of(bytes), spans.path.of(bytes)) => {
-            return Err(Refusal::NoLength);
+            return Err(HeadRefusal::NoLength);
         }
         Length::Absent => 0,
-        Length::Given(n) if n > MOST_BODY => return Err(Refusal::BodyTooLarge),
+        Length::Given(n) if n > MOST_BODY => return Err(HeadRefusal::BodyTooLarge),
         Length::Given(n) => n,
     };
     let close = spans.version == 0 || asks_to_close(bytes, headers);
-    Ok(Demand { body, close })
+    Ok(Framing { body, close })
 }

@@ -6,14 +6,14 @@ mod connection;
 mod cutter;
 mod cutting;
 mod head;
+mod head_outcome;
 mod header_fields;
 mod next;
 mod request;
-mod standing;
 mod texts;
 
 pub use cutter::{Cutter, MOST_PIECE, MOST_REQUEST};
-pub use http_model::Refusal;
+pub use http_model::HeadRefusal;
 pub use next::Next;
 pub use request::{Request, Version};
 

@@ -1,7 +1,7 @@
 //! What a cutter answers.
 use crate::request::Request;
 use http::StatusCode;
-use http_model::Refusal;
+use http_model::HeadRefusal;
 
 /// What stands first on the stream so far.
 #[derive(Debug, Drop)]
@@ -22,6 +22,6 @@ pub enum Next {
         /// The status of the answer.
         status: StatusCode,
         /// Its code.
-        code: Refusal,
+        code: HeadRefusal,
     },
 }

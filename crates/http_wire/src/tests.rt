@@ -325,7 +325,7 @@ fn refusals_stay(rt: HostRuntime) -> Result<(), Fail> {
         match cutter.next(rt.alloc()) {
             Next::Refused { status, code } => {
                 assert_eq!(rt; status.as_u16(), 400);
-                assert_eq!(rt; code, Refusal::BadHead);
+                assert_eq!(rt; code, HeadRefusal::BadHead);
             }
             _ => return Err(Fail::from("not refused")),
         }

@@ -7,8 +7,6 @@ mod disk;
 mod job;
 mod joins;
 mod shared;
-#[cfg(test)]
-mod tests;
 mod threads;
 mod upload;
 mod uploads;

@@ -1,8 +1,8 @@
 //! Fields of nodes that keep a rule: the value and the bytes after it.
-ghost use Rattle.std.specs.Prelude.{◌≡◌, ◌<◌, ◌-◌, true, [], ◌∷◌, ◌&&◌, nat_lt, length, IfOk};
+ghost use Rattle.std.specs.Prelude.{◌≡◌, ◌-◌, true, ◌&&◌, nat_lt, length, IfOk};
 ghost use Rattle.std.specs.Option.{option_copied};
 ghost use Rattle.std.specs.Int.{w8};
-ghost use Rattle.byte_fields.specs.Reading.{exactly, keeping, number, with_len};
+ghost use Rattle.byte_fields.specs.Reading.{keeping, number, with_len};
 ghost use Rattle.byte_fields.specs.Gives.{Gives};
 ghost use Rattle.changeset_model.specs.Path.{is_element as is_path_element};
 ghost use Rattle.manifest_model.specs.NodeReading.{is_after_name};
@@ -10,29 +10,8 @@ ghost use Rattle.node_fields.specs.declared.fault.NodeFault.TheVariants.{BadNode
 
 use crate::fault::NodeFault;
 use byte_fields::BadField;
-use byte_fields::fields::{bytes_at, u8_at};
+use byte_fields::fields::bytes_at;
 use repo_path::is_element;
-
-/// Just this byte: the bytes after it.
-pub fn exactly_at(bytes: &[u8], wanted: u8) -> Result<&[u8], BadField>
-    ensures { Gives (λ rest. (wanted ∷ [], rest.now)) result (exactly (wanted ∷ []) bytes.now) }
-{
-    match bytes {
-        [first, rest @ ..] if *first == wanted => Ok(rest),
-        _ => Err(BadField { left: bytes.len() }),
-    }
-}
-
-/// A byte below a limit.
-pub fn below_at(bytes: &[u8], limit: u8) -> Result<(u8, &[u8]), BadField>
-    ensures field { Gives (λ x. (x.0, x.1.now)) result (number w8 (λ n. nat_lt n limit) bytes.now) }
-    ensures below { IfOk result (λ x. x.0 < limit) }
-{
-    match bytes {
-        [first, rest @ ..] if *first < limit => Ok((*first, rest)),
-        _ => Err(BadField { left: bytes.len() }),
-    }
-}
 
 /// A length of 1 to 255 in one byte, and a name of that length that is greater than the one before it.
 pub fn name_at<'a>(bytes: &'a [u8], before: Option<&[u8]>) -> Result<(&'a [u8], &'a [u8]), BadField>

@@ -48,3 +48,13 @@ module _ {K V A B : Type 0} (f : K → A) (h : A → K) (back : (a : A) → f (h
       get_seen fs q ∙ ap (option_map g) (removed q) ∙ mapped_none g (is_eq (R (f k) (f q))) (at q es)
       ∙ ap (λ b. cond b None (option_map g (at q es))) (turned k q)
       ∙ sym (get-remove total (seen es) (f k) (f q) ∙ ap (cond (eq_by_cmp R (f q) (f k)) None) (get_seen es q)))
+
+-- ---- keys and values that are seen as they are
+
+pub as_they_are : {K V : Type 0} (es : List (K × V)) → map (λ e. (e.0, e.1)) es ≡ es
+as_they_are [] = refl
+as_they_are (e ∷ es) = ap (λ es. e ∷ es) (as_they_are es)
+
+pub option_as_it_is : {V : Type 0} (o : Option V) → option_map (λ v. v) o ≡ o
+option_as_it_is None = refl
+option_as_it_is (Some v) = refl

@@ -7,42 +7,36 @@ use Rattle.std.specs.Cmp.Lexicographic.{slice_cmp, nat_list_cmp_total}
 use Rattle.std.specs.Map.{lookup}
 use Rattle.std.specs.FinMap.{get, insert, remove}
 use Rattle.std.proofs.lemmas.Map.Lookups.{exact_bytes}
-use Rattle.std.proofs.lemmas.List.{map_push}
 use Rattle.sha2.specs.Sha256.{sha256}
 use Rattle.byte_fields.specs.Bytes.{Id}
-use Rattle.object_id.specs.declared.id.Id.{Id as RustId}
 use Rattle.node_table.specs.Table.{Nodes, with_node, without}
-use Rattle.node_table.specs.Parts.{ids_seen, nodes_of_entries}
+use Rattle.node_table.specs.Parts.{nodes_of_entries}
 use Rattle.node_table.proofs.Maps.{get_seen, put_seen, removed_seen}
 use Rattle.node_table.proofs.Digests.{kept, absent, undone, without-push}
 
-abbrev id_bytes : RustId → Id
-id_bytes id = id.0
-
-abbrev of_bytes : Id → RustId
-of_bytes bytes = record { 0 = bytes }
+abbrev itself : Id → Id
+itself id = id
 
 abbrev node_bytes : Vec ℕ → List ℕ
 node_bytes n = n.items
 
-abbrev pub stored : RustId → List (RustId × Vec ℕ) → Option (Vec ℕ)
-stored q es = lookup (λ k. is_eq (slice_cmp nat_cmp q.0 k.0)) es
+abbrev pub stored : Id → List (Id × Vec ℕ) → Option (Vec ℕ)
+stored q es = lookup (λ k. is_eq (slice_cmp nat_cmp q k)) es
 
-pub got : (es : List (RustId × Vec ℕ)) (q : RustId) → get (nodes_of_entries es) q.0 ≡ option_map node_bytes (stored q es)
-got es q = get_seen id_bytes of_bytes (λ a. refl) node_bytes nat_list_cmp_total exact_bytes es q
+pub got : (es : List (Id × Vec ℕ)) (q : Id) → get (nodes_of_entries es) q ≡ option_map node_bytes (stored q es)
+got es q = get_seen itself itself (λ a. refl) node_bytes nat_list_cmp_total exact_bytes es q
 
-pub was_put : (es fs : List (RustId × Vec ℕ)) (k : RustId) (v : Vec ℕ) → ((q : RustId) → stored q fs ≡ cond (is_eq (slice_cmp nat_cmp k.0 q.0)) (Some v) (stored q es)) → k.0 ≡ sha256 v.items → nodes_of_entries fs ≡ with_node (nodes_of_entries es) v.items
-was_put es fs k v put is = put_seen id_bytes of_bytes (λ a. refl) node_bytes nat_list_cmp_total exact_bytes es fs k v put ∙ ap (λ k. insert (nodes_of_entries es) k v.items) is
+pub was_put : (es fs : List (Id × Vec ℕ)) (k : Id) (v : Vec ℕ) → ((q : Id) → stored q fs ≡ cond (is_eq (slice_cmp nat_cmp k q)) (Some v) (stored q es)) → k ≡ sha256 v.items → nodes_of_entries fs ≡ with_node (nodes_of_entries es) v.items
+was_put es fs k v put is = put_seen itself itself (λ a. refl) node_bytes nat_list_cmp_total exact_bytes es fs k v put ∙ ap (λ k. insert (nodes_of_entries es) k v.items) is
 
-pub was_removed : (es fs : List (RustId × Vec ℕ)) (k : RustId) → ((q : RustId) → stored q fs ≡ cond (is_eq (slice_cmp nat_cmp k.0 q.0)) None (stored q es)) → nodes_of_entries fs ≡ remove (nodes_of_entries es) k.0
-was_removed es fs k removed = removed_seen id_bytes of_bytes (λ a. refl) node_bytes nat_list_cmp_total exact_bytes es fs k removed
+pub was_removed : (es fs : List (Id × Vec ℕ)) (k : Id) → ((q : Id) → stored q fs ≡ cond (is_eq (slice_cmp nat_cmp k q)) None (stored q es)) → nodes_of_entries fs ≡ remove (nodes_of_entries es) k
+was_removed es fs k removed = removed_seen itself itself (λ a. refl) node_bytes nat_list_cmp_total exact_bytes es fs k removed
 
 pub same_node : (m : Nodes) (n : List ℕ) (id : Id) (one two : List ℕ) → id ≡ sha256 one → one ≡ n → two ≡ n → get m id ≡ Some two → m ≡ with_node m n
 same_node m n id one two is first second found = sym (kept m (sha256 n) n (ap (get m) (sym (is ∙ ap sha256 first)) ∙ found ∙ ap (λ n. Some n) second))
 
-pub noted_undone : (ids new : List RustId) (id : RustId) (m after : Nodes) → new ≡ ids ++ id ∷ [] → remove after id.0 ≡ m → without (ids_seen new) after ≡ without (ids_seen ids) m
-noted_undone ids new id m after grown out =
-    ap (λ x. without (ids_seen x) after) grown ∙ ap (λ x. without x after) (map_push id_bytes ids id) ∙ without-push (ids_seen ids) id.0 after ∙ ap (without (ids_seen ids)) out
+pub noted_undone : (ids new : List Id) (id : Id) (m after : Nodes) → new ≡ ids ++ id ∷ [] → remove after id ≡ m → without new after ≡ without ids m
+noted_undone ids new id m after grown out = ap (λ x. without x after) grown ∙ without-push ids id after ∙ ap (without ids) out
 
 pub out_if_put : (m after : Nodes) (n : List ℕ) (id : Id) (one : List ℕ) → id ≡ sha256 one → one ≡ n → get m id ≡ None → after ≡ with_node m n → remove after id ≡ m
 out_if_put m after n id one is first none put =

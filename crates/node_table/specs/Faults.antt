@@ -11,11 +11,11 @@ use Rattle.node_table.specs.declared.store.Held.TheVariants as held
 use Rattle.node_table.specs.Table.{Nodes, is_other, Collide}
 
 abbrev pub FaultOf : TableFault → Option Id → Type 0
-FaultOf (faults.Collision id) first = first ≡ Some id.0
+FaultOf (faults.Collision id) first = first ≡ Some id
 FaultOf faults.Memory first = Unit {0}
 
 abbrev pub OfTwo : TableFault → Nodes → List (List ℕ) → Type 0
-OfTwo (faults.Collision id) m ns = Collide m ns id.0
+OfTwo (faults.Collision id) m ns = Collide m ns id
 OfTwo faults.Memory m ns = Unit {0}
 
 abbrev pub IsHeld : Held → List ℕ → Option (List ℕ) → Type 0

@@ -1,6 +1,6 @@
 -- What a table of nodes has.
 --     Nodes, AreDigests m      nodes by their ids;  each stands under its SHA-256 (FIPS 180-4)
---     RootIds, Table      the root ids of a changeset;  the nodes, the roots of the settled changesets by their numbers, and these numbers in the order of settling
+--     Table      the nodes, the roots of the settled changesets by their numbers, and these numbers in the order of settling
 --     with_node m n, with_nodes m ns      with one node more, and with several
 --     without ids m      without the nodes of these ids
 --     collides m n, first_collision m ns      whether another node stands under the id of n;  the first id for which that is so, where each node of ns is put in after the one before
@@ -17,6 +17,7 @@ use Rattle.std.specs.Coded.{Coded, code_by, coded_ℕ, coded_list, coded×}
 use Rattle.std.specs.FinMap as map
 use Rattle.sha2.specs.Sha256.{sha256}
 use Rattle.byte_fields.specs.Bytes.{Id}
+use Rattle.node_table.specs.declared.roots.Roots.{Roots}
 
 abbrev pub Nodes : Type 0
 Nodes = map.FinMap (slice_cmp nat_cmp) (List ℕ)
@@ -24,24 +25,20 @@ Nodes = map.FinMap (slice_cmp nat_cmp) (List ℕ)
 abbrev pub AreDigests : Nodes → Type 0
 AreDigests m = (id : Id) (n : List ℕ) → map.get m id ≡ Some n → sha256 n ≡ id
 
-pub record RootIds : Type 0 where
-  pub fsnode : Id
-  pub unode : Id
-
 pub record Table : Type 0 where
   pub nodes : Nodes
-  pub roots : map.FinMap nat_cmp RootIds
+  pub roots : map.FinMap nat_cmp Roots
   pub settled : List ℕ
 
 abbrev pub empty_table : Table
 empty_table = record { nodes = map.empty; roots = map.empty; settled = [] }
 
-abbrev pub coded_roots : Coded RootIds
+abbrev pub coded_roots : Coded Roots
 coded_roots = code_by (Id × Id) (coded× (coded_list coded_ℕ) (coded_list coded_ℕ)) (λ r. (r.fsnode, r.unode)) (λ p. record { fsnode = p.0; unode = p.1 }) (λ _. refl)
 
 abbrev pub coded_table : Coded Table
 coded_table =
-    code_by (Nodes × (map.FinMap nat_cmp RootIds × List ℕ)) (coded× (map.code (coded_list coded_ℕ) (coded_list coded_ℕ)) (coded× (map.code coded_ℕ coded_roots) (coded_list coded_ℕ)))
+    code_by (Nodes × (map.FinMap nat_cmp Roots × List ℕ)) (coded× (map.code (coded_list coded_ℕ) (coded_list coded_ℕ)) (coded× (map.code coded_ℕ coded_roots) (coded_list coded_ℕ)))
     (λ t. (t.nodes, (t.roots, t.settled))) (λ p. record { nodes = p.0; roots = p.1.0; settled = p.1.1 }) (λ _. refl)
 
 abbrev pub with_node : Nodes → List ℕ → Nodes
@@ -67,7 +64,7 @@ first_collision m [] = None
 first_collision m (n ∷ ns) = if collides m n then Some (sha256 n) else first_collision (with_node m n) ns
 
 -- a settled changeset stays as it is
-abbrev pub settled_with : Table → ℕ → RootIds → List (List ℕ) → Table
+abbrev pub settled_with : Table → ℕ → Roots → List (List ℕ) → Table
 settled_with t number roots ns =
     if is_some (map.get t.roots number) then t
     else record { nodes = with_nodes t.nodes ns; roots = map.insert t.roots number roots; settled = t.settled ++ number ∷ [] }

@@ -1,7 +1,6 @@
 //! Roots by the numbers of their changesets.
-ghost use Rattle.std.specs.Prelude.{◌≡◌, option_map, OnOk, OnErr};
+ghost use Rattle.std.specs.Prelude.{◌≡◌, OnOk, OnErr};
 ghost use Rattle.std.specs.FinMap as map;
-ghost use Rattle.node_table.specs.Parts.{roots_seen};
 
 use crate::roots::Roots;
 use std::alloc::{AllocError, Global};
@@ -17,14 +16,14 @@ impl Model for RootTable {
     ghost use Rattle.std.specs.FinMap as map;
     ghost use Rattle.std.specs.Coded.{coded_ℕ};
     ghost use Rattle.std.specs.Ordering.{nat_cmp};
-    ghost use Rattle.node_table.specs.Table.{RootIds, coded_roots};
-    ghost use Rattle.node_table.specs.Parts.{roots_of_entries};
+    ghost use Rattle.node_table.specs.Table.{coded_roots};
+    ghost use Rattle.node_table.specs.declared.roots.Roots.{Roots as RootIds};
 
     ghost Value = { map.FinMap nat_cmp RootIds };
 
     ghost coded = { map.code coded_ℕ coded_roots };
 
-    ghost view = { λ t. roots_of_entries t.roots.entries };
+    ghost view = { λ t. map.from_entries t.roots.entries };
 }
 
 impl RootTable {
@@ -37,13 +36,13 @@ impl RootTable {
     }
 
     pub fn get(&self, number: u32) -> Option<Roots>
-        ensures { option_map roots_seen result ≡ map.get self.now number }
+        ensures { result ≡ map.get self.now number }
     {
         self.roots.get(&number).copied()
     }
 
     pub fn insert(&mut self, number: u32, roots: Roots) -> Result<(), AllocError>
-        ensures ok { OnOk result (self.new ≡ map.insert self.old number (roots_seen roots)) }
+        ensures ok { OnOk result (self.new ≡ map.insert self.old number roots) }
         ensures err { OnErr result (self.new ≡ self.old) }
     {
         self.roots.insert(number, roots)?;

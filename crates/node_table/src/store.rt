@@ -4,7 +4,7 @@ ghost use Rattle.std.specs.Option.{option_copied};
 ghost use Rattle.std.specs.FinMap as map;
 ghost use Rattle.sha2.specs.Sha256.{sha256};
 ghost use Rattle.node_table.specs.Table.{AreDigests, collides, first_collision, with_node, with_nodes, without};
-ghost use Rattle.node_table.specs.Parts.{ids_seen, nodes_seen};
+ghost use Rattle.node_table.specs.Parts.{nodes_seen};
 ghost use Rattle.node_table.specs.Faults.{FaultOf, IsHeld};
 
 use crate::fault::TableFault;
@@ -51,8 +51,8 @@ impl Store {
     }
 
     pub fn get(&self, id: &Id) -> Option<&[u8]>
-        ensures found { option_copied result ≡ map.get self.now id.now.0 }
-        ensures digest { IfSome result (λ bytes. sha256 bytes.now ≡ id.now.0) }
+        ensures found { option_copied result ≡ map.get self.now id.now }
+        ensures digest { IfSome result (λ bytes. sha256 bytes.now ≡ id.now) }
         ensures digests { AreDigests self.now }
     {
         match self.nodes.get(id) {
@@ -62,7 +62,7 @@ impl Store {
     }
 
     fn put(&mut self, id: Id, bytes: Vec<u8>) -> Result<(), AllocError>
-        requires { id.0 ≡ sha256 bytes.items }
+        requires { id ≡ sha256 bytes.items }
         ensures ok { OnOk result (self.new ≡ with_node self.old bytes.items) }
         ensures err { OnErr result (self.new ≡ self.old) }
     {
@@ -71,14 +71,14 @@ impl Store {
     }
 
     fn remove(&mut self, id: &Id)
-        ensures { self.new ≡ map.remove self.old id.now.0 }
+        ensures { self.new ≡ map.remove self.old id.now }
     {
         let _ = self.nodes.remove(id);
     }
 
     // What stands under the id of these bytes.
     fn held(&self, id: &Id, bytes: &[u8]) -> Held
-        ensures { IsHeld result bytes.now (map.get self.now id.now.0) }
+        ensures { IsHeld result bytes.now (map.get self.now id.now) }
     {
         match self.get(id) {
             None => Held::Nothing,
@@ -89,7 +89,7 @@ impl Store {
 
     /// Puts a node in.
     pub fn insert(&mut self, bytes: Vec<u8>) -> Result<Id, TableFault>
-        ensures id { IfOk result (λ id. id.0 ≡ sha256 bytes.items) }
+        ensures id { IfOk result (λ id. id ≡ sha256 bytes.items) }
         ensures ok { OnOk result (self.new ≡ with_node self.old bytes.items) }
         ensures err { OnErr result (self.new ≡ self.old) }
         ensures apart { OnOk result (first_collision self.old (bytes.items ∷ []) ≡ None) }
@@ -109,7 +109,7 @@ impl Store {
     // Puts a node in, and notes its id first if nothing stands there.
     fn insert_noted(&mut self, bytes: Vec<u8>, noted: &mut Vec<Id>) -> Result<(), TableFault>
         ensures ok { OnOk result (self.new ≡ with_node self.old bytes.items) }
-        ensures undo { without (ids_seen noted.new.items) self.new ≡ without (ids_seen noted.old.items) self.old }
+        ensures undo { without noted.new.items self.new ≡ without noted.old.items self.old }
         ensures apart { OnOk result (first_collision self.old (bytes.items ∷ []) ≡ None) }
         ensures fault { IfErr result (λ fault. FaultOf fault (first_collision self.old (bytes.items ∷ []))) }
     {
@@ -128,7 +128,7 @@ impl Store {
     /// Puts nodes in, and notes the ids under which nothing stood: without these the nodes are as they were.
     pub fn insert_all(&mut self, nodes: Vec<Vec<u8>>, noted: &mut Vec<Id>) -> Result<(), TableFault>
         ensures ok { OnOk result (self.new ≡ with_nodes self.old (nodes_seen nodes.items)) }
-        ensures undo { without (ids_seen noted.new.items) self.new ≡ without (ids_seen noted.old.items) self.old }
+        ensures undo { without noted.new.items self.new ≡ without noted.old.items self.old }
         ensures apart { OnOk result (first_collision self.old (nodes_seen nodes.items) ≡ None) }
         ensures fault { IfErr result (λ fault. FaultOf fault (first_collision self.old (nodes_seen nodes.items))) }
     {
@@ -141,7 +141,7 @@ impl Store {
 
     /// Takes the nodes of these ids out.
     pub fn undo(&mut self, mut noted: Vec<Id>)
-        ensures { self.new ≡ without (ids_seen noted.items) self.old }
+        ensures { self.new ≡ without noted.items self.old }
     {
         while let Some(id) = noted.pop() {
             self.remove(&id);

@@ -1,11 +1,11 @@
 //! The table of nodes.
-ghost use Rattle.std.specs.Prelude.{◌≡◌, ◌↔◌, ◌++◌, ◌∷◌, [], ℕ, List, true, false, Some, None, IsSome, IsOk, is_some, nat_eq, option_map, OnOk, OnErr, IfOk, IfErr, IfSome};
+ghost use Rattle.std.specs.Prelude.{◌≡◌, ◌↔◌, ◌++◌, ◌∷◌, [], ℕ, List, true, false, Some, None, IsSome, IsOk, is_some, nat_eq, OnOk, OnErr, IfOk, IfErr, IfSome};
 ghost use Rattle.std.specs.List.{IsDistinct};
 ghost use Rattle.std.specs.Option.{option_copied};
 ghost use Rattle.std.specs.FinMap as map;
 ghost use Rattle.sha2.specs.Sha256.{sha256};
 ghost use Rattle.node_table.specs.Table.{AreApart, AreDigests, Has, IsAmong, empty_table, first_collision, is_settled, settled_with, with_node};
-ghost use Rattle.node_table.specs.Parts.{nodes_seen, roots_seen};
+ghost use Rattle.node_table.specs.Parts.{nodes_seen};
 ghost use Rattle.node_table.specs.Faults.{FaultOf, OfTwo};
 
 use crate::fault::TableFault;
@@ -50,8 +50,8 @@ impl NodeTable {
 
     /// The node of an id.
     pub fn get(&self, id: &Id) -> Option<&[u8]>
-        ensures found { option_copied result ≡ map.get self.now.nodes id.now.0 }
-        ensures digest { IfSome result (λ bytes. sha256 bytes.now ≡ id.now.0) }
+        ensures found { option_copied result ≡ map.get self.now.nodes id.now }
+        ensures digest { IfSome result (λ bytes. sha256 bytes.now ≡ id.now) }
         ensures digests { AreDigests self.now.nodes }
     {
         self.store.get(id)
@@ -59,7 +59,7 @@ impl NodeTable {
 
     /// The roots of a settled changeset. No other has any.
     pub fn roots(&self, number: u32) -> Option<Roots>
-        ensures value { option_map roots_seen result ≡ map.get self.now.roots number }
+        ensures value { result ≡ map.get self.now.roots number }
         ensures settled { is_some result ≡ is_settled self.now number }
     {
         self.roots.get(number)
@@ -75,7 +75,7 @@ impl NodeTable {
 
     /// Puts a node in, and answers its id.
     pub fn insert(&mut self, bytes: Vec<u8>) -> Result<Id, TableFault>
-        ensures id { IfOk result (λ id. id.0 ≡ sha256 bytes.items) }
+        ensures id { IfOk result (λ id. id ≡ sha256 bytes.items) }
         ensures ok { OnOk result (self.new ≡ record self.old { nodes = with_node self.old.nodes bytes.items }) }
         ensures err { OnErr result (self.new ≡ self.old) }
         ensures nodes { OnOk result ((n : List ℕ) → Has self.new.nodes n ↔ IsAmong self.old.nodes (bytes.items ∷ []) n) }
@@ -94,7 +94,7 @@ impl NodeTable {
         roots: Roots,
         nodes: Vec<Vec<u8>>,
     ) -> Result<(), TableFault>
-        ensures ok { OnOk result (self.new ≡ settled_with self.old number (roots_seen roots) (nodes_seen nodes.items)) }
+        ensures ok { OnOk result (self.new ≡ settled_with self.old number roots (nodes_seen nodes.items)) }
         ensures err { OnErr result (self.new ≡ self.old) }
         ensures settled { is_settled self.old number ≡ true → IsOk result × (self.new ≡ self.old) }
         ensures nodes { OnOk result (is_settled self.old number ≡ false → (n : List ℕ) → Has self.new.nodes n ↔ IsAmong self.old.nodes (nodes_seen nodes.items) n) }
@@ -120,7 +120,7 @@ impl NodeTable {
     // Adds a number that isn't settled and its roots, or nothing.
     fn note(&mut self, number: u32, roots: Roots) -> Result<(), AllocError>
         requires { is_settled self.old number ≡ false }
-        ensures ok { OnOk result (self.new ≡ record self.old { roots = map.insert self.old.roots number (roots_seen roots); settled = self.old.settled ++ number ∷ [] }) }
+        ensures ok { OnOk result (self.new ≡ record self.old { roots = map.insert self.old.roots number roots; settled = self.old.settled ++ number ∷ [] }) }
         ensures err { OnErr result (self.new ≡ self.old) }
     {
         self.settled.push(number)?;

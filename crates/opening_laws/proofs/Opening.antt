@@ -11,9 +11,9 @@ use Rattle.std.proofs.lemmas.Slice.Eq.{bytes_eq-Decides}
 use Rattle.sha2.specs.Sha256.{sha256}
 use Rattle.byte_fields.specs.Bytes.{IsBytes, are_bytes, sized}
 use Rattle.byte_fields.specs.Reading.{any, keeping}
-use Rattle.byte_fields.proofs.FieldLemmas.{keeps, reads_with_len, spelled_32, spelled_64}
+use Rattle.byte_fields.proofs.FieldLemmas.{all_bytes, keeps, reads_with_len, spelled_32, spelled_64}
 use Rattle.changeset_model.specs.Changeset.{most_content}
-use Rattle.changeset_model.proofs.Accepting.{IsBytes-drop, all_bytes}
+use Rattle.changeset_model.proofs.Accepting.{IsBytes-drop}
 use Rattle.history_model.specs.History.{Body, Content, Entry, is_stored, unnumbered, bodies, stored, is_down, content_len}
 use Rattle.history_model.specs.Journal.{Header, is_header, mark, header_bytes, open_record, payload, most_payload, IsPayload, HoldsRecords, Stands}
 use Rattle.history_model.specs.Payload.{payload_body}

@@ -4,6 +4,3 @@
 mod least;
 
 pub use least::{Clash, least_clash};
-
-#[cfg(test)]
-mod tests;

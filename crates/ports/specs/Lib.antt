@@ -3,4 +3,3 @@ pub mod Streams
 pub mod Memory
 pub mod Openers
 pub mod Shelves
-pub mod MemOpeners

@@ -1,9 +1,10 @@
--- Streams over memory, each with a list of the calls that are to fail. Calls are counted from 0.
---     Supply, Store      what a source and a sink over memory are seen as
+-- Streams and openers over memory, each with a list of the calls that are to fail. Calls are counted from 0.
+--     Supply, Store, Ends, Stock D      what a source, a sink, a link and an opener over memory are seen as
 --     raised n      a count of 64 bits that was raised, if it isn't at its last value
 --     read_len s room      how many bytes a read takes;  fits s len      whether a sink has room for a write
 use Rattle.std.specs.Prelude.{ℕ, ◌+◌, ◌-◌, ◌^◌, ◌==◌, nat_le, Bool, List, length, min}
 use Rattle.std.specs.List.{list_any}
+use Rattle.ports.specs.Openers.{Shelf}
 
 -- the bytes left, the most bytes of one read
 pub record Supply : Type 0 where
@@ -17,6 +18,17 @@ pub record Supply : Type 0 where
 pub record Store : Type 0 where
   pub written : List ℕ
   pub room : ℕ
+  pub failing : List ℕ
+  pub calls : ℕ
+  pub faults : ℕ
+
+pub record Ends : Type 0 where
+  pub input : Supply
+  pub output : Store
+
+-- what stands under the names
+pub record Stock (D : Type 0) : Type 0 where
+  pub shelf : Shelf D
   pub failing : List ℕ
   pub calls : ℕ
   pub faults : ℕ

@@ -2,18 +2,28 @@
 //! Over memory an object tells what it has; a real one tells only its failures.
 #![tactic(auto)]
 
+pub mod clock;
 pub mod failed;
+pub mod gate;
+pub mod link;
+pub mod mem_link;
 pub mod mem_opener;
 pub mod mem_sink;
 pub mod mem_source;
 pub mod opener;
+pub mod pair;
 pub mod sink;
 pub mod source;
 
+pub use clock::Clock;
 pub use failed::Failed;
+pub use gate::{Gate, NoGate};
+pub use link::Link;
+pub use mem_link::MemLink;
 pub use mem_opener::{MemOpener, Slot};
 pub use mem_sink::MemSink;
 pub use mem_source::MemSource;
 pub use opener::Opener;
+pub use pair::Pair;
 pub use sink::Sink;
 pub use source::Source;

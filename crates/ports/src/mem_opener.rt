@@ -1,10 +1,14 @@
 //! An opener over memory.
-ghost use Rattle.std.specs.Prelude.{◌≡◌, ◌<◌, Some, IfSome, IfNone, slice_index_or, vec_len};
-ghost use Rattle.ports.specs.declared.mem_opener.Slot.{Slot};
-ghost use Rattle.ports.specs.Shelves.{held_by};
+ghost use Rattle.std.specs.Prelude.{◌≡◌, ◌↔◌, ◌||◌, [], Some, None, IfOk, IfSome, IfNone, OnOk, OnErr, IsErr, IsTrue, is_err, is_some, not, position, if◌then◌else◌};
+ghost use Rattle.std.specs.Option.{ForSome, option_map};
+ghost use Rattle.ports.specs.Faults.{Counts};
+ghost use Rattle.ports.specs.Memory.{fails_at, raised};
+ghost use Rattle.ports.specs.Openers.{given, left, taken_out};
+ghost use Rattle.ports.specs.Shelves.{has_name, held_by, shelf_in};
 
 use crate::failed::Failed;
 use crate::opener::Opener;
+use std::marker::Model;
 
 /// A name, with what it has until that is taken out.
 #[derive(Drop)]
@@ -24,13 +28,19 @@ pub struct MemOpener<D> {
     faults: u64,
 }
 
-impl<D> MemOpener<D> {
-    ghost use Rattle.ports.specs.MemOpeners.{shelf_of};
+impl<D> Model for MemOpener<D> {
+    ghost use Rattle.ports.specs.Memory.{Stock};
     ghost use Rattle.ports.specs.Shelves.{shelf_in};
 
-    /// An opener of these names, which gives a new name one of the empty ones.
+    ghost Value = { Stock D };
+
+    ghost view = { λ o. record { shelf = shelf_in o.named.items o.empty.items; failing = o.failing.items; calls = o.calls; faults = o.faults } };
+}
+
+impl<D> MemOpener<D> {
+    /// An opener of these names, which gives a new name one of the empty ones, the last first.
     pub fn new(named: Vec<Slot<D>>, empty: Vec<D>, failing: Vec<u64>) -> Self
-        ensures { shelf_of result ≡ shelf_in named.items empty.items }
+        ensures { result ≡ record { shelf = shelf_in named.items empty.items; failing = failing.items; calls = 0; faults = 0 } }
     {
         MemOpener {
             named,
@@ -43,22 +53,23 @@ impl<D> MemOpener<D> {
 }
 
 impl<D> Opener<D> for MemOpener<D> {
-    ghost use Rattle.ports.specs.Shelves.{shelf_in};
-
     ghost faults = { λ o. o.faults };
 
-    ghost shelf = { λ o. Some (shelf_in o.named.items o.empty.items) };
+    ghost shelf = { λ o. Some o.shelf };
 
-    fn open(&mut self, name: &str, create: bool) -> Result<D, Failed> {
+    fn open(&mut self, name: &str, create: bool) -> Result<D, Failed>
+        ensures gives { IfOk result (λ disk. ForSome (Some self.old.shelf) (λ s. given name.now create s ≡ Some disk)) }
+        ensures left { OnOk result (Some self.new.shelf ≡ option_map (left name.now create) (Some self.old.shelf)) }
+        ensures err { OnErr result (Some self.new.shelf ≡ Some self.old.shelf) }
+        ensures faults { Counts self.old.faults self.new.faults (is_err result) }
+        ensures fails { IsErr result ↔ IsTrue (fails_at self.old.failing self.old.calls || not (is_some (given name.now create self.old.shelf))) }
+        ensures calls { (self.new.calls ≡ raised self.old.calls) × (self.new.faults ≡ (if is_err result then raised self.old.faults else self.old.faults)) }
+        ensures same { self.new.failing ≡ self.old.failing }
+    {
         let call = self.calls;
         self.calls = call.saturating_add(1);
         if !self.failing.contains(&call) {
-            let found = take_named(&mut self.named, name);
-            let held = match found {
-                Some(held) => held,
-                None => { if create { self.empty.pop() } else { None } }
-            };
-            if let Some(disk) = held {
+            if let Some(disk) = take_out(&mut self.named, &mut self.empty, name, create) {
                 return Ok(disk);
             }
         }
@@ -67,9 +78,22 @@ impl<D> Opener<D> for MemOpener<D> {
     }
 }
 
+// What the name has, or for a new name the last of the empty ones.
+fn take_out<D>(named: &mut Vec<Slot<D>>, empty: &mut Vec<D>, name: &str, create: bool) -> Option<D>
+    ensures gives { result ≡ given name.now create (shelf_in named.old.items empty.old.items) }
+    ensures left { IfSome result (λ _. shelf_in named.new.items empty.new.items ≡ left name.now create (shelf_in named.old.items empty.old.items)) }
+    ensures same { IfNone result (shelf_in named.new.items empty.new.items ≡ shelf_in named.old.items empty.old.items) }
+{
+    match take_named(named, name) {
+        Some(held) => held,
+        None => { if create { empty.pop() } else { None } }
+    }
+}
+
 // What the name has, taken out, and none where no slot has the name.
 fn take_named<D>(named: &mut Vec<Slot<D>>, name: &str) -> Option<Option<D>>
-    ensures { result ≡ held_by name.now named.old.items }
+    ensures held { result ≡ held_by name.now named.old.items }
+    ensures left { (shelf_in named.new.items []).named ≡ taken_out name.now (shelf_in named.old.items []).named }
 {
     match place_of(named, name) {
         Some(at) => {
@@ -82,54 +106,7 @@ fn take_named<D>(named: &mut Vec<Slot<D>>, name: &str) -> Option<Option<D>>
 
 // The first slot that has the name.
 fn place_of<D>(named: &Vec<Slot<D>>, name: &str) -> Option<usize>
-    ensures found { IfSome result (λ at. at < vec_len named.now) }
-    ensures held { IfSome result (λ at. (d : Slot D) → held_by name.now named.now.items ≡ Some (slice_index_or named.now.items at d).held) }
-    ensures absent { IfNone result (held_by name.now named.now.items ≡ None) }
+    ensures { result ≡ position (has_name name.now) named.now.items }
 {
-    let mut at = 0;
-    while at < named.len() {
-        if named[at].name.as_str() == name {
-            return Some(at);
-        }
-        at += 1;
-    }
-    None
-}
-
-#[cfg(test)]
-mod tests {
-    use super::*;
-    use std::alloc::{AllocError, Global};
-    use std::test::Fail;
-
-    fn numbers(alloc: Global, all: &[u64]) -> Result<Vec<u64>, AllocError> {
-        Vec::from_slice(alloc, all)
-    }
-
-    #[test]
-    fn names_are_opened_once(rt: HostRuntime) -> Result<(), Fail> {
-        let alloc = rt.alloc();
-        let mut named = Vec::new(alloc);
-        named.push(Slot {
-            name: String::from_str(alloc, "old")?,
-            held: Some(1),
-        })?;
-        let mut opener = MemOpener::new(named, numbers(alloc, &[7, 8])?, numbers(alloc, &[1])?);
-        for (name, create, opened) in [
-            ("old", false, Some(1)),
-            // the call that is to fail
-            ("new", true, None),
-            // it was taken out
-            ("old", true, None),
-            ("new", false, None),
-            ("new", true, Some(8)),
-            ("newer", true, Some(7)),
-            // no empty one is left
-            ("newest", true, None),
-        ] {
-            assert_eq!(rt; opener.open(name, create).ok(), opened, "{name}");
-        }
-        assert_eq!(rt; opener.faults, 4);
-        Ok(())
-    }
+    named.iter().position(|slot| slot.name.as_str() == name)
 }

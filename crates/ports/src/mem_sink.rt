@@ -77,28 +77,3 @@ impl Sink for MemSink {
         Ok(())
     }
 }
-
-#[cfg(test)]
-mod tests {
-    use super::*;
-    use std::test::Fail;
-
-    #[test]
-    fn writes_go_out_whole_or_fail(rt: HostRuntime) -> Result<(), Fail> {
-        let alloc = rt.alloc();
-        let table: [(usize, &[u64], &str); 4] = [
-            (6, &[], "abcdef"),
-            (5, &[], "abcd"),
-            (1, &[], ""),
-            (6, &[1], "abef"),
-        ];
-        for (room, failing, text) in table {
-            let mut sink = MemSink::new(alloc, room, Vec::from_slice(alloc, failing)?)?;
-            for piece in [b"ab", b"cd", b"ef"] {
-                let _ = sink.write(piece.as_slice());
-            }
-            assert_eq!(rt; sink.written(), text.as_bytes());
-        }
-        Ok(())
-    }
-}

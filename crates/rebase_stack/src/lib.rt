@@ -6,6 +6,3 @@ mod stack;
 
 pub use paths::touched;
 pub use stack::rebase;
-
-#[cfg(test)]
-mod tests;

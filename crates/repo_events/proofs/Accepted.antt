@@ -14,11 +14,11 @@ use Rattle.sha2.specs.Sha256.{sha256}
 use Rattle.byte_fields.specs.Bytes.{Id, IsBytes, sized}
 use Rattle.byte_fields.specs.Reading.{and_then, value, ◌>>=◌, field, number, keeping, as_one, times, read, any, id}
 use Rattle.changeset_model.specs.Changeset.{Changeset, spelling}
-use Rattle.changeset_model.specs.Decoding.{DecodeFault, decoded}
+use Rattle.changeset_model.specs.Decoding.{decoded}
 use Rattle.changeset_model.proofs.Accepting.{Took, took_then, took_end, bind_ok, ok_is, keeping_ok, IsWide, wide32, number_ok, byte_ok, with_len_ok, id_ok, value_ok, whole_ok, IsBytes-drop, IsBytes-take, accepted_exactly}
 use Rattle.history_model.specs.Bookmark.{is_name}
-use Rattle.history_model.specs.History.{Body, Move, Landing, Content, Change, Book, Land, changesets_in}
-use Rattle.history_model.specs.Journal.{optional_id, payload, IsPayload, most_payload}
+use Rattle.history_model.specs.History.{Body, Content, Change, Book, Land, changesets_in}
+use Rattle.history_model.specs.Journal.{optional_id, IsPayload, most_payload}
 use Rattle.history_model.specs.Payload.{bookmark_name, flagged, optional, encoded, book, landing, content, upload, by_mark, body, payload_body}
 
 abbrev pub IsAccepted : Body → List ℕ → Type 0

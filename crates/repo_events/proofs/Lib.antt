@@ -1,6 +1,5 @@
-pub mod Lengths
-pub mod Written
-pub mod Names
-pub mod Run
 pub mod Accepted
 pub mod Decoded
+pub mod Lengths
+pub mod Names
+pub mod Written

@@ -1,10 +1,7 @@
 -- The entries of the code as those of the definitions.
---     id_of_option x      the bytes of an id that may be absent
 --     move_of, landing_of, body_of      what they say, without where they lie in memory
 --     commits_length cs      the bytes of the spellings, each behind its length
-use Rattle.std.specs.Prelude.{ℕ, ◌+◌, List, length, sum_by, Option, option_map}
-use Rattle.byte_fields.specs.Bytes as bytes
-use Rattle.object_id.specs.declared.id.Id.{Id}
+use Rattle.std.specs.Prelude.{ℕ, ◌+◌, List, length, sum_by}
 use Rattle.changeset_model.specs.Changeset.{Changeset, spelling}
 use Rattle.history_model.specs.History as model
 use Rattle.repo_events.specs.declared.body.Body.{Body}
@@ -12,17 +9,14 @@ use Rattle.repo_events.specs.declared.body.Body.TheVariants.{Content, Change, Bo
 use Rattle.repo_events.specs.declared.body.Move.{Move}
 use Rattle.repo_events.specs.declared.body.Landing.{Landing}
 
-abbrev pub id_of_option : Option Id → Option bytes.Id
-id_of_option x = option_map (λ id. id.0) x
-
 abbrev pub move_of : Move → model.Move
-move_of m = record { name = m.name; from = id_of_option m.from; to = id_of_option m.to }
+move_of m = record { name = m.name; from = m.from; to = m.to }
 
 abbrev pub landing_of : Landing → model.Landing
-landing_of l = record { name = l.name; old = l.old.0; draft = l.draft.0; new = l.new.items }
+landing_of l = record { name = l.name; old = l.old; draft = l.draft; new = l.new.items }
 
 abbrev pub body_of : Body → model.Body
-body_of (Content id length) = model.Content id.0 length
+body_of (Content id length) = model.Content id length
 body_of (Change commit) = model.Change commit
 body_of (Book movement) = model.Book (move_of movement)
 body_of (Land landing) = model.Land (landing_of landing)

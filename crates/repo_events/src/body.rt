@@ -1,7 +1,12 @@
 //! What an entry of a history says.
-ghost use Rattle.std.specs.Prelude.{◌≡◌, ◌<◌, ◌+◌, ◌^◌, length};
+ghost use Rattle.std.specs.Prelude.{◌≡◌, ◌<◌, ◌≤◌, ◌*◌, ◌^◌, ◌&&◌, ◌++◌, length, IsTrue};
+ghost use Rattle.std.specs.List.{list_all};
+ghost use Rattle.std.specs.Option.{option_to_list};
+ghost use Rattle.byte_fields.specs.Bytes.{is_bytes};
+ghost use Rattle.history_model.specs.Bookmark.{is_name};
+ghost use Rattle.history_model.specs.History.{Book, Land, changesets_in};
 ghost use Rattle.history_model.specs.Journal.{optional_id, payload_len};
-ghost use Rattle.repo_events.specs.Entries.{id_of_option, commits_length, body_of};
+ghost use Rattle.repo_events.specs.Entries.{commits_length, move_of, landing_of, body_of};
 
 use bonsai::Commit;
 use object_id::Id;
@@ -43,6 +48,7 @@ impl Body {
     /// The length in bytes of the payload that stands for the entry.
     pub fn payload_length(&self) -> u64
         requires fits { payload_len (body_of self.now) < 2 ^ 64 }
+        requires counted { length (changesets_in (body_of self.now)) < 2 ^ 16 }
         ensures { result ≡ payload_len (body_of self.now) }
     {
         match self {
@@ -54,45 +60,53 @@ impl Body {
     }
 }
 
-// The length in bytes of an id that may be absent, with its flag.
-fn optional_length(id: Option<Id>) -> u64
-    ensures value { result ≡ length (optional_id (id_of_option id)) }
-    ensures short { result < 34 }
-{
-    match id {
-        None => 1,
-        Some(_) => 33,
-    }
-}
-
 impl Move {
-    fn payload_length(&self) -> u64
-        ensures { result ≡ payload_len (body_of (Body.Book self.now)) }
+    /// The length in bytes of the payload that stands for the move.
+    pub fn payload_length(&self) -> u64
+        ensures value { result ≡ payload_len (Book (move_of self.now)) }
+        ensures short { result < 2 ^ 9 }
+        ensures rules { IsTrue (is_name self.now.name && list_all (is_bytes 32) (option_to_list self.now.from ++ option_to_list self.now.to)) }
     {
         let name = self.name.as_str().len() as u64;
         2 + name + optional_length(self.from) + optional_length(self.to)
     }
 }
 
-// The length in bytes of the spellings, each behind its length.
+// The length in bytes of an id that may be absent, with its flag.
+fn optional_length(id: Option<Id>) -> u64
+    ensures value { result ≡ length (optional_id id) }
+    ensures short { result < 34 }
+    ensures rules { IsTrue (list_all (is_bytes 32) (option_to_list id)) }
+{
+    match id {
+        None => 1,
+        Some(id) => 1 + id.as_bytes().as_slice().len() as u64,
+    }
+}
+
+impl Landing {
+    /// The length in bytes of the payload that stands for the landing.
+    pub fn payload_length(&self) -> u64
+        requires { length self.now.new.items < 2 ^ 16 }
+        ensures value { result ≡ payload_len (Land (landing_of self.now)) }
+        ensures short { result < 2 ^ 42 }
+        ensures rules { IsTrue (is_name self.now.name && is_bytes 32 self.now.old && is_bytes 32 self.now.draft) }
+    {
+        let name = self.name.as_str().len();
+        let ids = self.old.as_bytes().as_slice().len() + self.draft.as_bytes().as_slice().len();
+        4 + name as u64 + ids as u64 + commits_length(self.new.as_slice())
+    }
+}
+
+// The length in bytes of the encodings, each behind its length.
 fn commits_length(commits: &[Commit]) -> u64
-    requires { commits_length commits.now < 2 ^ 64 }
-    ensures { result ≡ commits_length commits.now }
+    requires { length commits.now < 2 ^ 16 }
+    ensures value { result ≡ commits_length commits.now }
+    ensures short { result ≤ 2 ^ 26 * length commits.now }
 {
     let mut length = 0;
     'commits: for commit in commits {
         length += 4 + commit.encoded_length() as u64;
     }
     length
-}
-
-impl Landing {
-    fn payload_length(&self) -> u64
-        requires { payload_len (body_of (Body.Land self.now)) < 2 ^ 64 }
-        ensures { result ≡ payload_len (body_of (Body.Land self.now)) }
-    {
-        let name = self.name.as_str().len() as u64;
-        let ids = self.old.0.as_slice().len() + self.draft.0.as_slice().len();
-        4 + name + ids as u64 + commits_length(self.new.as_slice())
-    }
 }

@@ -1,23 +1,21 @@
 //! Entries, read of payloads.
 ghost use Rattle.std.specs.Prelude.{◌≡◌, ◌-◌, ◌^◌, ◌<◌, [], length, Ok, IfOk};
+ghost use Rattle.byte_fields.specs.Reads.{Reads};
 ghost use Rattle.history_model.specs.History.{changesets_in};
 ghost use Rattle.history_model.specs.Journal.{IsPayload, payload_len};
 ghost use Rattle.history_model.specs.Payload as payload;
 ghost use Rattle.repo_events.specs.Decodes.{Decodes};
 ghost use Rattle.repo_events.specs.Entries.{body_of};
-ghost use Rattle.repo_events.specs.Reads.{Reads};
 
 use crate::body::{Body, Landing, Move};
-use crate::field_fault::FieldFault;
+use crate::limits::MOST_PAYLOAD;
 use crate::mark;
 use crate::parts::{commit_of, commits_at, name_at, optional_at};
 use crate::payload_fault::PayloadFault;
+use byte_fields::FieldFault;
 use byte_fields::fields::{id_at, u16_at};
 use object_id::Id;
 use std::alloc::Global;
-
-/// The most bytes of a payload.
-pub const MOST_PAYLOAD: usize = 16_777_216;
 
 /// The entry that a payload stands for.
 pub fn decode_payload(alloc: Global, bytes: &[u8]) -> Result<Body, PayloadFault>
@@ -85,8 +83,14 @@ fn move_at(alloc: Global, bytes: &[u8]) -> Result<(Body, &[u8]), FieldFault>
     ensures { Reads (λ x. (body_of x.0, x.1.now)) result (payload.book bytes.now) }
 {
     let (name, rest) = name_at(alloc, bytes)?;
-    let (from, rest) = optional_at(rest)?;
-    let (to, rest) = optional_at(rest)?;
+    let (from, rest) = match optional_at(rest) {
+        Ok(read) => read,
+        Err(fault) => return Err(fault.into()),
+    };
+    let (to, rest) = match optional_at(rest) {
+        Ok(read) => read,
+        Err(fault) => return Err(fault.into()),
+    };
     Ok((Body::Book(Move { name, from, to }), rest))
 }
 
@@ -100,8 +104,8 @@ fn landing_at(alloc: Global, bytes: &[u8]) -> Result<(Body, &[u8]), FieldFault>
     let (new, rest) = commits_at(alloc, count, rest)?;
     let landing = Landing {
         name,
-        old: Id(old),
-        draft: Id(draft),
+        old: Id::from_bytes(old),
+        draft: Id::from_bytes(draft),
         new,
     };
     Ok((Body::Land(landing), rest))

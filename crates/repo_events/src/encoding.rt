@@ -6,17 +6,15 @@ ghost use Rattle.byte_fields.specs.Bytes.{sized};
 ghost use Rattle.changeset_model.specs.Changeset.{spelling};
 ghost use Rattle.history_model.specs.History.{changesets_in};
 ghost use Rattle.history_model.specs.Journal.{framed, optional_id, payload};
-ghost use Rattle.repo_events.specs.Entries.{id_of_option, commits_length, body_of};
+ghost use Rattle.repo_events.specs.Entries.{commits_length, body_of};
 
 use crate::body::{Body, Landing, Move};
+use crate::limits::FRAME;
 use crate::mark;
-use bonsai::{Commit, encode};
+use bonsai::{Commit, encode_into};
 use object_id::Id;
 use repo_path::BookName;
 use std::alloc::{AllocError, Global};
-
-/// The bytes of a frame beside its payload: a length before it, and a closed gate behind it.
-const FRAME: usize = 5;
 
 /// The payload of an entry behind its length in 32 bits, and a closed gate after it. `content` has the bytes of a
 /// content, and isn't looked at for other entries. A payload has fewer than 4,294,967,296 bytes, and a landing at most
@@ -29,14 +27,15 @@ pub fn encode_entry(alloc: Global, body: &Body, content: &[u8]) -> Result<Vec<u8
     let length = stored_length(body, content);
     let mut frame = Vec::with_capacity(alloc, length as usize + FRAME)?;
     frame.extend_from_slice(&length.to_be_bytes())?;
-    put_payload(alloc, &mut frame, body, content)?;
+    put_payload(&mut frame, body, content)?;
     frame.push(0)?;
     Ok(frame)
 }
 
 // The length in bytes of the payload. A content's is that of its bytes, behind a mark.
 fn stored_length(body: &Body, content: &[u8]) -> u32
-    requires { length (payload (body_of body.now) content.now) < 2 ^ 32 }
+    requires short { length (payload (body_of body.now) content.now) < 2 ^ 32 }
+    requires counted { length (changesets_in (body_of body.now)) < 2 ^ 16 }
     ensures { result ≡ length (payload (body_of body.now) content.now) }
 {
     match body {
@@ -45,21 +44,15 @@ fn stored_length(body: &Body, content: &[u8]) -> u32
     }
 }
 
-fn put_payload(
-    alloc: Global,
-    out: &mut Vec<u8>,
-    body: &Body,
-    content: &[u8],
-) -> Result<(), AllocError>
-    requires short { length (payload (body_of body.now) content.now) < 2 ^ 32 }
-    requires counted { length (changesets_in (body_of body.now)) < 2 ^ 16 }
+fn put_payload(out: &mut Vec<u8>, body: &Body, content: &[u8]) -> Result<(), AllocError>
+    requires { length (changesets_in (body_of body.now)) < 2 ^ 16 }
     ensures { OnOk result (out.new.items ≡ out.old.items ++ payload (body_of body.now) content.now) }
 {
     match body {
         Body::Content { id: _, length: _ } => put_content(out, content),
-        Body::Change(commit) => put_spelling(alloc, out, commit),
+        Body::Change(commit) => encode_into(out, commit.changeset()),
         Body::Book(movement) => put_move(out, movement),
-        Body::Land(landing) => put_landing(alloc, out, landing),
+        Body::Land(landing) => put_landing(out, landing),
     }
 }
 
@@ -68,13 +61,6 @@ fn put_content(out: &mut Vec<u8>, content: &[u8]) -> Result<(), AllocError>
 {
     out.push(mark::CONTENT)?;
     out.extend_from_slice(content)
-}
-
-fn put_spelling(alloc: Global, out: &mut Vec<u8>, commit: &Commit) -> Result<(), AllocError>
-    ensures { OnOk result (out.new.items ≡ out.old.items ++ spelling commit.now) }
-{
-    let bytes = encode(alloc, commit.changeset())?;
-    out.extend_from_slice(bytes.as_slice())
 }
 
 fn put_move(out: &mut Vec<u8>, movement: &Move) -> Result<(), AllocError>
@@ -96,47 +82,44 @@ fn put_name(out: &mut Vec<u8>, name: &BookName) -> Result<(), AllocError>
 
 // An id that may be absent, with its flag.
 fn put_optional(out: &mut Vec<u8>, id: Option<Id>) -> Result<(), AllocError>
-    ensures { OnOk result (out.new.items ≡ out.old.items ++ optional_id (id_of_option id)) }
+    ensures { OnOk result (out.new.items ≡ out.old.items ++ optional_id id) }
 {
     match id {
         None => out.push(0)?,
         Some(id) => {
             out.push(1)?;
-            out.extend_from_slice(&id.0)?;
+            out.extend_from_slice(id.as_bytes())?;
         }
     }
     Ok(())
 }
 
-fn put_landing(alloc: Global, out: &mut Vec<u8>, landing: &Landing) -> Result<(), AllocError>
-    requires short { length (payload (body_of (Body.Land landing.now)) []) < 2 ^ 32 }
-    requires counted { length landing.now.new.items < 2 ^ 16 }
+fn put_landing(out: &mut Vec<u8>, landing: &Landing) -> Result<(), AllocError>
+    requires { length landing.now.new.items < 2 ^ 16 }
     ensures { OnOk result (out.new.items ≡ out.old.items ++ payload (body_of (Body.Land landing.now)) []) }
 {
     out.push(mark::LANDING)?;
     put_name(out, &landing.name)?;
-    out.extend_from_slice(&landing.old.0)?;
-    out.extend_from_slice(&landing.draft.0)?;
+    out.extend_from_slice(landing.old.as_bytes())?;
+    out.extend_from_slice(landing.draft.as_bytes())?;
     out.extend_from_slice(&(landing.new.len() as u16).to_be_bytes())?;
-    put_commits(alloc, out, landing.new.as_slice())
+    put_commits(out, landing.new.as_slice())
 }
 
 // The spellings, each behind its length.
-fn put_commits(alloc: Global, out: &mut Vec<u8>, commits: &[Commit]) -> Result<(), AllocError>
-    requires { commits_length commits.now < 2 ^ 32 }
+fn put_commits(out: &mut Vec<u8>, commits: &[Commit]) -> Result<(), AllocError>
     ensures { OnOk result (out.new.items ≡ out.old.items ++ concat (map (λ c. sized w32 (spelling c)) commits.now)) }
 {
     for commit in commits {
-        put_sized(alloc, out, commit)?;
+        put_sized(out, commit)?;
     }
     Ok(())
 }
 
-fn put_sized(alloc: Global, out: &mut Vec<u8>, commit: &Commit) -> Result<(), AllocError>
-    requires { length (spelling commit.now) < 2 ^ 32 }
+fn put_sized(out: &mut Vec<u8>, commit: &Commit) -> Result<(), AllocError>
     ensures { OnOk result (out.new.items ≡ out.old.items ++ sized w32 (spelling commit.now)) }
 {
     let length = commit.encoded_length() as u32;
     out.extend_from_slice(&length.to_be_bytes())?;
-    put_spelling(alloc, out, commit)
+    encode_into(out, commit.changeset())
 }

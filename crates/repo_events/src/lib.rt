@@ -5,12 +5,13 @@
 pub mod body;
 pub mod decoding;
 pub mod encoding;
-mod field_fault;
+pub mod limits;
 mod mark;
 mod parts;
 pub mod payload_fault;
 
 pub use body::{Body, Landing, Move};
-pub use decoding::{MOST_PAYLOAD, decode_payload};
+pub use decoding::decode_payload;
 pub use encoding::encode_entry;
+pub use limits::{FRAME, MOST_PAYLOAD, MOST_STACK};
 pub use payload_fault::PayloadFault;

@@ -3,17 +3,15 @@ ghost use Rattle.std.specs.Prelude.{◌≡◌, IfOk, IfErr};
 ghost use Rattle.std.specs.Result.{result_ok};
 ghost use Rattle.byte_fields.specs.Gives.{Gives};
 ghost use Rattle.byte_fields.specs.Reading.{keeping, times};
+ghost use Rattle.byte_fields.specs.Reads.{Reads};
+ghost use Rattle.byte_fields.specs.declared.field_fault.FieldFault.TheVariants.{Memory};
 ghost use Rattle.changeset_model.specs.Decoding.{decoded};
 ghost use Rattle.history_model.specs.Bookmark.{is_name};
 ghost use Rattle.history_model.specs.Payload as payload;
-ghost use Rattle.repo_events.specs.Entries.{id_of_option};
-ghost use Rattle.repo_events.specs.Reads.{Reads};
-ghost use Rattle.repo_events.specs.declared.field_fault.FieldFault.TheVariants.{Memory};
 
-use crate::field_fault::FieldFault;
 use bonsai::{Commit, DecodeFault};
-use byte_fields::BadField;
 use byte_fields::fields::{bytes_at, id_at, u8_at, u32_at};
+use byte_fields::{BadField, FieldFault};
 use object_id::Id;
 use repo_path::{BookName, NameFault};
 use std::alloc::Global;
@@ -48,20 +46,23 @@ pub(crate) fn name_at(alloc: Global, bytes: &[u8]) -> Result<(BookName, &[u8]), 
 
 // The id behind the flag of one that is there.
 fn present_id_at(bytes: &[u8]) -> Result<(Option<Id>, &[u8]), BadField>
-    ensures { Gives (λ x. (id_of_option x.0, x.1.now)) result (payload.flagged 1 bytes.now) }
+    ensures { Gives (λ x. (x.0, x.1.now)) result (payload.flagged 1 bytes.now) }
 {
     let (id, rest) = id_at(bytes)?;
-    Ok((Some(Id(id)), rest))
+    Ok((Some(Id::from_bytes(id)), rest))
 }
 
 /// An id that may be absent: one field with its flag.
 pub(crate) fn optional_at(bytes: &[u8]) -> Result<(Option<Id>, &[u8]), BadField>
-    ensures { Gives (λ x. (id_of_option x.0, x.1.now)) result (payload.optional bytes.now) }
+    ensures { Gives (λ x. (x.0, x.1.now)) result (payload.optional bytes.now) }
 {
     let left = bytes.len();
     match bytes {
         [0, rest @ ..] => Ok((None, rest)),
-        [1, rest @ ..] => present_id_at(rest).map_err(|_| BadField { left }),
+        [1, rest @ ..] => match present_id_at(rest) {
+            Ok(present) => Ok(present),
+            Err(_) => Err(BadField { left }),
+        },
         _ => Err(BadField { left }),
     }
 }

@@ -3,4 +3,8 @@ pub mod Seals
 pub mod Frames
 pub mod Histories
 pub mod Walks
+pub mod Creation
 pub mod RecordsLeft
+pub mod Windows
+pub mod Listing
+pub mod Opened

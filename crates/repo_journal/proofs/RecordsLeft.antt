@@ -1,15 +1,17 @@
 -- The records of a file, one after another.
-use Rattle.std.proofs.Common.{◌≡◌, ℕ, suc, ◌+◌, ◌<◌, ◌≤◌, List, [], ◌∷◌, ◌++◌, length, take, drop, refl, sym, ap, subst, ◌∙◌, arith, append_assoc}
-use Rattle.std.specs.Prelude.{Option, None, Some, Result, Ok, Err, false, is_err, OnOk, IsTrue}
-use Rattle.std.specs.Option.{ForSome}
+use Rattle.std.proofs.Common.{◌≡◌, ℕ, suc, ◌+◌, ◌-◌, ◌<◌, ◌≤◌, cond, List, [], ◌∷◌, ◌++◌, length, take, drop, refl, sym, ap, subst, ◌∙◌, arith, append_assoc}
+use Rattle.std.specs.Prelude.{Option, None, Some, true, false, nat_lt, slice_index, ◌==◌}
 use Rattle.std.specs.Int.{w32, from_be_bytes, to_be_bytes}
-use Rattle.std.proofs.lemmas.List.{length-append, drop-drop, append-nil}
+use Rattle.std.proofs.lemmas.List.{length-append, length-drop, length-take, drop-drop, drop-take, take-take, append-nil}
+use Rattle.std.proofs.lemmas.Bool.Decides.{nat_tests}
 use Rattle.std.proofs.Math.Seq.{drop-append_seam}
 use Rattle.byte_fields.proofs.FieldLemmas.{spelled_32}
-use Rattle.blob_disk.specs.Meaning.{Meaning, IsSound}
 use Rattle.history_model.specs.Journal.{open_record}
 use Rattle.repo_journal.specs.declared.span.Span.{Span}
-use Rattle.repo_journal.proofs.Walks.{Walked}
+use Rattle.repo_journal.specs.declared.step.Step.{Step}
+use Rattle.repo_journal.specs.declared.step.Step.TheVariants.{Closed, Record, Bad}
+use Rattle.repo_journal.specs.Scanning.{head_step, open_step, sized_step, step_of, step_at}
+use Rattle.repo_journal.proofs.Windows.{gate_by_head}
 use Rattle.repo_journal.specs.Payloads.{records}
 use Rattle.repo_journal.specs.Spans.{HasRecords, first_span, spans_from}
 
@@ -60,26 +62,57 @@ some_same x y is = ap (λ o. given_or x o) is
     given_or x None = x
     given_or x (Some y) = y
 
-on_ok : {A E : Type 0} {P : Type 0} (result : Result A E) → is_err result ≡ false → OnOk result P → P
-on_ok (Ok x) ok all = all
-on_ok (Err e) ok all = absurd cc
+-- ---- what stands at a gate
 
--- what was read of a disk that keeps to the model
-module _ (m : Meaning) (sound : IsSound m) (honest : IsTrue m.honest) {A E : Type 0} (result : Result A E) (ok : is_err result ≡ false) (head : List ℕ) (at : ℕ) (read : OnOk result (ForSome m.reads (λ file. head ≡ take 4 (drop at file)))) where
-  pub read_of_state : head ≡ take 4 (drop at m.state.reads)
-  read_of_state = subst (λ reads. ForSome reads (λ file. head ≡ take 4 (drop at file))) (sound.reads honest) (on_ok result ok read) m.state.reads refl
+abbrev pub span_of : Step → Option Span
+span_of Closed = None
+span_of (Record span) = Some span
+span_of (Bad at) = None
 
-  module _ (gate size : ℕ) (behind : at ≡ gate + 1) (payloads : List (List ℕ)) (has : HasRecords gate size payloads m.state.reads) (more : gate + 5 < size) where
-    reads_length : (payload : List ℕ) × (later : List (List ℕ)) × (payloads ≡ payload ∷ later) × (from_be_bytes w32 head ≡ length payload) × (gate + 5 + length payload < size)
-    reads_length = length_read payloads has more head (read_of_state ∙ ap (λ n. take 4 (drop n m.state.reads)) behind)
+pub no_span : (step : Step) → ((span : Span) → step ≡ Record span → ⊥) → span_of step ≡ None
+no_span Closed not = refl
+no_span (Record span) not = absurd (not span refl)
+no_span (Bad at) not = refl
 
-    pub never_too_long : size ≤ gate + 5 + from_be_bytes w32 head → None ≡ first_span gate payloads
-    never_too_long long = let fact = reads_length in let len = fact.3 in let fits = fact.4 in absurd (omega arith)
+last_gate : (gate : ℕ) (bytes : List ℕ) → length bytes ≡ 1 → span_of (step_of gate bytes) ≡ None
+last_gate gate [] one = absurd (omega arith)
+last_gate gate (mark ∷ []) one = elim (mark == 1) as (λ b. span_of (cond b (open_step gate []) Closed) ≡ None) [ true ↦ refl | false ↦ refl ]
+last_gate gate (mark ∷ (b ∷ bytes)) one = absurd (omega arith)
 
-    pub first_is : (len : ℕ) → len ≡ from_be_bytes w32 head → Some (record { at = gate + 5; length = len }) ≡ first_span gate payloads
-    first_is len is =
-        let fact = reads_length in
-        (λ i. Some (record { at = gate + 5; length = (is ∙ fact.3) i })) ∙ ap (first_span gate) (sym fact.2)
+not_less : (a b : ℕ) → b ≤ a → nat_lt a b ≡ false
+not_less a b less = grind (arith, nat_tests)
+
+whole_step : (gate len left : ℕ) → len ≤ left → sized_step gate len left ≡ Record (record { at = gate + 5; length = len })
+whole_step gate len left fits = ap (λ b. cond b (Bad gate) (Record (record { at = gate + 5; length = len }))) (not_less left len fits)
+
+-- a record by its first five bytes
+record_head : (gate len behind : ℕ) (head : List ℕ) → slice_index head 0 ≡ 1 → from_be_bytes w32 (take 4 (drop 1 head)) ≡ len → len + 4 ≤ behind → head_step gate head behind ≡ Record (record { at = gate + 5; length = len })
+record_head gate len behind head one is fits =
+    ap (λ x. cond (x == 1) (cond (nat_lt behind 4) (Bad gate) (sized_step gate (from_be_bytes w32 (take 4 (drop 1 head))) (behind - 4))) Closed) one
+    ∙ ap (λ b. cond b (Bad gate) (sized_step gate (from_be_bytes w32 (take 4 (drop 1 head))) (behind - 4))) (not_less behind 4 (omega arith))
+    ∙ ap (λ n. sized_step gate n (behind - 4)) is
+    ∙ whole_step gate len (behind - 4) (omega arith)
+
+-- the first payload is what stands at the gate
+pub first_step : {gate size : ℕ} {file : List ℕ} (payloads : List (List ℕ)) → HasRecords gate size payloads file → size ≤ length file → span_of (step_at (take size file) gate) ≡ first_span gate payloads
+first_step {gate} {size} {file} [] has long =
+    let end = has.size_is in
+    let t = length-take size file in
+    let d = length-drop gate (take size file) in
+    last_gate gate (drop gate (take size file)) (omega arith)
+first_step {gate} {size} {file} (payload ∷ later) has long =
+    let head = take 5 (drop gate file) in
+    let len = length-records payload later in
+    let end = has.size_is in
+    let inside : gate < size = omega arith in
+    let field : take 4 (drop 1 head) ≡ take 4 (drop (gate + 1) file) = ap (λ xs. take 4 xs) (drop-take 1 4 (drop gate file) ∙ ap (λ xs. take 4 xs) (drop-drop 1 gate file)) ∙ take-take 4 4 (drop (gate + 1) file) (omega arith) in
+    let told = length_read (payload ∷ later) has (omega arith) (take 4 (drop 1 head)) field in
+    let same : length payload ≡ length told.0 = ap (λ ps. length (first_of payload ps)) told.2 in
+    ap (λ s. span_of s) (sym (gate_by_head file head gate size 4 long inside (omega arith) refl) ∙ record_head gate (length payload) (size - gate - 1) head (ap (λ xs. slice_index (take 5 xs) 0) has.is) (told.3 ∙ sym same) (omega arith))
+  where
+    first_of : List ℕ → List (List ℕ) → List ℕ
+    first_of d [] = d
+    first_of d (p ∷ ps) = p
 
 -- these spans were found up to this gate, and from it on the later payloads stand
 pub record AreFound (payloads : List (List ℕ)) (gate size : ℕ) (spans : List Span) (file : List ℕ) : Type 0 where
@@ -109,9 +142,3 @@ all_found {payloads} {gate} {size} {spans} {file} found end = by found.left foun
     by : (left : List (List ℕ)) → spans ++ spans_from gate left ≡ spans_from 16 payloads → None ≡ first_span gate left → spans ≡ spans_from 16 payloads
     by [] are is = sym (append-nil spans) ∙ are
     by (payload ∷ later) are is = absurd cc
-
--- what a later look finds is the first of what was left
-pub seen_first : (old now : Meaning) → Walked old now → IsTrue old.honest → (gate size : ℕ) (left : List (List ℕ)) → HasRecords gate size left old.state.reads → (next : Option Span)
-    → (IsTrue now.honest → (payloads : List (List ℕ)) → HasRecords gate size payloads now.state.reads → next ≡ first_span gate payloads) → next ≡ first_span gate left
-seen_first old now walked honest gate size left has next first =
-    first (walked.kept.honest ∙ honest) left (subst (λ d. HasRecords gate size left d.reads) (sym (walked.looked honest)) has)

@@ -5,8 +5,8 @@ use Rattle.std.proofs.lemmas.Bool.{cases_lt}
 use Rattle.disk_model.specs.Images.{Writes, Syncs, IsImage, write_at}
 use Rattle.disk_model.proofs.Crashes.{only_reads}
 use Rattle.history_model.specs.Journal.{framed}
-use Rattle.blob_disk.specs.Meaning.{Meaning, IsSound}
-use Rattle.blob_disk.specs.Calls.{Kept, LeavesOnly, Did}
+use Rattle.disk_model.specs.Meaning.{Meaning, IsSound}
+use Rattle.disk_model.specs.Calls.{Kept, LeavesOnly, Did}
 use Rattle.blob_disk.proofs.Torn.{front_left, one_byte}
 use Rattle.blob_disk.proofs.Memories.{reaches}
 use Rattle.blob_disk.proofs.Clients.{leaves_then, leaves_weaker}

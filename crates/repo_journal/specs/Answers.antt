@@ -1,11 +1,13 @@
 -- What the answers of the journal say.
 use Rattle.std.specs.Prelude.{◌≡◌, ◌<◌, ℕ, Bool, true, false, length, Result, Ok, Err, ⊤}
 use Rattle.std.specs.Option.{ForSome}
-use Rattle.blob_disk.specs.Meaning.{Meaning}
+use Rattle.disk_model.specs.Meaning.{Meaning}
 use Rattle.repo_journal.specs.declared.fault.AppendFault.{AppendFault}
 use Rattle.repo_journal.specs.declared.fault.AppendFault.TheVariants.{Full, DiskFault}
 use Rattle.repo_journal.specs.declared.fault.InitFault.{InitFault}
 use Rattle.repo_journal.specs.declared.fault.InitFault.TheVariants.{Exists, DiskFault as InitDiskFault}
+use Rattle.repo_journal.specs.declared.fault.ScanFault.{ScanFault}
+use Rattle.repo_journal.specs.declared.fault.ScanFault.TheVariants.{DiskFault as ScanDiskFault, Memory}
 
 abbrev pub is_full_answer : {T : Type 0} → Result T AppendFault → Bool
 is_full_answer (Ok x) = false
@@ -36,3 +38,8 @@ is_exists_answer (Err InitDiskFault) = false
 abbrev pub TellsBytes : Meaning → InitFault → Type 0
 TellsBytes m (Exists size) = (0 < size) × ForSome m.reads (λ file. size ≡ length file)
 TellsBytes m InitDiskFault = ⊤
+
+abbrev pub is_scan_fault : {T : Type 0} → Result T ScanFault → Bool
+is_scan_fault (Ok x) = false
+is_scan_fault (Err ScanDiskFault) = true
+is_scan_fault (Err Memory) = false

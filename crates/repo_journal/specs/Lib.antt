@@ -3,3 +3,6 @@ pub mod View
 pub mod Answers
 pub mod Payloads
 pub mod Spans
+pub mod Scanning
+pub mod Openings
+pub mod Opened

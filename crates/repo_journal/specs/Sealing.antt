@@ -1,15 +1,16 @@
--- What an append leaves of a journal, at each moment. A size is the place behind the closing gate.
+-- What an append leaves of a journal, and what making a file leaves of it, at each moment. A size is the place behind the closing gate.
 --     IsFramed frame, payload_in frame      a payload framed for the journal, and that payload
 --     IsClosed size image      it reaches to the closing gate, which isn't open;  AllClosed size d      so does each image
 --     KeepsRecords size before image      its records are those of before
 --     AddsRecord size payload before image      they are those of before and one more, and a closed gate stands behind it
 --     IsBeforeOrAfter d size payload image, IsAfter d size payload image      one of these, or the second, for an image of d
 --     Appends size payload old new      a crash now, or at a moment since old, leaves the records before or after
+--     Makes old new      a crash now, or at a moment since old, leaves no more bytes than a new file has
 use Rattle.std.specs.Prelude.{◌≡◌, ◌≢◌, ◌⊎◌, ℕ, ◌-◌, ◌≤◌, List, ◌∷◌, ◌++◌, length, take, drop, slice_index}
 use Rattle.disk_model.specs.Images.{Disk, IsImage}
 use Rattle.history_model.specs.Journal.{framed, open_record}
-use Rattle.blob_disk.specs.Meaning.{Meaning}
-use Rattle.blob_disk.specs.Calls.{LeavesOnly}
+use Rattle.disk_model.specs.Meaning.{Meaning}
+use Rattle.disk_model.specs.Calls.{LeavesOnly}
 
 abbrev pub IsFramed : List ℕ → Type 0
 IsFramed frame = (payload : List ℕ) × (frame ≡ framed payload)
@@ -43,3 +44,10 @@ IsAfter d size payload image = (before : List ℕ) × IsImage d before × AddsRe
 pub record Appends (size : ℕ) (payload : List ℕ) (old new : Meaning) : Type 0 where
   pub now : (image : List ℕ) → IsImage new.state image → IsBeforeOrAfter old.state size payload image
   pub since : LeavesOnly (IsBeforeOrAfter old.state size payload) old new
+
+abbrev pub IsShort : List ℕ → Type 0
+IsShort image = length image ≤ 17
+
+pub record Makes (old new : Meaning) : Type 0 where
+  pub now : (image : List ℕ) → IsImage new.state image → IsShort image
+  pub since : LeavesOnly IsShort old new

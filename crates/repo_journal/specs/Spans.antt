@@ -1,16 +1,14 @@
 -- Places of payloads in the file of a journal.
 --     HasRecords gate size payloads file      from this gate on it has open records of these, and then the closing gate, directly before size
 --     spans_from gate payloads      where these payloads stand;  first_span gate payloads      the first of them
-use Rattle.std.specs.Prelude.{◌≡◌, ℕ, ◌+◌, ◌<◌, ◌≤◌, ◌^◌, Bool, true, false, List, [], ◌∷◌, ◌++◌, length, drop, All, Option, None, Some, Result, Ok, Err}
+use Rattle.std.specs.Prelude.{◌≡◌, ℕ, ◌+◌, ◌<◌, ◌≤◌, ◌^◌, List, [], ◌∷◌, ◌++◌, length, drop, All, Option, None, Some}
 use Rattle.repo_journal.specs.Payloads.{records}
 use Rattle.repo_journal.specs.declared.span.Span.{Span}
-use Rattle.repo_journal.specs.declared.fault.RecordsFault.{RecordsFault}
-use Rattle.repo_journal.specs.declared.fault.RecordsFault.TheVariants.{DiskFault, Memory}
 
--- it lies behind the header and before the closing gate
+-- it lies behind the header, within the file
 pub record IsInside (size : ℕ) (span : Span) : Type 0 where
   pub behind : 21 ≤ span.at
-  pub before : span.at + span.length < size
+  pub within : span.at + span.length ≤ size
 
 pub record HasRecords (gate size : ℕ) (payloads : List (List ℕ)) (file : List ℕ) : Type 0 where
   -- a length has four bytes
@@ -26,8 +24,3 @@ spans_from gate (payload ∷ payloads) = record { at = gate + 5; length = length
 abbrev pub first_span : ℕ → List (List ℕ) → Option Span
 first_span gate [] = None
 first_span gate (payload ∷ payloads) = Some (record { at = gate + 5; length = length payload })
-
-abbrev pub is_records_fault : {T : Type 0} → Result T RecordsFault → Bool
-is_records_fault (Ok x) = false
-is_records_fault (Err DiskFault) = true
-is_records_fault (Err Memory) = false

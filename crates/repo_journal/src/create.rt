@@ -1,14 +1,15 @@
 //! Makes the file of a new repository.
-ghost use Rattle.std.specs.Prelude.{◌≡◌, ◌≤◌, ℕ, List, [], length, take, IsTrue, IfErr, OnOk, is_err};
+ghost use Rattle.std.specs.Prelude.{◌≡◌, ◌≤◌, ℕ, List, [], false, length, take, IsOk, IsTrue, IfErr, OnOk, is_err};
 ghost use Rattle.std.specs.Option.{ForSome};
 ghost use Rattle.std.specs.Int.{to_be_bytes, w64};
 ghost use Rattle.ports.specs.Faults.{Counts};
 ghost use Rattle.disk_model.specs.Images.{IsImage};
 ghost use Rattle.history_model.specs.Journal.{is_header, header_bytes, Keeps};
-ghost use Rattle.blob_disk.specs.Meaning.{IsLong};
-ghost use Rattle.blob_disk.specs.Calls.{Kept, Looked};
+ghost use Rattle.disk_model.specs.Meaning.{IsLong};
+ghost use Rattle.disk_model.specs.Calls.{Kept, LeavesOnly, Looked};
 ghost use Rattle.repo_journal.specs.Answers.{is_exists_answer, is_init_fault, TellsBytes};
 ghost use Rattle.repo_journal.specs.Payloads.{blank_file, unmarked_file};
+ghost use Rattle.repo_journal.specs.Sealing.{Makes};
 
 use crate::fault::InitFault;
 use blob_disk::Disk;
@@ -29,12 +30,19 @@ pub fn init<D: Disk>(disk: &mut D, capacity: u64) -> Result<(), InitFault>
         → (image : List ℕ) → IsImage (D.meaning disk.new).state image → image ≡ blank_file (record { capacity = capacity })) }
     ensures long { OnOk result (IsLong (D.meaning disk.new).reads 17) }
 
+    // A crash at any moment leaves no more bytes than those of a new file.
+    ensures crash { IsTrue (D.meaning disk.old).honest → (D.meaning disk.old).state.reads ≡ [] → Makes (D.meaning disk.old) (D.meaning disk.new) }
+
     // A file with bytes in it is refused, and stays as it was.
     ensures empty { OnOk result (ForSome (D.meaning disk.old).reads (λ file. length file ≡ 0)) }
     ensures exists { IfErr result (TellsBytes (D.meaning disk.old)) }
     ensures refused { IsTrue (is_exists_answer result) → Looked (D.meaning disk.old) (D.meaning disk.new) }
+    ensures time { IsTrue (is_exists_answer result) → LeavesOnly (IsImage (D.meaning disk.new).state) (D.meaning disk.old) (D.meaning disk.new) }
     ensures kept { Kept (D.meaning disk.old) (D.meaning disk.new) }
+
+    // It fails only where a call of the disk did.
     ensures faults { Counts (D.meaning disk.old).faults (D.meaning disk.new).faults (is_init_fault result) }
+    ensures quiet { ForSome (D.meaning disk.old).quiet (λ most. 17 ≤ most → is_init_fault result ≡ false) }
 {
     match disk.size() {
         Ok(0) => {}
@@ -60,8 +68,10 @@ fn make<D: Disk>(disk: &mut D, capacity: u64) -> Result<(), Failed>
     ensures file { OnOk result (IsTrue (D.meaning disk.old).honest → (D.meaning disk.old).state.reads ≡ []
         → (image : List ℕ) → IsImage (D.meaning disk.new).state image → image ≡ blank_file (record { capacity = capacity })) }
     ensures long { OnOk result (IsLong (D.meaning disk.new).reads 17) }
+    ensures crash { IsTrue (D.meaning disk.old).honest → (D.meaning disk.old).state.reads ≡ [] → Makes (D.meaning disk.old) (D.meaning disk.new) }
     ensures kept { Kept (D.meaning disk.old) (D.meaning disk.new) }
     ensures faults { Counts (D.meaning disk.old).faults (D.meaning disk.new).faults (is_err result) }
+    ensures quiet { ForSome (D.meaning disk.old).quiet (λ most. 17 ≤ most → IsOk result) }
 {
     disk.write_at(0, &unmarked(capacity))?;
     disk.sync()?;

@@ -23,9 +23,9 @@ pub enum InitFault {
     DiskFault,
 }
 
-/// The records weren't listed.
+/// The records weren't gone over.
 #[derive(Clone, Copy, Debug, PartialEq, Eq, Error)]
-pub enum RecordsFault {
+pub enum ScanFault {
     /// A call of the disk failed.
     #[error("the disk failed")]
     DiskFault,

@@ -4,8 +4,8 @@ ghost use Rattle.std.specs.Option.{ForSome};
 ghost use Rattle.ports.specs.Faults.{Counts};
 ghost use Rattle.disk_model.specs.Images.{IsImage};
 ghost use Rattle.history_model.specs.Journal.{is_header};
-ghost use Rattle.blob_disk.specs.Meaning.{IsLong};
-ghost use Rattle.blob_disk.specs.Calls.{Kept, LeavesOnly, Looked};
+ghost use Rattle.disk_model.specs.Meaning.{IsLong};
+ghost use Rattle.disk_model.specs.Calls.{Kept, LeavesOnly, Looked};
 ghost use Rattle.repo_journal.specs.Answers.{is_full_answer, is_disk_fault, TellsSizes};
 ghost use Rattle.repo_journal.specs.Sealing.{IsFramed, payload_in, AllClosed, Appends, IsAfter};
 

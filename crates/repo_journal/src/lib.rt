@@ -2,20 +2,22 @@
 //! So a crash at any moment leaves the records before an append, or those and the new one.
 #![tactic(auto)]
 
+mod block;
 mod create;
 pub mod fault;
 pub mod journal;
 pub mod laws;
 pub mod opening;
 mod records;
+pub mod scanner;
 mod seal;
 pub mod span;
+pub mod step;
 
 pub use create::init;
-pub use fault::{AppendFault, DiskFault, InitFault, RecordsFault};
+pub use fault::{AppendFault, DiskFault, InitFault, ScanFault};
 pub use journal::Journal;
 pub use opening::Opening;
+pub use scanner::Scanner;
 pub use span::Span;
-
-#[cfg(test)]
-mod tests;
+pub use step::Step;

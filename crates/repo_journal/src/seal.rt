@@ -3,8 +3,8 @@ ghost use Rattle.std.specs.Prelude.{◌≡◌, ◌+◌, ◌≤◌, ◌<◌, ◌^
 ghost use Rattle.std.specs.Option.{ForSome};
 ghost use Rattle.ports.specs.Faults.{Counts};
 ghost use Rattle.disk_model.specs.Images.{IsImage, write_at};
-ghost use Rattle.blob_disk.specs.Meaning.{IsLong};
-ghost use Rattle.blob_disk.specs.Calls.{Kept};
+ghost use Rattle.disk_model.specs.Meaning.{IsLong};
+ghost use Rattle.disk_model.specs.Calls.{Kept};
 ghost use Rattle.repo_journal.specs.Sealing.{IsFramed, payload_in, AllClosed, Appends, IsAfter};
 
 use blob_disk::Disk;

@@ -1,6 +1,6 @@
 -- What one entry more makes of the heads, the lengths of contents and the known changesets.
 use Rattle.std.proofs.Common.{◌≡◌, ℕ, Bool, true, false, cond, not, List, [], ◌∷◌, ◌++◌, refl, sym, ap, ◌∙◌}
-use Rattle.std.specs.Prelude.{Option, None, Some, option_map, bytes_eq}
+use Rattle.std.specs.Prelude.{Option, None, Some, is_some, option_map, bytes_eq}
 use Rattle.std.specs.Option.{option_or, option_flatten}
 use Rattle.std.proofs.lemmas.Slice.Eq.{bytes_eq-Decides}
 use Rattle.std.proofs.lemmas.List.{append-nil}
@@ -9,8 +9,6 @@ use Rattle.std.specs.Cmp.Lexicographic.{lists_equiv}
 use Rattle.std.specs.Ordering.{is_eq, nat_cmp}
 use Rattle.std.specs.Cmp.Lexicographic.{slice_cmp}
 use Rattle.std.proofs.lemmas.Map.Text.{is_eq-slice_cmp}
-use Rattle.object_id.specs.declared.id.Id as ids
-use Rattle.repo_machine.specs.Answering.{id_seen}
 use Rattle.byte_fields.specs.Bytes.{Id, last_of, last_some}
 use Rattle.byte_fields.proofs.Lists.{first_some-append, option_or-None, option_or-assoc}
 use Rattle.changeset_model.specs.Changeset.{Changeset, id_of}
@@ -19,7 +17,8 @@ use Rattle.history_model.specs.Bookmark.{moved_to, head}
 use Rattle.reply_model.specs.After.{entry_by}
 use Rattle.reply_model.proofs.Parents.{brought}
 use Rattle.reply_model.proofs.Lines.{known-append}
-use Rattle.repo_machine.proofs.KnownOnce.{is_known-once}
+use Rattle.changeset_store.proofs.Numbering.{not_some}
+use Rattle.changeset_store.proofs.KnownOnce.{is_known-once}
 
 -- ---- heads
 
@@ -43,15 +42,25 @@ head-land h who landing name = head-push h who (Land landing) name ∙ moves_by 
 pub bytes_eq-symm : (x y : List ℕ) → bytes_eq x y ≡ bytes_eq y x
 bytes_eq-symm x y = (lists_equiv nat_eq_equiv).symm x y
 
-seen_by : (b : Bool) (to before : Option ids.Id) → id_seen (cond b to before) ≡ cond b (id_seen to) (id_seen before)
-seen_by true to before = refl
-seen_by false to before = refl
+head_by : (b : Bool) (to : Option Id) (before : Option (Option Id)) → option_flatten (cond b (Some to) before) ≡ cond b to (option_flatten before)
+head_by true to before = refl
+head_by false to before = refl
 
 -- the heads of an ordered map, with one of them set
-pub heads_set : (before after : List ℕ → Option ids.Id) (h : List Entry) (name : List ℕ) (to : Option ids.Id) → ((q : List ℕ) → id_seen (before q) ≡ head h q) → ((q : List ℕ) → after q ≡ cond (is_eq (slice_cmp nat_cmp name q)) to (before q)) → (q : List ℕ) → id_seen (after q) ≡ cond (bytes_eq q name) (id_seen to) (head h q)
+pub heads_set : (before after : List ℕ → Option (Option Id)) (h : List Entry) (name : List ℕ) (to : Option Id) → ((q : List ℕ) → option_flatten (before q) ≡ head h q) → ((q : List ℕ) → after q ≡ cond (is_eq (slice_cmp nat_cmp name q)) (Some to) (before q)) → (q : List ℕ) → option_flatten (after q) ≡ cond (bytes_eq q name) to (head h q)
 heads_set before after h name to are sets q =
-    ap id_seen (sets q) ∙ seen_by (is_eq (slice_cmp nat_cmp name q)) to (before q)
-    ∙ (λ i. cond ((is_eq-slice_cmp name q ∙ bytes_eq-symm name q) i) (id_seen to) (are q i))
+    ap option_flatten (sets q) ∙ head_by (is_eq (slice_cmp nat_cmp name q)) to (before q)
+    ∙ (λ i. cond ((is_eq-slice_cmp name q ∙ bytes_eq-symm name q) i) to (are q i))
+
+placed_by : (b : Bool) (before : Option (Option Id)) → (b ≡ true → before ≡ None) → option_flatten (cond b (Some None) before) ≡ option_flatten before
+placed_by true before none = sym (ap option_flatten (none refl))
+placed_by false before none = refl
+
+-- a name that has no place gets one without a head
+pub heads_placed : (before after : List ℕ → Option (Option Id)) (name : List ℕ) → before name ≡ None → ((q : List ℕ) → after q ≡ cond (is_eq (slice_cmp nat_cmp name q)) (Some None) (before q)) → (q : List ℕ) → option_flatten (after q) ≡ option_flatten (before q)
+heads_placed before after name none sets q =
+    ap option_flatten (sets q)
+    ∙ placed_by (is_eq (slice_cmp nat_cmp name q)) (before q) (λ e. ap before (sym ((bytes_eq-Decides name q).0 (sym (is_eq-slice_cmp name q) ∙ e))) ∙ none)
 
 -- ---- contents
 
@@ -83,3 +92,12 @@ pub known-change : (h : List Entry) (who : ℕ) (c : Changeset) → is_known (kn
 known-change h who c new =
     known-append h (entry_by who (Change c) ∷ [])
     ∙ ap (λ b. known h ++ cond (not b) (with_id c ∷ []) []) (sym (is_known-once (brought h) (id_of c)) ∙ new)
+
+-- ---- a name with a place
+
+pub is_put : (before after : List ℕ → Option (Option Id)) (key name : List ℕ) (to : Option Id) → key ≡ name → ((q : List ℕ) → after q ≡ cond (is_eq (slice_cmp nat_cmp key q)) (Some to) (before q)) → is_some (after name) ≡ true
+is_put before after key name to same sets =
+    ap is_some (sets name) ∙ ap (λ b. is_some (cond b (Some to) (before name))) (is_eq-slice_cmp key name ∙ (bytes_eq-Decides key name).1 same)
+
+pub none_put : (before after : List ℕ → Option (Option Id)) (key name : List ℕ) → key ≡ name → is_some (before name) ≡ false → ((q : List ℕ) → after q ≡ cond (is_eq (slice_cmp nat_cmp key q)) (Some None) (before q)) → (q : List ℕ) → option_flatten (after q) ≡ option_flatten (before q)
+none_put before after key name same none sets = heads_placed before after key (ap before same ∙ not_some (before name) none) sets

@@ -1,6 +1,6 @@
 -- The reply to a change, by what is judged.
-use Rattle.std.proofs.Common.{◌≡◌, ℕ, ◌+◌, ◌<◌, ◌≤◌, lt-ltb, le-ltb, Bool, true, false, cond, List, [], ◌∷◌, ◌++◌, length, refl, sym, ap, ◌∙◌}
-use Rattle.std.specs.Prelude.{Option, None, Some, Result, Ok, Err, not, is_some, find, bytes_eq}
+use Rattle.std.proofs.Common.{◌≡◌, ℕ, ◌+◌, ◌<◌, ◌≤◌, lt-ltb, le-ltb, Bool, true, false, cond, inl, inr, List, [], ◌∷◌, ◌++◌, length, refl, sym, ap, subst, ◌∙◌}
+use Rattle.std.specs.Prelude.{Option, None, Some, Result, Ok, Err, IsErrAnd, IfErr, not, is_some, find, bytes_eq}
 use Rattle.std.specs.Option.{option_eq, option_to_list}
 use Rattle.std.proofs.lemmas.List.{append-nil}
 use Rattle.sha2.specs.Sha256.{sha256}
@@ -11,7 +11,13 @@ use Rattle.history_model.specs.Bookmark.{head}
 use Rattle.history_model.specs.Journal.{Header, payload_len, is_full}
 use Rattle.history_model.specs.Journal as journal
 use Rattle.reply_model.specs.Reply.{PutContent, SetBookmark, ContentPut, BookmarkSet, TooLong, NoChangeset, Moved, refuse_some, Full, Down, Ask, Granted, Refusal, Judged, by_ask, judge, refuse_if, unchanged, entered, put_content, ◌>>=◌}
-use Rattle.reply_model.specs.After.{Asks, Grants, Refuses, Memory, nothing, Replies, entry_by}
+use Rattle.reply_model.specs.After.{Answer, Asks, Grants, Refuses, Memory, nothing, Replies, entry_by, entries_of}
+use Rattle.repo_calls.specs.declared.refusal.Refusal as refusal
+use Rattle.repo_calls.specs.declared.refusal.Refusal.TheVariants as refusals
+use Rattle.repo_calls.specs.Calls.{refused}
+use Rattle.repo_machine.specs.Entering.{Prevents}
+use Rattle.repo_machine.specs.Judged.{JudgedChange, IsJudged}
+use Rattle.repo_machine.specs.Landings.{IsRefusal}
 
 -- ---- what is answered
 
@@ -90,3 +96,34 @@ module _ (header : Header) (h : List Entry) (name : List ℕ) (from to : Option 
 
   pub judged_moving : unknown ≡ None → option_eq bytes_eq (head h name) from ≡ true → option_eq bytes_eq from to ≡ false → judge header h (SetBookmark name from to) ≡ entered header h BookmarkSet (Book (record { name = name; from = from; to = to }))
   judged_moving e there apart = known_target e ∙ ap from_head there ∙ ap (λ b. cond b (unchanged BookmarkSet) (entered header h BookmarkSet (Book (record { name = name; from = from; to = to })))) apart
+
+-- ---- refusals
+
+pub refused_down : (header : Header) (h : List Entry) (ask : Ask) → is_down h ≡ true → IsRefusal (judge header h ask) refusals.Down
+refused_down header h ask down = inr (Down, (λ i. refuse_if (down i) Down >>= λ _. by_ask header h ask), refl)
+
+pub prevented : (header : Header) (h : List Entry) (ask : Ask) (granted : Granted) (body : Body) (e : refusal.Refusal) → Prevents header h body e → judge header h ask ≡ entered header h granted body → IsRefusal (judge header h ask) e
+prevented header h ask granted body e (inl memory) judged = inl memory
+prevented header h ask granted body e (inr (is, full)) judged = inr (Full (journal.size h) (payload_len body), judged ∙ entered_full header h granted body full, ap refused is)
+
+pub answers_refusal : {X : Type 0} (answer : Result X refusal.Refusal → Answer) (errs : (e : refusal.Refusal) → answer (Err e) ≡ refused e) (header : Header) (h : List Entry) (who : ℕ) (ask : Ask) (result : Result X refusal.Refusal) (e : refusal.Refusal) (after : List Entry) → IsErrAnd result (λ x. x ≡ e) → IsRefusal (judge header h ask) e → after ≡ h → Replies header h who (Asks ask) (answer result) after
+answers_refusal answer errs header h who ask (Ok x) e after err refusal same = absurd err
+answers_refusal answer errs header h who ask (Err x) e after err (inl memory) same =
+    subst (Replies header h who (Asks ask) (answer (Err x))) (sym same)
+    (subst (λ a. Replies header h who (Asks ask) a h) (sym (errs x ∙ ap refused (err ∙ memory))) (replies_memory header h who ask))
+answers_refusal answer errs header h who ask (Err x) e after err (inr (r, is, refuses)) same =
+    subst (Replies header h who (Asks ask) (answer (Err x))) (sym same)
+    (subst (λ a. Replies header h who (Asks ask) a h) (sym (errs x ∙ ap refused err ∙ refuses)) (replies_refused header h who ask r is))
+
+pub passes_refusal : {X : Type 0} (P : refusal.Refusal → Type 0) (result : Result X refusal.Refusal) (e : refusal.Refusal) → IsErrAnd result (λ x. x ≡ e) → P e → IfErr result P
+passes_refusal P (Ok x) e err holds = tt
+passes_refusal P (Err x) e err holds = subst P (sym err) holds
+
+-- ---- what is admitted
+
+pub replies_admitted : (header : Header) (h : List Entry) (who : ℕ) (ask : Ask) (judged : JudgedChange) (after : List Entry) → IsJudged header h ask judged → judged.who ≡ who → after ≡ h ++ entries_of judged.who (record { entry = judged.made; fault = None }) → Replies header h who (Asks ask) (Grants judged.granted) after
+replies_admitted header h who ask judged after is by grows = record {
+  made = record { entry = judged.made; fault = None };
+  answers = (refl, is.granted);
+  new_is = grows ∙ ap (λ w. h ++ entries_of w (record { entry = judged.made; fault = None })) by;
+}

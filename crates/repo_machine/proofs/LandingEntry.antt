@@ -1,6 +1,6 @@
 -- A landing is entered.
 use Rattle.std.proofs.Common.{◌≡◌, ℕ, ◌+◌, ◌<◌, ◌≤◌, Bool, true, false, List, [], ◌∷◌, ◌++◌, map, length, inl, inr, refl, sym, ap, subst, ◌∙◌, arith}
-use Rattle.std.specs.Prelude.{Option, None, Some, Result, Ok, Err, IsErrAnd}
+use Rattle.std.specs.Prelude.{Option, None, Some, Result, Ok, Err, ◌&&◌}
 use Rattle.std.specs.List.{AllByRecursion}
 use Rattle.std.specs.Borrow.{Bor}
 use Rattle.std.proofs.lemmas.List.{append_assoc, append-nil}
@@ -19,13 +19,13 @@ use Rattle.repo_machine.specs.declared.records.LandRecord.{LandRecord}
 use Rattle.repo_machine.specs.declared.records.Record.TheVariants.{Land}
 use Rattle.repo_machine.specs.declared.records.Entry.{Entry}
 use Rattle.repo_machine.specs.declared.landings.Planned.{Planned}
-use Rattle.repo_machine.specs.declared.refusal.Refusal.{Refusal}
-use Rattle.repo_machine.specs.Answering.{refused}
+use Rattle.repo_calls.specs.declared.refusal.Refusal.{Refusal}
+use Rattle.repo_calls.specs.Calls.{refused}
 use Rattle.repo_machine.specs.Records.{landing_of, history_of, IsWithin}
-use Rattle.repo_machine.specs.Landings.{IsRefusal, Checked, payload_checked, collisions_checked, IsPlanned, IsLandable, AreAlone, adding_one, adding, CanAdd}
-use Rattle.repo_machine.proofs.Judging.{replies_refused, replies_memory}
+use Rattle.repo_machine.specs.Landings.{IsRefusal, Checked, payload_checked, collisions_checked, IsPlanned, IsLandable}
+use Rattle.changeset_store.specs.Grown.{AreAlone, adding_one, adding, CanAdd}
 use Rattle.repo_machine.proofs.Within.{history_pushed, within_pushed}
-use Rattle.repo_machine.proofs.LandingAdding.{adds_some, can_add}
+use Rattle.changeset_store.proofs.Added.{adds_some, can_add}
 use Rattle.repo_machine.proofs.LandingSteps.{payload_refused, collision_refused, judged_landing}
 
 -- ---- what is entered
@@ -37,12 +37,12 @@ length-rewrite (c ∷ cs) head = let rest = length-rewrite cs (id_of (on_parent 
 pub rewritten : (given items : List (Bor Changeset)) (stack : List Changeset) (head : Id) (new : List Changeset) → new ≡ rewrite (map (λ c. c.now) given) head → given ≡ items → map (λ c. c.now) items ≡ stack → new ≡ rewrite stack head
 rewritten given items stack head new is same are = is ∙ (λ i. rewrite (map (λ (c : Bor Changeset). c.now) (same i)) head) ∙ ap (λ cs. rewrite cs head) are
 
-module _ (header : Header) (h : List model.Entry) (name : List ℕ) (draft : Id) (planned : Planned) (p : IsPlanned header h name draft planned) (l : model.Landing) (names : l.name ≡ name) (olds : l.old ≡ planned.old.0) (drafts : l.draft ≡ draft) (new : l.new ≡ rewrite (fork_between (model.known h) planned.fork).stack planned.old.0) where
+module _ (header : Header) (h : List model.Entry) (name : List ℕ) (draft : Id) (planned : Planned) (p : IsPlanned header h name draft planned) (l : model.Landing) (names : l.name ≡ name) (olds : l.old ≡ planned.old) (drafts : l.draft ≡ draft) (new : l.new ≡ rewrite (fork_between (model.known h) planned.fork).stack planned.old) where
   abbrev stack : List Changeset
   stack = (fork_between (model.known h) planned.fork).stack
 
   long : length l.new ≡ length stack
-  long = ap length new ∙ length-rewrite stack planned.old.0
+  long = ap length new ∙ length-rewrite stack planned.old
 
   pub few : length l.new ≤ 100
   few = let same = long in let few = p.few in omega arith
@@ -95,11 +95,11 @@ module _ (ks : List model.Known) (es : List Entry) (within : AllByRecursion (IsW
   news : map (changeset_at (ks ++ more)) l.numbers.items ≡ new
   news = ap (λ ks. map (changeset_at ks) l.numbers.items) (sym grown) ∙ noted
 
-  pub history_landed : history_of ks' after ≡ history_of ks es ++ entry_by who (model.Land (record { name = l.name; old = l.old.0; draft = l.draft.0; new = new })) ∷ []
+  pub history_landed : history_of ks' after ≡ history_of ks es ++ entry_by who (model.Land (record { name = l.name; old = l.old; draft = l.draft; new = new })) ∷ []
   history_landed =
       ap (λ ks. history_of ks after) grown
       ∙ history_pushed ks es within (record { who = who; «record» = Land l }) seen same after grows more
-      ∙ (λ i. history_of ks es ++ entry_by who (model.Land (record { name = l.name; old = l.old.0; draft = l.draft.0; new = news i })) ∷ [])
+      ∙ (λ i. history_of ks es ++ entry_by who (model.Land (record { name = l.name; old = l.old; draft = l.draft; new = news i })) ∷ [])
 
   pub within_landed : AllByRecursion (λ n. n < length ks') l.numbers.items → AllByRecursion (IsWithin (length ks')) after
   within_landed fits =
@@ -107,16 +107,29 @@ module _ (ks : List model.Known) (es : List Entry) (within : AllByRecursion (IsW
       (within_pushed ks es within (record { who = who; «record» = Land l }) seen same after grows more (subst (λ ks. AllByRecursion (λ n. n < length ks) l.numbers.items) grown fits))
 
 -- they can be added
-pub can_as : (header : Header) (h : List model.Entry) (name : List ℕ) (draft : Id) (l : model.Landing) (ks before : List model.Known) → IsLandable header h name draft l → ks ≡ model.known h → before ≡ ks → CanAdd before l.new
-can_as header h name draft l ks before able known_are kept =
-    subst (λ ks. CanAdd ks l.new) (sym (kept ∙ known_are))
-    (subst (CanAdd (model.known h)) (sym able.rewritten) (can_add (model.known h) able.fork_is.stack l.old able.old_known (subst (AreAlone (model.known h)) able.rewritten able.alone)))
+pub can_as : (header : Header) (h : List model.Entry) (name : List ℕ) (draft : Id) (l : model.Landing) → IsLandable header h name draft l → CanAdd (model.known h) l.new
+can_as header h name draft l able =
+    subst (CanAdd (model.known h)) (sym able.rewritten) (can_add (model.known h) able.fork_is.stack l.old able.old_known (subst (AreAlone (model.known h)) able.rewritten able.alone))
 
--- ---- the answer
+pub outer_rules : (a b c : Bool) → (a && b && c) ≡ true → (a && c) ≡ true
+outer_rules true true c e = e
+outer_rules true false c e = absurd cc
+outer_rules false b c e = absurd (cc)
 
-pub answers_refusal : {X : Type 0} (answer : Result X Refusal → Answer) (errs : (e : Refusal) → answer (Err e) ≡ refused e) (header : Header) (h : List model.Entry) (who : ℕ) (ask : reply.Ask) (result : Result X Refusal) (e : Refusal) → IsErrAnd result (λ x. x ≡ e) → IsRefusal (judge header h ask) e → Replies header h who (Asks ask) (answer result) h
-answers_refusal answer errs header h who ask (Ok x) e err refusal = absurd err
-answers_refusal answer errs header h who ask (Err x) e err (inl memory) =
-    subst (λ a. Replies header h who (Asks ask) a h) (sym (errs x ∙ ap refused (err ∙ memory))) (replies_memory header h who ask)
-answers_refusal answer errs header h who ask (Err x) e err (inr (r, is, same)) =
-    subst (λ a. Replies header h who (Asks ask) a h) (sym (errs x ∙ ap refused err ∙ same)) (replies_refused header h who ask r is)
+abbrev granted_old : Id → reply.Granted → Id
+granted_old none (reply.ContentPut x) = none
+granted_old none (reply.ChangesetPut x) = none
+granted_old none reply.BookmarkSet = none
+granted_old none (reply.Landed old ids) = old
+
+abbrev granted_ids : reply.Granted → List Id
+granted_ids (reply.ContentPut x) = []
+granted_ids (reply.ChangesetPut x) = []
+granted_ids reply.BookmarkSet = []
+granted_ids (reply.Landed old ids) = ids
+
+pub old_landed : (a b : Id) (xs ys : List Id) → reply.Landed a xs ≡ reply.Landed b ys → b ≡ a
+old_landed a b xs ys e = sym (ap (granted_old a) e)
+
+pub ids_landed : (a b : Id) (xs ys : List Id) → reply.Landed a xs ≡ reply.Landed b ys → ys ≡ xs
+ids_landed a b xs ys e = sym (ap granted_ids e)

@@ -23,10 +23,9 @@ use Rattle.reply_model.specs.Legal.{IsLegal}
 use Rattle.reply_model.proofs.Parents.{or_case, or_left, or_right, known_reverse}
 use Rattle.reply_model.proofs.Lines.{AreOnce, known_once}
 use Rattle.reply_model.proofs.Landed.{chain_landed}
-use Rattle.object_id.specs.declared.id.Id as ids
-use Rattle.repo_machine.specs.Answering.{ids_seen}
 use Rattle.repo_machine.specs.Landings.{IsLandable, IsLanding}
-use Rattle.repo_machine.proofs.LandingAdding.{known-land, alone_after}
+use Rattle.changeset_store.proofs.Added.{alone_after}
+use Rattle.repo_machine.proofs.KnownLanding.{known-land}
 
 -- ---- a line, from one of its members on
 
@@ -203,12 +202,12 @@ module _ (header : Header) (h : List Entry) (who : ℕ) (l : Landing) (name : Li
       ∙ ap (λ (cs : List Changeset). changesets root_chain ++ cs) (sym root.range_is))
       ∙ unchanged_since_root (changesets root_chain) able.fork_is.range able.fork_is.stack able.apart p touched
 
-  pub lands : (ids : List ids.Id) → ids_seen ids ≡ map id_of l.new → IsLanding (known h) (known after) l.old draft (ids_seen ids)
-  lands ids are = record {
+  pub lands : (old : Id) (ids : List Id) → old ≡ l.old → ids ≡ map id_of l.new → IsLanding (known h) (known after) old draft ids
+  lands old ids same are = subst (λ old. IsLanding (known h) (known after) old draft ids) (sym same) (record {
     fork_is = able.fork_is;
     forks = able.forks;
     new_head = last.0;
     new_head_is = ap last_of are ∙ last_map l.new None ∙ last.1;
     applied = tree_now;
     unchanged = tree_before;
-  }
+  })

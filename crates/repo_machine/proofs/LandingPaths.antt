@@ -8,8 +8,8 @@ use Rattle.history_model.specs.Pushrebase.{Fork, clash}
 use Rattle.reply_model.specs.Reply as reply
 use Rattle.path_conflict.specs.Places.{paths_of, pair_at}
 use Rattle.path_conflict.specs.declared.least.Clash.{Clash}
-use Rattle.repo_machine.specs.declared.refusal.Refusal.TheVariants as refusals
-use Rattle.repo_machine.specs.Answering.{refused}
+use Rattle.repo_calls.specs.declared.refusal.Refusal.TheVariants as refusals
+use Rattle.repo_calls.specs.Calls.{refused}
 use Rattle.repo_machine.specs.Landings.{IsRefusal, paths_checked}
 use Rattle.repo_machine.proofs.LandingSteps.{refused_some, refused_none}
 

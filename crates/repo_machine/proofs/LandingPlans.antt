@@ -4,7 +4,6 @@ use Rattle.std.specs.Prelude.{Option, None, Some, Result, Ok, Err, IfSome, IfErr
 use Rattle.std.specs.Borrow.{Bor}
 use mathlib.Core.Bool.{true≢false}
 use Rattle.byte_fields.specs.Bytes.{Id}
-use Rattle.object_id.specs.declared.id.Id as ids
 use Rattle.changeset_model.specs.Changeset.{Changeset, id_of}
 use Rattle.history_model.specs.History as model
 use Rattle.history_model.specs.History.{Entry, Known, Land, is_down, known, is_known}
@@ -17,20 +16,14 @@ use Rattle.reply_model.specs.Reply.{LandDraft, judge, refuse_if, ◌>>=◌}
 use Rattle.reply_model.proofs.Parents.{grown, brought}
 use Rattle.changeset_store.specs.declared.fork.Fork as store
 use Rattle.changeset_store.specs.Fork.{IsFork, fork_between}
-use Rattle.repo_machine.specs.declared.refusal.Refusal.{Refusal}
-use Rattle.repo_machine.specs.declared.refusal.Refusal.TheVariants as refusals
+use Rattle.repo_calls.specs.declared.refusal.Refusal.{Refusal}
+use Rattle.repo_calls.specs.declared.refusal.Refusal.TheVariants as refusals
 use Rattle.repo_machine.specs.declared.landings.Planned.{Planned}
-use Rattle.repo_machine.specs.Answering.{id_seen}
 use Rattle.repo_machine.specs.Indexes.{AreIndexes}
-use Rattle.repo_machine.specs.Landings.{IsRefusal, forking, lengths_checked, paths_checked, payload_checked, collisions_checked, IsPlanned, IsLandable, AreAlone}
-use Rattle.repo_machine.proofs.KnownOnce.{is_known-once}
-use Rattle.repo_machine.proofs.Putting.{up_as}
+use Rattle.repo_machine.specs.Landings.{IsRefusal, forking, lengths_checked, paths_checked, payload_checked, collisions_checked, IsPlanned, IsLandable}
+use Rattle.changeset_store.proofs.KnownOnce.{is_known-once}
 use Rattle.repo_machine.proofs.Uploading.{known_as}
 use Rattle.repo_machine.proofs.LandingSteps.{is_short, none_refused, no_bookmark, fork_refused, lengths_refused, paths_refused, judged_planned, payload_refused, collision_refused, judged_landing}
-
-pub passes_refusal : {X : Type 0} (P : Refusal → Type 0) (result : Result X Refusal) (e : Refusal) → IsErrAnd result (λ x. x ≡ e) → P e → IfErr result P
-passes_refusal P (Ok x) e err holds = tt
-passes_refusal P (Err x) e err holds = subst P (sym err) holds
 
 fork_some_by : (there : Bool) (draft : Id) (found : Option Fork) (f : Fork) → (refuse_if (not there) (reply.NoChangeset draft) >>= λ _. ok_or found reply.NoRoot) ≡ Ok f → found ≡ Some f
 fork_some_by true draft None f e = absurd cc
@@ -43,30 +36,27 @@ fork_some ks old draft f e = fork_some_by (is_known ks draft) draft (fork ks old
 from_some : (ks : List Known) (o : Option Id) (x : Id) → o ≡ Some x → IfSome o (λ x. is_known ks x ≡ true) → is_known ks x ≡ true
 from_some ks o x e h = subst (λ o. IfSome o (λ x. is_known ks x ≡ true)) e h
 
-module _ {header : Header} {h : List Entry} {ks : List Known} {heads : List ℕ → Option Id} {lengths : Id → Option ℕ} {size : ℕ} (k : AreIndexes header h ks heads lengths size) (r : Repository) (is : ◌≡◌ {A = Repository} (record { header = header; history = h }) r) (name : List ℕ) where
-  pub head_as : (found : Option ids.Id) (o : Option ids.Id) → id_seen found ≡ heads name → found ≡ o → head r.history name ≡ id_seen o
-  head_as found o looked e = ap (λ r. head r.history name) (sym is) ∙ sym (k.heads_are name) ∙ sym looked ∙ ap id_seen e
-
-  module _ (old : ids.Id) (at : head r.history name ≡ Some old.0) where
-    pub head_known : is_known ks old.0 ≡ true
+module _ {header : Header} {h : List Entry} {ks : List Known} {heads : List ℕ → Option Id} {lengths : Id → Option ℕ} {size : ℕ} {down : Bool} (k : AreIndexes header h ks heads lengths size down) (r : Repository) (is : ◌≡◌ {A = Repository} (record { header = header; history = h }) r) (up : is_down r.history ≡ false) (name : List ℕ) where
+  module _ (old : Id) (at : head r.history name ≡ Some old) where
+    pub head_known : is_known ks old ≡ true
     head_known =
-        ap (λ ks. is_known ks old.0) k.known_are ∙ is_known-once (brought h) old.0
-        ∙ from_some (brought h) (head h name) old.0 (ap (λ r. head r.history name) is ∙ at) ((grown header h k.legal).heads name)
+        ap (λ ks. is_known ks old) k.known_are ∙ is_known-once (brought h) old
+        ∙ from_some (brought h) (head h name) old (ap (λ r. head r.history name) is ∙ at) ((grown header h k.legal).heads name)
 
     module _ (draft : Id) where
       pub no_head : head r.history name ≡ None → IsRefusal (judge r.header r.history (LandDraft name draft)) refusals.NoBookmark
-      no_head none = no_bookmark r.header r.history name draft (up_as k r is) none
+      no_head none = no_bookmark r.header r.history name draft up none
 
-      pub fork_refused_as : (e : Refusal) → IsRefusal (forking ks old.0 draft) e → IsRefusal (judge r.header r.history (LandDraft name draft)) e
-      fork_refused_as e refusal = fork_refused r.header r.history name draft (up_as k r is) old.0 at e (subst (λ ks. IsRefusal (forking ks old.0 draft) e) (known_as k r is) refusal)
+      pub fork_refused_as : (e : Refusal) → IsRefusal (forking ks old draft) e → IsRefusal (judge r.header r.history (LandDraft name draft)) e
+      fork_refused_as e refusal = fork_refused r.header r.history name draft up old at e (subst (λ ks. IsRefusal (forking ks old draft) e) (known_as k r is) refusal)
 
-      module _ (f : store.Fork) (is_fork : IsFork ks f) (forks : forking ks old.0 draft ≡ Ok (fork_between ks f)) where
-        forks_as : forking (known r.history) old.0 draft ≡ Ok (fork_between (known r.history) f)
-        forks_as = subst (λ ks. forking ks old.0 draft ≡ Ok (fork_between ks f)) (known_as k r is) forks
+      module _ (f : store.Fork) (is_fork : IsFork ks f) (forks : forking ks old draft ≡ Ok (fork_between ks f)) where
+        forks_as : forking (known r.history) old draft ≡ Ok (fork_between (known r.history) f)
+        forks_as = subst (λ ks. forking ks old draft ≡ Ok (fork_between ks f)) (known_as k r is) forks
 
         pub lengths_refused_as : (e : Refusal) → IsRefusal (lengths_checked (fork_between ks f)) e → IsRefusal (judge r.header r.history (LandDraft name draft)) e
         lengths_refused_as e refusal =
-            lengths_refused r.header r.history name draft (up_as k r is) old.0 at (fork_between (known r.history) f) forks_as e (subst (λ ks. IsRefusal (lengths_checked (fork_between ks f)) e) (known_as k r is) refusal)
+            lengths_refused r.header r.history name draft up old at (fork_between (known r.history) f) forks_as e (subst (λ ks. IsRefusal (lengths_checked (fork_between ks f)) e) (known_as k r is) refusal)
 
         module _ (short : lengths_checked (fork_between ks f) ≡ Ok tt) where
           short_as : lengths_checked (fork_between (known r.history) f) ≡ Ok tt
@@ -74,7 +64,7 @@ module _ {header : Header} {h : List Entry} {ks : List Known} {heads : List ℕ 
 
           pub paths_refused_as : (e : Refusal) → IsRefusal (paths_checked (fork_between ks f)) e → IsRefusal (judge r.header r.history (LandDraft name draft)) e
           paths_refused_as e refusal =
-              paths_refused r.header r.history name draft (up_as k r is) old.0 at (fork_between (known r.history) f) forks_as short_as e (subst (λ ks. IsRefusal (paths_checked (fork_between ks f)) e) (known_as k r is) refusal)
+              paths_refused r.header r.history name draft up old at (fork_between (known r.history) f) forks_as short_as e (subst (λ ks. IsRefusal (paths_checked (fork_between ks f)) e) (known_as k r is) refusal)
 
           pub planned : paths_checked (fork_between ks f) ≡ Ok tt → IsPlanned r.header r.history name draft (record { old = old; fork = f })
           planned apart =
@@ -83,10 +73,10 @@ module _ {header : Header} {h : List Entry} {ks : List Known} {heads : List ℕ 
               record {
                 is_fork = subst (λ ks. IsFork ks f) (known_as k r is) is_fork;
                 head_is = at;
-                old_known = subst (λ ks. is_known ks old.0 ≡ true) (known_as k r is) head_known;
-                forks = fork_some (known r.history) old.0 draft (fork_between (known r.history) f) forks_as;
+                old_known = subst (λ ks. is_known ks old ≡ true) (known_as k r is) head_known;
+                forks = fork_some (known r.history) old draft (fork_between (known r.history) f) forks_as;
                 some = lengths.some;
                 few = lengths.few;
                 apart = none_refused _ _ apart_as;
-                judged = judged_planned r.header r.history name draft (up_as k r is) old.0 at (fork_between (known r.history) f) forks_as short_as apart_as;
+                judged = judged_planned r.header r.history name draft up old at (fork_between (known r.history) f) forks_as short_as apart_as;
               }

@@ -15,10 +15,9 @@ use Rattle.history_model.specs.Journal.{Header, payload_len, most_payload}
 use Rattle.reply_model.specs.Reply as reply
 use Rattle.reply_model.specs.Reply.{◌>>=◌, refuse_if, refuse_some, most_range, most_stack, first_collision, LandDraft, Judged, judge, entered, enter_landing, land}
 use Rattle.reply_model.specs.After.{Refuses}
-use Rattle.object_id.specs.declared.id.Id as ids
-use Rattle.repo_machine.specs.Answering.{refused}
-use Rattle.repo_machine.specs.declared.refusal.Refusal.{Refusal}
-use Rattle.repo_machine.specs.declared.refusal.Refusal.TheVariants as refusals
+use Rattle.repo_calls.specs.Calls.{refused}
+use Rattle.repo_calls.specs.declared.refusal.Refusal.{Refusal}
+use Rattle.repo_calls.specs.declared.refusal.Refusal.TheVariants as refusals
 use Rattle.repo_machine.specs.Landings.{IsRefusal, Steps, Checked, forking, lengths_checked, paths_checked, payload_checked, collisions_checked}
 use Rattle.repo_machine.proofs.Judging.{judged_up}
 
@@ -91,18 +90,18 @@ is_short f e =
 fork_by : Bool → Id → Option Fork → Result Fork reply.Refusal
 fork_by there draft found = refuse_if (not there) (reply.NoChangeset draft) >>= λ _. ok_or found reply.NoRoot
 
-module _ (ks : List Known) (old : Id) (draft : ids.Id) where
-  pub unknown_draft : is_known ks draft.0 ≡ false → IsRefusal (forking ks old draft.0) (refusals.NoChangeset draft)
+module _ (ks : List Known) (old : Id) (draft : Id) where
+  pub unknown_draft : is_known ks draft ≡ false → IsRefusal (forking ks old draft) (refusals.NoChangeset draft)
   unfolding fork_by
-  unknown_draft e = inr (reply.NoChangeset draft.0, ap (λ b. fork_by b draft.0 (fork ks old draft.0)) e, refl)
+  unknown_draft e = inr (reply.NoChangeset draft, ap (λ b. fork_by b draft (fork ks old draft)) e, refl)
 
-  pub no_root : is_known ks draft.0 ≡ true → fork ks old draft.0 ≡ None → IsRefusal (forking ks old draft.0) refusals.NoRoot
+  pub no_root : is_known ks draft ≡ true → fork ks old draft ≡ None → IsRefusal (forking ks old draft) refusals.NoRoot
   unfolding fork_by
-  no_root e none = inr (reply.NoRoot, (λ i. fork_by (e i) draft.0 (none i)), refl)
+  no_root e none = inr (reply.NoRoot, (λ i. fork_by (e i) draft (none i)), refl)
 
-  pub forked : (f : Fork) → is_known ks draft.0 ≡ true → fork ks old draft.0 ≡ Some f → forking ks old draft.0 ≡ Ok f
+  pub forked : (f : Fork) → is_known ks draft ≡ true → fork ks old draft ≡ Some f → forking ks old draft ≡ Ok f
   unfolding fork_by
-  forked f e some = (λ i. fork_by (e i) draft.0 (some i))
+  forked f e some = (λ i. fork_by (e i) draft (some i))
 
 -- ---- refusals of some
 

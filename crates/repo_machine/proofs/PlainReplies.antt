@@ -48,7 +48,7 @@ module _ (header : Header) (entries : List code.StoredContent) (who : ℕ) (byte
           (subst (λ n. Replies header (history_of entries) who (Asks (PutContent bytes)) (Refuses (Full (journal.size (history_of entries)) n)) (history_of entries)) (sym len)
           (replies_refused header (history_of entries) who (PutContent bytes) (Full (journal.size (history_of entries)) (1 + length bytes)) (judged_short header (history_of entries) bytes false (up entries) few (known_as false unknown) ∙ entered_full header (history_of entries) (ContentPut (sha256 bytes)) (Content (sha256 bytes) (length bytes)) over)))
 
-      pub plain_made : size + 5 + payload ≤ header.capacity → (after : List code.StoredContent) → after ≡ entries ++ record { who = who; id = record { 0 = x }; length = length bytes } ∷ [] → Replies header (history_of entries) who (Asks (PutContent bytes)) (Grants (ContentPut x)) (history_of after)
+      pub plain_made : size + 5 + payload ≤ header.capacity → (after : List code.StoredContent) → after ≡ entries ++ record { who = who; id = x; length = length bytes } ∷ [] → Replies header (history_of entries) who (Asks (PutContent bytes)) (Grants (ContentPut x)) (history_of after)
       plain_made fits after grows =
           let now = size_now in
           let room : journal.size (history_of entries) + 5 + (1 + length bytes) ≤ header.capacity = omega arith in
@@ -56,7 +56,7 @@ module _ (header : Header) (entries : List code.StoredContent) (who : ℕ) (byte
           (subst (λ y. Replies header (history_of entries) who (Asks (PutContent bytes)) (Grants (ContentPut y)) (history_of entries ++ entry_by who (Content y (length bytes)) ∷ [])) (sym e)
           (replies_made header (history_of entries) who (PutContent bytes) (ContentPut (sha256 bytes)) (Content (sha256 bytes) (length bytes)) (judged_short header (history_of entries) bytes false (up entries) few (known_as false unknown) ∙ entered_made header (history_of entries) (ContentPut (sha256 bytes)) (Content (sha256 bytes) (length bytes)) room)))
 
-      pub made_fits : size + 5 + payload ≤ header.capacity → (after : List code.StoredContent) → after ≡ entries ++ record { who = who; id = record { 0 = x }; length = length bytes } ∷ [] → journal.size (history_of after) ≤ header.capacity
+      pub made_fits : size + 5 + payload ≤ header.capacity → (after : List code.StoredContent) → after ≡ entries ++ record { who = who; id = x; length = length bytes } ∷ [] → journal.size (history_of after) ≤ header.capacity
       made_fits fits after grows =
           let now = size_now in
           let grown = ap journal.size (pushed entries after _ grows) in

@@ -1,5 +1,5 @@
 -- What is judged of an upload, by its checks.
-use Rattle.std.proofs.Common.{◌≡◌, ℕ, ◌≤◌, ◌<◌, ◌^◌, Bool, true, false, cond, not, List, [], ◌∷◌, length, refl, sym, ap, subst, ◌∙◌, arith}
+use Rattle.std.proofs.Common.{◌≡◌, ℕ, ◌≤◌, ◌<◌, ◌^◌, Bool, true, false, cond, not, inl, inr, List, [], ◌∷◌, length, refl, sym, ap, subst, ◌∙◌, arith}
 use Rattle.std.specs.Prelude.{Option, None, Some, Result, Ok, Err, nat_lt, find, option_map, filter_map, IsErrAnd}
 use Rattle.std.specs.List.{AllByRecursion}
 use Rattle.std.specs.Option.{option_or}
@@ -15,17 +15,16 @@ use Rattle.history_model.specs.Repository.{Repository}
 use Rattle.bonsai.specs.declared.decode_fault.DecodeFault.{DecodeFault}
 use Rattle.bonsai.specs.declared.decode_fault.DecodeFault.TheVariants as faults
 use Rattle.bonsai.specs.Decodes.{Refuses}
-use Rattle.reply_model.specs.Reply.{PutChangeset, ChangesetPut, Refusal, Judged, Merge, NoParent, Collision, TooLong, BadEncoding, SelfConflict, judge, entered, unchanged, accepted, refuse_if, refuse_some, content_refusal, collides, ◌>>=◌}
+use Rattle.reply_model.specs.Reply.{Ask, PutChangeset, ChangesetPut, Refusal, Judged, Merge, NoParent, Collision, TooLong, BadEncoding, SelfConflict, judge, entered, unchanged, accepted, refuse_if, refuse_some, content_refusal, collides, ◌>>=◌}
 use Rattle.reply_model.specs.After.{Answer, Asks, Replies}
-use Rattle.repo_machine.specs.declared.refusal.Refusal as refusal
-use Rattle.repo_machine.specs.Answering.{refused}
-use Rattle.repo_machine.specs.Faults.{refusal_of}
+use Rattle.repo_calls.specs.declared.refusal.Refusal as refusal
+use Rattle.repo_calls.specs.declared.refusal.Refusal.TheVariants as refusals
+use Rattle.repo_calls.specs.Calls.{refused}
+use Rattle.repo_machine.specs.Landings.{IsRefusal}
+use Rattle.repo_machine.specs.Faults.{fault_refusal}
 use Rattle.repo_machine.specs.Indexes.{AreIndexes}
-use Rattle.repo_machine.specs.Checking.{parents_refusal, edit_refusal, contents_refusal, collision_refusal, is_other_spelling, IsOnce}
-use Rattle.repo_machine.specs.Entering.{CanMake}
-use Rattle.repo_machine.proofs.Judging.{judged_up, replies_refused, replies_memory}
-use Rattle.repo_machine.proofs.Putting.{are_bytes-from, up_as}
-use Rattle.reply_model.proofs.Parents.{brought}
+use Rattle.repo_machine.specs.Checking.{IsFound, parents_refusal, edit_refusal, contents_refusal, collision_refusal}
+use Rattle.repo_machine.proofs.Judging.{judged_up}
 
 -- ---- a fault of the bytes
 
@@ -39,15 +38,16 @@ fault_refused header h bytes up fault e =
     refuse_if (collides (known h) c) (Collision (id_of c)) >>= λ _.
     cond (is_known (known h) (id_of c)) (unchanged (ChangesetPut (id_of c))) (entered header h (ChangesetPut (id_of c)) (Change c))) e
 
-fault_answer : (header : Header) (h : List Entry) (who : ℕ) (bytes : List ℕ) → is_down h ≡ false → (fault : DecodeFault) → Refuses fault (decoded bytes) → Replies header h who (Asks (PutChangeset bytes)) (refused (refusal_of fault)) h
-fault_answer header h who bytes up (faults.TooLong n) e = replies_refused header h who (PutChangeset bytes) (TooLong n) (fault_refused header h bytes up (decoding.TooLong n) e)
-fault_answer header h who bytes up (faults.BadEncoding at) e = replies_refused header h who (PutChangeset bytes) (BadEncoding at) (fault_refused header h bytes up (decoding.BadEncoding at) e)
-fault_answer header h who bytes up (faults.SelfConflict short long) e = replies_refused header h who (PutChangeset bytes) (SelfConflict short long) (fault_refused header h bytes up (decoding.SelfConflict short long) e)
-fault_answer header h who bytes up faults.Memory e = replies_memory header h who (PutChangeset bytes)
+pub fault_judged : (header : Header) (h : List Entry) (bytes : List ℕ) → is_down h ≡ false → (fault : DecodeFault) → Refuses fault (decoded bytes) → IsRefusal (judge header h (PutChangeset bytes)) (fault_refusal fault)
+fault_judged header h bytes up (faults.TooLong n) e = inr (TooLong n, fault_refused header h bytes up (decoding.TooLong n) e, refl)
+fault_judged header h bytes up (faults.BadEncoding at) e = inr (BadEncoding at, fault_refused header h bytes up (decoding.BadEncoding at) e, refl)
+fault_judged header h bytes up (faults.SelfConflict short long) e = inr (SelfConflict short long, fault_refused header h bytes up (decoding.SelfConflict short long) e, refl)
+fault_judged header h bytes up faults.Memory e = inl refl
 
-pub answers_fault : {X : Type 0} (answer : Result X refusal.Refusal → Answer) (errs : (e : refusal.Refusal) → answer (Err e) ≡ refused e) (header : Header) (h : List Entry) (who : ℕ) (bytes : List ℕ) → is_down h ≡ false → (fault : DecodeFault) (result : Result X refusal.Refusal) → Refuses fault (decoded bytes) → IsErrAnd result (λ e. e ≡ refusal_of fault) → Replies header h who (Asks (PutChangeset bytes)) (answer result) h
-answers_fault answer errs header h who bytes up fault (Ok x) e err = absurd err
-answers_fault answer errs header h who bytes up fault (Err x) e err = subst (λ a. Replies header h who (Asks (PutChangeset bytes)) a h) (sym (errs x ∙ ap refused err)) (fault_answer header h who bytes up fault e)
+-- what a check finds is the refusal
+pub found_refusal : (header : Header) (h : List Entry) (ask : Ask) (e : refusal.Refusal) (found : Option Refusal) → IsFound e found → ((r : Refusal) → found ≡ Some r → judge header h ask ≡ Err r) → IsRefusal (judge header h ask) e
+found_refusal header h ask e found (inl memory) judged = inl memory
+found_refusal header h ask e found (inr (r, some, same)) judged = inr (r, judged r some, same)
 
 -- ---- the contents, edit by edit
 
@@ -82,7 +82,7 @@ module _ (header : Header) (h : List Entry) (bytes : List ℕ) (up : is_down h �
   from_collision o = refuse_some o (λ r. r) >>= λ _. ending (is_known (known h) (id_of c))
 
   abbrev from_contents : Option Refusal → Result Judged Refusal
-  from_contents o = refuse_some o (λ r. r) >>= λ _. from_collision (collision_refusal (known h) (id_of c) (spelling c))
+  from_contents o = refuse_some o (λ r. r) >>= λ _. from_collision (collision_refusal (known h) c)
 
   abbrev from_parents : Option Refusal → Result Judged Refusal
   from_parents o = refuse_some o (λ r. r) >>= λ _. from_contents (contents_refusal (content_len h) c.changes)
@@ -100,7 +100,7 @@ module _ (header : Header) (h : List Entry) (bytes : List ℕ) (up : is_down h �
       ∙ parents_step (nat_lt 1 (length c.parents)) (find (λ p. not (is_known (known h) p)) c.parents) _
       ∙ (λ i. refuse_some (parents_refusal (known h) c) (λ r. r) >>= λ _.
       refuse_some (sets_refusal (content_len h) c.changes i) (λ r. r) >>= λ _.
-      collision_step (is_other_spelling (known h) (id_of c) (spelling c)) (id_of c) (λ _. ending (is_known (known h) (id_of c))) i)
+      collision_step (collides (known h) c) (id_of c) (λ _. ending (is_known (known h) (id_of c))) i)
 
   pub judged_parents : (r : Refusal) → parents_refusal (known h) c ≡ Some r → judge header h (PutChangeset bytes) ≡ Err r
   judged_parents r e = steps ∙ ap from_parents e
@@ -110,10 +110,10 @@ module _ (header : Header) (h : List Entry) (bytes : List ℕ) (up : is_down h �
     judged_contents r e = steps ∙ ap from_parents parents ∙ ap from_contents e
 
     module _ (contents : contents_refusal (content_len h) c.changes ≡ None) where
-      pub judged_collision : (r : Refusal) → collision_refusal (known h) (id_of c) (spelling c) ≡ Some r → judge header h (PutChangeset bytes) ≡ Err r
+      pub judged_collision : (r : Refusal) → collision_refusal (known h) c ≡ Some r → judge header h (PutChangeset bytes) ≡ Err r
       judged_collision r e = steps ∙ ap from_parents parents ∙ ap from_contents contents ∙ ap from_collision e
 
-      module _ (alone : collision_refusal (known h) (id_of c) (spelling c) ≡ None) where
+      module _ (alone : collision_refusal (known h) c ≡ None) where
         pub judged_ending : (b : Bool) → b ≡ is_known (known h) (id_of c) → judge header h (PutChangeset bytes) ≡ ending b
         judged_ending b e = steps ∙ ap from_parents parents ∙ ap from_contents contents ∙ ap from_collision alone ∙ ap ending (sym e)
 
@@ -135,44 +135,53 @@ no_refusal false (Some x) e = absurd cc
 pub parents_known : (ks : List Known) (c : Changeset) → parents_refusal ks c ≡ None → AllByRecursion (λ p. is_known ks p ≡ true) c.parents
 parents_known ks c e = none_unknown ks c.parents (no_refusal (nat_lt 1 (length c.parents)) (find (λ p. not (is_known ks p)) c.parents) e)
 
-module _ {header : Header} {h : List Entry} {ks : List Known} {heads : List ℕ → Option Id} {lengths : Id → Option ℕ} {size : ℕ} (k : AreIndexes header h ks heads lengths size) (r : Repository) (is : ◌≡◌ {A = Repository} (record { header = header; history = h }) r) where
+module _ {header : Header} {h : List Entry} {ks : List Known} {heads : List ℕ → Option Id} {lengths : Id → Option ℕ} {size : ℕ} {down : Bool} (k : AreIndexes header h ks heads lengths size down) (r : Repository) (is : ◌≡◌ {A = Repository} (record { header = header; history = h }) r) where
   pub known_as : ks ≡ known r.history
   known_as = k.known_are ∙ ap (λ r. known r.history) is
 
-  pub once_as : IsOnce ks
-  once_as = (brought h, k.known_are)
+  pub contents_as : (es : List (Path × FileChange)) (c : Changeset) → es ≡ c.changes → contents_refusal lengths es ≡ contents_refusal (content_len r.history) c.changes
+  contents_as es c same = (λ i. contents_refusal (λ x. (k.lengths_are x ∙ ap (λ r. content_len r.history x) is) i) (same i))
 
-  module _ (bytes : List ℕ) (are : IsBytes bytes) (c : Changeset) (d : decoded bytes ≡ Ok c) where
-    accepts : (length bytes ≤ most_encoded) × Spells c bytes
-    accepts = let all = (accepted_exactly bytes c are).0 d in (all.0, all.1)
+  pub parents_as : (seen c : Changeset) → seen ≡ c → parents_refusal ks seen ≡ parents_refusal (known r.history) c
+  parents_as seen c same = (λ i. parents_refusal (known_as i) (same i))
 
-    spelled : bytes ≡ spelling c
-    spelled = accepts.1.1
-
-    pub short : length (spelling c) < 2 ^ 63
-    short = subst (λ bytes. length bytes < 2 ^ 63) spelled (let few = accepts.0 in omega arith)
-
-    pub parents_as : (seen : Changeset) → seen ≡ c → parents_refusal ks seen ≡ parents_refusal (known r.history) c
-    parents_as seen same = (λ i. parents_refusal (known_as i) (same i))
-
-    pub contents_as : (es : List (Path × FileChange)) → es ≡ c.changes → contents_refusal lengths es ≡ contents_refusal (content_len r.history) c.changes
-    contents_as es same = (λ i. contents_refusal (λ x. (k.lengths_are x ∙ ap (λ r. content_len r.history x) is) i) (same i))
-
-    pub collision_as : (x : Id) → x ≡ id_of c → collision_refusal ks x bytes ≡ collision_refusal (known r.history) (id_of c) (spelling c)
-    collision_as x same = (λ i. collision_refusal (known_as i) (same i) (spelled i))
+  module _ (up : is_down r.history ≡ false) (bytes : List ℕ) (c : Changeset) (d : decoded bytes ≡ Ok c) where
+    pub parents_found : (seen : Changeset) → seen ≡ c → (e : refusal.Refusal) → IsFound e (parents_refusal ks seen) → IsRefusal (judge r.header r.history (PutChangeset bytes)) e
+    parents_found seen same e found =
+        found_refusal r.header r.history (PutChangeset bytes) e (parents_refusal (known r.history) c) (subst (IsFound e) (parents_as seen c same) found) (judged_parents r.header r.history bytes up c d)
 
     module _ (seen : Changeset) (same : seen ≡ c) (fine : parents_refusal ks seen ≡ None) where
-      pub no_parents : parents_refusal (known r.history) c ≡ None
-      no_parents = sym (parents_as seen same) ∙ fine
+      no_parents : parents_refusal (known r.history) c ≡ None
+      no_parents = sym (parents_as seen c same) ∙ fine
+
+      pub contents_found : (es : List (Path × FileChange)) → es ≡ c.changes → (e : refusal.Refusal) → IsFound e (contents_refusal lengths es) → IsRefusal (judge r.header r.history (PutChangeset bytes)) e
+      contents_found es es_are e found =
+          found_refusal r.header r.history (PutChangeset bytes) e (contents_refusal (content_len r.history) c.changes) (subst (IsFound e) (contents_as es c es_are) found) (judged_contents r.header r.history bytes up c d no_parents)
 
       module _ (es : List (Path × FileChange)) (es_are : es ≡ c.changes) (stored : contents_refusal lengths es ≡ None) where
-        pub no_contents : contents_refusal (content_len r.history) c.changes ≡ None
-        no_contents = sym (contents_as es es_are) ∙ stored
+        no_contents : contents_refusal (content_len r.history) c.changes ≡ None
+        no_contents = sym (contents_as es c es_are) ∙ stored
 
-        pub judged_as : (x : Id) → x ≡ id_of c → collision_refusal ks x bytes ≡ None → (b : Bool) → b ≡ is_known ks x → judge r.header r.history (PutChangeset bytes) ≡ cond b (unchanged (ChangesetPut x)) (entered r.header r.history (ChangesetPut x) (Change c))
-        judged_as x x_is alone b b_is =
-            judged_ending r.header r.history bytes (up_as k r is) c d no_parents no_contents (sym (collision_as x x_is) ∙ alone) b (b_is ∙ (λ i. is_known (known_as i) (x_is i)))
-            ∙ ap (λ y. cond b (unchanged (ChangesetPut y)) (entered r.header r.history (ChangesetPut y) (Change c))) (sym x_is)
+        collides_as : (other : Bool) → other ≡ collides ks c → collision_refusal (known r.history) c ≡ cond other (Some (Collision (id_of c))) None
+        collides_as other e = (λ i. cond (sym (e ∙ ap (λ ks. collides ks c) known_as) i) (Some (Collision (id_of c))) None)
 
-        pub upload_as : (x : Id) → x ≡ id_of c → collision_refusal ks x bytes ≡ None → false ≡ is_known ks x → CanMake r.header r.history (Change c)
-        upload_as x x_is alone b_is = record { ask = PutChangeset bytes; granted = ChangesetPut x; asks = are_bytes-from bytes are; judged = judged_as x x_is alone false b_is }
+        pub collision_found : collides ks c ≡ true → (x : Id) → x ≡ id_of c → IsRefusal (judge r.header r.history (PutChangeset bytes)) (refusals.Collision x)
+        collision_found other x x_is =
+            inr (Collision (id_of c), judged_collision r.header r.history bytes up c d no_parents no_contents (Collision (id_of c)) (collides_as true (sym other)), ap (λ y. Rattle.reply_model.specs.After.Refuses (Collision y)) x_is)
+
+        module _ (alone : collides ks c ≡ false) (x : Id) (x_is : x ≡ id_of c) where
+          pub judged_as : (b : Bool) → b ≡ is_known ks x → judge r.header r.history (PutChangeset bytes) ≡ cond b (unchanged (ChangesetPut x)) (entered r.header r.history (ChangesetPut x) (Change c))
+          judged_as b b_is =
+              judged_ending r.header r.history bytes up c d no_parents no_contents (collides_as false (sym alone)) b (b_is ∙ (λ i. is_known (known_as i) (x_is i)))
+              ∙ ap (λ y. cond b (unchanged (ChangesetPut y)) (entered r.header r.history (ChangesetPut y) (Change c))) (sym x_is)
+
+          pub is_new : false ≡ is_known ks x → (is_known (known r.history) (id_of c) ≡ false) × AllByRecursion (λ p. is_known (known r.history) p ≡ true) c.parents
+          is_new b_is = (sym (b_is ∙ (λ i. is_known (known_as i) (x_is i))), parents_known (known r.history) c no_parents)
+
+-- ---- bytes that are decoded
+
+pub spelled : (bytes : List ℕ) (c : Changeset) → IsBytes bytes → decoded bytes ≡ Ok c → bytes ≡ spelling c
+spelled bytes c are d = let all = (accepted_exactly bytes c are).0 d in all.1.1
+
+pub is_short : (bytes : List ℕ) (c : Changeset) → IsBytes bytes → decoded bytes ≡ Ok c → length (spelling c) ≤ 1_048_576
+is_short bytes c are d = let all = (accepted_exactly bytes c are).0 d in subst (λ bs. length bs ≤ most_encoded) (spelled bytes c are d) all.0

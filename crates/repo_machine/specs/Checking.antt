@@ -2,19 +2,17 @@
 --     Checks result found      what a check returned is the refusal that is found, or that none is, unless memory ran out
 --     parents_refusal ks c      that there are two parents, or one that isn't known
 --     contents_refusal lengths es      of the contents that are set: the first that isn't stored, or that has another length
---     collision_refusal ks x bytes      that a known changeset has this id and another spelling
---     IsOnce ks      each id is known once
-use Rattle.std.specs.Prelude.{◌≡◌, ◌⊎◌, ℕ, Bool, not, ◌&&◌, nat_lt, if◌then◌else◌, List, length, find, bytes_eq, Option, None, Some, option_map, Result, Ok, Err}
-use Rattle.std.specs.List.{list_any}
+--     collision_refusal ks c      that another changeset is known by its id
+use Rattle.std.specs.Prelude.{◌≡◌, ◌⊎◌, ℕ, not, nat_lt, if◌then◌else◌, List, length, find, Option, None, Some, option_map, Result, Ok, Err}
 use Rattle.byte_fields.specs.Bytes.{Id, first_some}
 use Rattle.changeset_model.specs.Path.{Path}
-use Rattle.changeset_model.specs.Changeset.{FileChange, Set, Delete, Changeset, spelling}
-use Rattle.history_model.specs.History.{Known, is_known, each_id_once}
+use Rattle.changeset_model.specs.Changeset.{FileChange, Set, Delete, Changeset, id_of}
+use Rattle.history_model.specs.History.{Known, is_known}
 use Rattle.reply_model.specs.Reply as reply
 use Rattle.reply_model.specs.After.{Refuses}
-use Rattle.repo_machine.specs.declared.refusal.Refusal.{Refusal}
-use Rattle.repo_machine.specs.declared.refusal.Refusal.TheVariants.{Memory}
-use Rattle.repo_machine.specs.Answering.{refused}
+use Rattle.repo_calls.specs.declared.refusal.Refusal.{Refusal}
+use Rattle.repo_calls.specs.declared.refusal.Refusal.TheVariants.{Memory}
+use Rattle.repo_calls.specs.Calls.{refused}
 
 abbrev pub IsFound : Refusal → Option reply.Refusal → Type 0
 IsFound e found = (e ≡ Memory) ⊎ ((refusal : reply.Refusal) × (found ≡ Some refusal) × (refused e ≡ Refuses refusal))
@@ -33,11 +31,5 @@ edit_refusal lengths (p, Delete) = None
 abbrev pub contents_refusal : (Id → Option ℕ) → List (Path × FileChange) → Option reply.Refusal
 contents_refusal lengths es = first_some (edit_refusal lengths) es
 
-abbrev pub is_other_spelling : List Known → Id → List ℕ → Bool
-is_other_spelling ks x bytes = list_any (λ k. bytes_eq k.id x && not (bytes_eq (spelling k.changeset) bytes)) ks
-
-abbrev pub collision_refusal : List Known → Id → List ℕ → Option reply.Refusal
-collision_refusal ks x bytes = if is_other_spelling ks x bytes then Some (reply.Collision x) else None
-
-abbrev pub IsOnce : List Known → Type 0
-IsOnce ks = (all : List Known) × (ks ≡ each_id_once all)
+abbrev pub collision_refusal : List Known → Changeset → Option reply.Refusal
+collision_refusal ks c = if reply.collides ks c then Some (reply.Collision (id_of c)) else None

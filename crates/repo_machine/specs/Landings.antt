@@ -3,10 +3,7 @@
 --     Steps view wanted result      what a step gives is what it gives in the definitions, or memory ran out
 --     forking, lengths_checked, paths_checked, payload_checked, collisions_checked      the steps of `land`
 --     IsPlanned header h name draft planned      the draft may be landed so, if the new changesets may be entered
---     IsLandable header h name draft landing      the landing is to be entered, if there is room
---     IsAlone ks c      no other changeset than c is known by its id;  AreAlone ks cs      nor are others by the ids of these, with those before them
---     adding_one ks c, adding ks cs      what is known then: those that weren't, each once
---     CanAddOne ks c, CanAdd ks cs      their parents are known, and no other changeset by their ids
+--     IsLandable header h name draft landing      the landing is to be entered, if there is room;  IsLanded header h name draft judged      it is judged to be
 --     IsLanding before after old draft ids      the trees after a landing
 use Rattle.std.specs.Prelude.{◌≡◌, ◌≤◌, ◌<◌, ◌==◌, ◌⊎◌, ℕ, Bool, true, not, nat_lt, cond, if◌then◌else◌, List, [], ◌∷◌, ◌++◌, length, map, Contains, Option, None, Some, ok_or, Result, Ok, Err}
 use Rattle.std.specs.List.{AllByRecursion, list_any}
@@ -24,11 +21,13 @@ use Rattle.history_model.specs.Journal.{Header, payload_len, most_payload}
 use Rattle.reply_model.specs.Reply as reply
 use Rattle.reply_model.specs.Reply.{◌>>=◌, refuse_if, refuse_some, most_range, most_stack, first_collision, LandDraft, is_ask, judge, entered, enter_landing}
 use Rattle.reply_model.specs.After.{Refuses}
+use Rattle.changeset_store.specs.Grown.{AreAlone}
 use Rattle.changeset_store.specs.Fork.{IsFork, fork_between}
-use Rattle.repo_machine.specs.declared.refusal.Refusal.{Refusal}
-use Rattle.repo_machine.specs.declared.refusal.Refusal.TheVariants.{Memory}
+use Rattle.repo_calls.specs.declared.refusal.Refusal.{Refusal}
+use Rattle.repo_calls.specs.declared.refusal.Refusal.TheVariants.{Memory}
 use Rattle.repo_machine.specs.declared.landings.Planned.{Planned}
-use Rattle.repo_machine.specs.Answering.{refused}
+use Rattle.repo_calls.specs.Calls.{refused}
+use Rattle.repo_machine.specs.Judged.{JudgedChange}
 
 -- ---- steps
 
@@ -64,40 +63,13 @@ collisions_checked ks new = refuse_some (first_collision ks new) reply.Collision
 
 pub record IsPlanned (header : Header) (h : List Entry) (name : List ℕ) (draft : Id) (planned : Planned) : Type 0 where
   pub is_fork : IsFork (known h) planned.fork
-  pub head_is : head h name ≡ Some planned.old.0
-  pub old_known : is_known (known h) planned.old.0 ≡ true
-  pub forks : fork (known h) planned.old.0 draft ≡ Some (fork_between (known h) planned.fork)
+  pub head_is : head h name ≡ Some planned.old
+  pub old_known : is_known (known h) planned.old ≡ true
+  pub forks : fork (known h) planned.old draft ≡ Some (fork_between (known h) planned.fork)
   pub some : 0 < length (fork_between (known h) planned.fork).stack
   pub few : length (fork_between (known h) planned.fork).stack ≤ most_stack
   pub apart : clash (touched_paths (fork_between (known h) planned.fork).stack) (touched_paths (fork_between (known h) planned.fork).range) ≡ None
-  pub judged : judge header h (LandDraft name draft) ≡ enter_landing header h name planned.old.0 draft (rewrite (fork_between (known h) planned.fork).stack planned.old.0)
-
--- ---- known changesets
-
-abbrev pub with_known : List Known → List Changeset → List Known
-with_known ks cs = ks ++ map with_id cs
-
-abbrev pub IsAlone : List Known → Changeset → Type 0
-IsAlone ks c = AllByRecursion (λ k. k.id ≡ id_of c → k.changeset ≡ c) ks
-
-abbrev pub AreAlone : List Known → List Changeset → Type 0
-AreAlone ks [] = Unit {0}
-AreAlone ks (c ∷ cs) = IsAlone ks c × AreAlone (ks ++ with_id c ∷ []) cs
-
-abbrev pub adding_one : List Known → Changeset → List Known
-adding_one ks c = if is_known ks (id_of c) then ks else ks ++ with_id c ∷ []
-
-abbrev pub adding : List Known → List Changeset → List Known
-adding ks [] = ks
-adding ks (c ∷ cs) = adding (adding_one ks c) cs
-
-pub record CanAddOne (ks : List Known) (c : Changeset) : Type 0 where
-  pub parents : AllByRecursion (λ p. is_known ks p ≡ true) c.parents
-  pub alone : IsAlone ks c
-
-abbrev pub CanAdd : List Known → List Changeset → Type 0
-CanAdd ks [] = Unit {0}
-CanAdd ks (c ∷ cs) = CanAddOne ks c × CanAdd (adding_one ks c) cs
+  pub judged : judge header h (LandDraft name draft) ≡ enter_landing header h name planned.old draft (rewrite (fork_between (known h) planned.fork).stack planned.old)
 
 -- ---- a landing
 
@@ -114,6 +86,12 @@ pub record IsLandable (header : Header) (h : List Entry) (name : List ℕ) (draf
   pub apart : clash (touched_paths fork_is.stack) (touched_paths fork_is.range) ≡ None
   pub alone : AreAlone (known h) landing.new
   pub judged : judge header h (LandDraft name draft) ≡ entered header h (reply.Landed landing.old (map id_of landing.new)) (Land landing)
+
+pub record IsLanded (header : Header) (h : List Entry) (name : List ℕ) (draft : Id) (judged : JudgedChange) : Type 0 where
+  pub landing : model.Landing
+  pub able : IsLandable header h name draft landing
+  pub made_is : judged.made ≡ Some (Land landing)
+  pub granted_is : judged.granted ≡ reply.Landed landing.old (map id_of landing.new)
 
 -- The new head's tree has what the stack sets where a member of it decides, and else what the old head's has. At each path that the stack touches the old head's tree has what the root's has.
 pub record IsLanding (before after : List Known) (old draft : Id) (ids : List Id) : Type 0 where

@@ -1,4 +1,6 @@
-pub mod Answering
+pub mod Held
+pub mod Judged
+pub mod Made
 pub mod Entering
 pub mod Indexes
 pub mod Landings

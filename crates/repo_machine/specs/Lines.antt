@@ -1,20 +1,38 @@
 -- What the log tells of the machine's entries.
---     record_line ks record, entry_line ks entry      where these changesets are the known ones
-use Rattle.std.specs.Prelude.{List, map}
+--     record_line ks record      where these changesets are the known ones. A fault has no line
+--     entry_at es n, line_at ks es n      the entry at a place, and what is told of it
+--     KeptWithin count record, IsKeptAt count es n      it is stored, and each changeset that it names has a number below this
+use Rattle.std.specs.Prelude.{ℕ, ◌<◌, ◌≡◌, Bool, false, List, [], map, length, get_or}
+use Rattle.std.specs.List.{AllByRecursion}
 use Rattle.changeset_model.specs.Changeset.{id_of}
 use Rattle.history_model.specs.History.{Known}
 use Rattle.reply_model.specs.Log.{LogLine, ContentLine, ChangesetLine, BookmarkLine, LandingLine}
 use Rattle.repo_events.specs.Entries.{move_of}
 use Rattle.changeset_store.specs.Store.{changeset_at}
 use Rattle.repo_machine.specs.declared.records.Record.{Record}
-use Rattle.repo_machine.specs.declared.records.Record.TheVariants.{Content, Change, Book, Land}
+use Rattle.repo_machine.specs.declared.records.Record.TheVariants.{Content, Change, Book, Land, Fault}
 use Rattle.repo_machine.specs.declared.records.Entry.{Entry}
 
 abbrev pub record_line : List Known → Record → LogLine
-record_line ks (Content id length) = ContentLine id.0 length
+record_line ks (Content id length) = ContentLine id length
 record_line ks (Change number) = ChangesetLine (id_of (changeset_at ks number))
 record_line ks (Book movement) = BookmarkLine (move_of movement)
-record_line ks (Land landing) = LandingLine landing.name landing.old.0 landing.draft.0 (map id_of (map (changeset_at ks) landing.numbers.items))
+record_line ks (Land landing) = LandingLine landing.name landing.old landing.draft (map id_of (map (changeset_at ks) landing.numbers.items))
+-- none is asked for
+record_line ks (Fault breaking) = ContentLine [] 0
 
-abbrev pub entry_line : List Known → Entry → LogLine
-entry_line ks e = record_line ks e.record
+abbrev pub entry_at : List Entry → ℕ → Entry
+entry_at es n = get_or es n (record { who = 0; «record» = Fault false })
+
+abbrev pub line_at : List Known → List Entry → ℕ → LogLine
+line_at ks es n = record_line ks (entry_at es n).record
+
+abbrev pub KeptWithin : ℕ → Record → Type 0
+KeptWithin count (Content id length) = Unit {0}
+KeptWithin count (Change number) = number < count
+KeptWithin count (Book movement) = Unit {0}
+KeptWithin count (Land landing) = AllByRecursion (λ n. n < count) landing.numbers.items
+KeptWithin count (Fault breaking) = ⊥
+
+abbrev pub IsKeptAt : ℕ → List Entry → ℕ → Type 0
+IsKeptAt count es n = (n < length es) × KeptWithin count (entry_at es n).record

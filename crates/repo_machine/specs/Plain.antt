@@ -5,7 +5,7 @@ use Rattle.history_model.specs.History as model
 use Rattle.repo_machine.specs.declared.plain.StoredContent.{StoredContent}
 
 abbrev pub body_of : StoredContent → model.Body
-body_of c = model.Content c.id.0 c.length
+body_of c = model.Content c.id c.length
 
 abbrev pub entry_of : StoredContent → model.Entry
 entry_of c = record { who = c.who; body = body_of c }

@@ -1,24 +1,26 @@
 -- The machine's entries as those of the definitions, if these changesets are the known ones.
 --     body_of ks record, entry_of ks entry, history_of ks entries      what they say
 --     IsWithin count entry      each changeset that the entry names has a number below this
-use Rattle.std.specs.Prelude.{ℕ, ◌<◌, List, map}
+--     is_kept entry      it isn't a fault, so it is stored;  kept_from n entries      the places of those that are, if the first has this one
+use Rattle.std.specs.Prelude.{ℕ, suc, ◌<◌, Bool, true, false, if◌then◌else◌, List, [], ◌∷◌, map}
 use Rattle.std.specs.List.{AllByRecursion}
 use Rattle.history_model.specs.History as model
 use Rattle.repo_events.specs.Entries.{move_of}
 use Rattle.changeset_store.specs.Store.{changeset_at}
 use Rattle.repo_machine.specs.declared.records.LandRecord.{LandRecord}
 use Rattle.repo_machine.specs.declared.records.Record.{Record}
-use Rattle.repo_machine.specs.declared.records.Record.TheVariants.{Content, Change, Book, Land}
+use Rattle.repo_machine.specs.declared.records.Record.TheVariants.{Content, Change, Book, Land, Fault}
 use Rattle.repo_machine.specs.declared.records.Entry.{Entry}
 
 abbrev pub landing_of : List model.Known → LandRecord → model.Landing
-landing_of ks l = record { name = l.name; old = l.old.0; draft = l.draft.0; new = map (changeset_at ks) l.numbers.items }
+landing_of ks l = record { name = l.name; old = l.old; draft = l.draft; new = map (changeset_at ks) l.numbers.items }
 
 abbrev pub body_of : List model.Known → Record → model.Body
-body_of ks (Content id length) = model.Content id.0 length
+body_of ks (Content id length) = model.Content id length
 body_of ks (Change number) = model.Change (changeset_at ks number)
 body_of ks (Book movement) = model.Book (move_of movement)
 body_of ks (Land landing) = model.Land (landing_of ks landing)
+body_of ks (Fault breaking) = model.Fault breaking
 
 abbrev pub entry_of : List model.Known → Entry → model.Entry
 entry_of ks e = record { who = e.who; body = body_of ks e.record }
@@ -31,6 +33,21 @@ RecordWithin count (Content id length) = Unit {0}
 RecordWithin count (Change number) = number < count
 RecordWithin count (Book movement) = Unit {0}
 RecordWithin count (Land landing) = AllByRecursion (λ n. n < count) landing.numbers.items
+RecordWithin count (Fault breaking) = Unit {0}
 
 abbrev pub IsWithin : ℕ → Entry → Type 0
 IsWithin count e = RecordWithin count e.record
+
+abbrev pub is_record_kept : Record → Bool
+is_record_kept (Content id length) = true
+is_record_kept (Change number) = true
+is_record_kept (Book movement) = true
+is_record_kept (Land landing) = true
+is_record_kept (Fault breaking) = false
+
+abbrev pub is_kept : Entry → Bool
+is_kept e = is_record_kept e.record
+
+abbrev pub kept_from : ℕ → List Entry → List ℕ
+kept_from n [] = []
+kept_from n (e ∷ es) = if is_kept e then n ∷ kept_from (suc n) es else kept_from (suc n) es

@@ -1,26 +1,23 @@
 //! Bookmarks.
-ghost use Rattle.std.specs.Prelude.{◌≡◌, ◌<◌, ◌^◌, length, not, find, IsTrue, OnOk, OnErr};
+ghost use Rattle.std.specs.Prelude.{◌≡◌, not, find, IsTrue, IfOk, IfErr};
 ghost use Rattle.std.specs.List.{list_all};
 ghost use Rattle.std.specs.Option.{option_to_list};
-ghost use Rattle.std.specs.BTreeMap.{Updates, IsUnchanged};
-ghost use Rattle.byte_fields.specs.Bytes.{are_bytes, is_bytes};
-ghost use Rattle.history_model.specs.Journal.{optional_id, payload_len};
-ghost use Rattle.history_model.specs.History.{Book, known, is_known};
-ghost use Rattle.reply_model.specs.Reply.{SetBookmark, BookmarkSet, is_ask, judge, entered};
+ghost use Rattle.byte_fields.specs.Bytes.{is_bytes};
+ghost use Rattle.history_model.specs.History.{known, is_known};
+ghost use Rattle.reply_model.specs.Reply.{SetBookmark, BookmarkSet, is_ask, judge};
 ghost use Rattle.reply_model.specs.After.{Asks, Replies};
 ghost use Rattle.reply_model.specs.Legal.{IsLegal};
-ghost use Rattle.repo_events.specs.Entries.{move_of};
-ghost use Rattle.repo_machine.specs.Answering.{id_seen, bookmark_answer};
-ghost use Rattle.repo_machine.specs.Entering.{Enters};
+ghost use Rattle.repo_calls.specs.Calls.{bookmark_answer};
+ghost use Rattle.repo_machine.specs.Entering.{Judges};
+ghost use Rattle.repo_machine.specs.Landings.{IsRefusal};
 
+use crate::judged::Judged;
 use crate::machine::Machine;
-use crate::records::{Entry, Record};
-use crate::refusal::Refusal;
 use object_id::Id;
-use repo_events::Move;
+use repo_calls::{Granted, Refusal};
+use repo_events::{Body, Move};
 use repo_path::BookName;
-use std::alloc::{AllocError, Global};
-use std::collections::BTreeMap;
+use std::alloc::Global;
 
 impl Machine {
     /// Moves a bookmark for the seat `who`, if its head is `from`. `None` stands for no bookmark.
@@ -32,45 +29,54 @@ impl Machine {
         from: Option<Id>,
         to: Option<Id>,
     ) -> Result<(), Refusal>
-        ensures reply { Replies self.old.header self.old.history who (Asks (SetBookmark name.now (id_seen from) (id_seen to))) (bookmark_answer result) self.new.history }
+        ensures reply { Replies self.old.header self.old.history who (Asks (SetBookmark name.now from to)) (bookmark_answer result) self.new.history }
         ensures legal { IsLegal self.new.header self.new.history }
         ensures header { self.new.header ≡ self.old.header }
     {
-        let found = self.heads.get(name).copied();
+        let judged = self.judge_bookmark(alloc, who, name, from, to)?;
+        let _granted = self.admit(judged);
+        Ok(())
+    }
+
+    /// Judges the move that the seat `who` asks for, and makes room for it and for one fault after it.
+    pub fn judge_bookmark(
+        &mut self,
+        alloc: Global,
+        who: u64,
+        name: &BookName,
+        from: Option<Id>,
+        to: Option<Id>,
+    ) -> Result<Judged, Refusal>
+        ensures ok { IfOk result (Judges self.old.header self.old.history self.new.room who (SetBookmark name.now from to)) }
+        ensures granted { IfOk result (λ judged. judged.granted ≡ BookmarkSet) }
+        ensures err { IfErr result (IsRefusal (judge self.old.header self.old.history (SetBookmark name.now from to))) }
+        ensures header { self.new.header ≡ self.old.header }
+        ensures history { self.new.history ≡ self.old.history }
+        ensures legal { IsLegal self.old.header self.old.history }
+    {
+        self.check_up()?;
         if let Some(id) = self.unknown(to) {
             return Err(Refusal::NoChangeset { id });
         }
+        let found = self.head(name);
         if found != from {
             return Err(Refusal::Moved { found });
         }
+        keep_rules(name, from, to);
+        let granted = Granted::Bookmark;
         if from == to {
-            return Ok(());
+            return Ok(Judged::unchanged(alloc, who, granted));
         }
         let name = name.copy(alloc)?;
-        self.enter_move(alloc, who, Move { name, from, to })
-    }
-
-    // Enters a move.
-    fn enter_move(&mut self, alloc: Global, who: u64, movement: Move) -> Result<(), Refusal>
-        requires { judge self.old.header self.old.history (SetBookmark movement.name (id_seen movement.from) (id_seen movement.to)) ≡ entered self.old.header self.old.history BookmarkSet (Book (move_of movement)) }
-        ensures reply { Enters self.old.header self.old.history who (Book (move_of movement)) result self.new.history }
-        ensures legal { IsLegal self.new.header self.new.history }
-        ensures header { self.new.header ≡ self.old.header }
-    {
-        let size = self.size_with(move_length(&movement))?;
-        self.entries.try_reserve(1)?;
-        set_head(&mut self.heads, alloc, &movement.name, movement.to)?;
-        self.entries.push_reserved(Entry {
-            who,
-            record: Record::Book(movement),
-        });
-        self.size = size;
-        Ok(())
+        let movement = Move { name, from, to };
+        // It is short.
+        let _length = movement.payload_length();
+        self.prepare(alloc, who, granted, Body::Book(movement), &[])
     }
 
     // The id, if no changeset has it.
     fn unknown(&self, id: Option<Id>) -> Option<Id>
-        ensures { id_seen result ≡ find (λ x. not (is_known (known self.now.history) x)) (option_to_list (id_seen id)) }
+        ensures { result ≡ find (λ x. not (is_known (known self.now.history) x)) (option_to_list id) }
     {
         match id {
             Some(id) if !self.changesets.is_known(&id) => Some(id),
@@ -79,53 +85,20 @@ impl Machine {
     }
 }
 
-// The length in bytes of a move's payload.
-fn move_length(movement: &Move) -> u64
-    ensures length { result ≡ payload_len (Book (move_of movement.now)) }
-    ensures short { result < 2 ^ 9 }
-    ensures rules { IsTrue (is_ask (SetBookmark movement.now.name (id_seen movement.now.from) (id_seen movement.now.to))) }
+// What is asked keeps the rules of a name and of ids.
+fn keep_rules(name: &BookName, from: Option<Id>, to: Option<Id>)
+    ensures { IsTrue (is_ask (SetBookmark name.now from to)) }
 {
-    let name = movement.name.as_str().len() as u64;
-    2 + name + optional_length(movement.from) + optional_length(movement.to)
+    let _name = name.as_str();
+    keep_id_rule(from);
+    keep_id_rule(to);
 }
 
-// The length in bytes of an id that may be absent, with its flag.
-fn optional_length(id: Option<Id>) -> u64
-    ensures value { result ≡ length (optional_id (id_seen id)) }
-    ensures short { result < 34 }
-    ensures rules { IsTrue (list_all (is_bytes 32) (option_to_list (id_seen id))) }
+// An id that may be absent has 32 bytes.
+fn keep_id_rule(id: Option<Id>)
+    ensures { IsTrue (list_all (is_bytes 32) (option_to_list id)) }
 {
-    match id {
-        None => 1,
-        Some(id) => 1 + bytes_length(id.0.as_slice()),
+    if let Some(id) = id {
+        let _bytes = id.as_bytes();
     }
-}
-
-pub(crate) fn bytes_length(bytes: &[u8]) -> u64
-    ensures length { result ≡ length bytes.now }
-    ensures rules { IsTrue (are_bytes bytes.now) }
-{
-    bytes.len() as u64
-}
-
-// Has a bookmark stand at this head, or takes it out.
-pub(crate) fn set_head(
-    heads: &mut BTreeMap<BookName, Id>,
-    alloc: Global,
-    name: &BookName,
-    head: Option<Id>,
-) -> Result<(), AllocError>
-    ensures ok { OnOk result (Updates ⟦<BookName as Ord>⟧.cmp heads.old heads.new name.now head) }
-    ensures err { OnErr result (IsUnchanged heads.old heads.new) }
-{
-    match head {
-        Some(id) => {
-            let name = name.copy(alloc)?;
-            heads.insert(name, id)?;
-        }
-        None => {
-            heads.remove(name);
-        }
-    }
-    Ok(())
 }

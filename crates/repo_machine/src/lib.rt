@@ -3,19 +3,21 @@
 #![tactic(auto)]
 
 pub mod bookmarks;
+pub mod contents;
+pub mod entering;
+pub mod faults;
+pub mod judge;
+pub mod judged;
 pub mod landings;
 pub mod log;
 pub mod machine;
+pub mod place;
 pub mod plain;
+mod preparing;
 pub mod reads;
 mod records;
-pub mod refusal;
 pub mod uploads;
 
-pub use landings::Landed;
-pub use log::{LogEntry, LogPage};
+pub use judged::Judged;
 pub use machine::Machine;
-pub use refusal::Refusal;
-
-#[cfg(test)]
-mod tests;
+pub use place::Place;

@@ -3,7 +3,7 @@ ghost use Rattle.std.specs.Prelude.{◌≡◌, option_map, IfSome};
 ghost use Rattle.changeset_model.specs.Changeset.{id_of};
 ghost use Rattle.history_model.specs.Bookmark.{head};
 ghost use Rattle.history_model.specs.History.{known, changeset_of};
-ghost use Rattle.repo_machine.specs.Answering.{id_seen};
+ghost use Rattle.changeset_store.specs.Store.{number_in};
 
 use crate::machine::Machine;
 use bonsai::Commit;
@@ -13,16 +13,23 @@ use repo_path::BookName;
 impl Machine {
     /// The head of a bookmark.
     pub fn head(&self, name: &BookName) -> Option<Id>
-        ensures { id_seen result ≡ head self.now.history name.now }
+        ensures { result ≡ head self.now.history name.now }
     {
-        self.heads.get(name).copied()
+        self.heads.get(name).copied()?
     }
 
     /// The changeset with this id.
     pub fn changeset(&self, id: &Id) -> Option<&Commit>
-        ensures found { option_map (λ c. c.now) result ≡ changeset_of (known self.now.history) id.now.0 }
-        ensures has_id { IfSome result (λ c. id_of c.now ≡ id.now.0) }
+        ensures found { option_map (λ c. c.now) result ≡ changeset_of (known self.now.history) id.now }
+        ensures has_id { IfSome result (λ c. id_of c.now ≡ id.now) }
     {
         self.changesets.get(id)
+    }
+
+    /// The number of the changeset with this id: its place among the known ones.
+    pub fn number_of(&self, id: &Id) -> Option<u32>
+        ensures { result ≡ number_in (known self.now.history) id.now }
+    {
+        self.changesets.number_of(id)
     }
 }

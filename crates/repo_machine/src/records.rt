@@ -1,4 +1,5 @@
 //! The entries as the machine keeps them. A changeset stands once, in the store, and an entry names it by its number.
+
 use object_id::Id;
 use repo_events::Move;
 use repo_path::BookName;
@@ -25,6 +26,8 @@ pub(crate) enum Record {
     Book(Move),
     /// A stack was landed.
     Land(LandRecord),
+    /// The disk failed. After a breaking fault nothing is stored.
+    Fault { breaking: bool },
 }
 
 /// An entry: the number of the seat that made it, 0 where it was recovered, and what it says.

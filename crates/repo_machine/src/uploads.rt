@@ -1,24 +1,28 @@
 //! Uploads of changesets.
-ghost use Rattle.std.specs.Prelude.{◌≡◌, ◌<◌, ◌^◌, true, false, None, length, OnOk, IfOk, IfErr};
-ghost use Rattle.std.specs.List.{AllByRecursion};
+ghost use Rattle.std.specs.Prelude.{◌≡◌, ℕ, List, true, false, Ok, option_map, IsTrue, OnOk, IfOk, IfErr};
 ghost use Rattle.std.specs.HashMap.{get};
-ghost use Rattle.changeset_model.specs.Changeset as model;
-ghost use Rattle.history_model.specs.History as history;
-ghost use Rattle.history_model.specs.History.{known, is_known};
-ghost use Rattle.reply_model.specs.Reply.{PutChangeset};
+ghost use Rattle.byte_fields.specs.Bytes.{are_bytes};
+ghost use Rattle.changeset_model.specs.Changeset.{id_of, spelling};
+ghost use Rattle.changeset_model.specs.Decoding.{decoded};
+ghost use Rattle.history_model.specs.History.{is_known};
+ghost use Rattle.reply_model.specs.Reply.{PutChangeset, ChangesetPut, judge};
 ghost use Rattle.reply_model.specs.After.{Asks, Replies};
 ghost use Rattle.reply_model.specs.Legal.{IsLegal};
 ghost use Rattle.bonsai.specs.View.{edit_view, edits_view};
-ghost use Rattle.repo_machine.specs.Answering.{changeset_answer};
-ghost use Rattle.repo_machine.specs.Checking.{Checks, parents_refusal, edit_refusal, contents_refusal, collision_refusal, IsFound, IsOnce};
-ghost use Rattle.repo_machine.specs.Entering.{CanMake, Enters};
+ghost use Rattle.repo_calls.specs.Calls.{changeset_answer};
+ghost use Rattle.repo_machine.specs.Checking.{Checks, parents_refusal, edit_refusal, contents_refusal};
+ghost use Rattle.repo_machine.specs.Entering.{Judges};
+ghost use Rattle.repo_machine.specs.Faults.{fault_refusal};
+ghost use Rattle.repo_machine.specs.Landings.{IsRefusal};
 
+use crate::judged::Judged;
 use crate::machine::Machine;
-use crate::records::{Entry, Record};
-use crate::refusal::Refusal;
-use bonsai::{Change, Changeset, Commit, Edit, encode};
+use crate::place::Place;
+use bonsai::{Change, Changeset, Commit, DecodeFault, Edit};
 use changeset_store::ChangesetStore;
 use object_id::Id;
+use repo_calls::{Granted, Refusal};
+use repo_events::Body;
 use std::alloc::Global;
 use std::collections::HashMap;
 
@@ -29,38 +33,77 @@ impl Machine {
         ensures legal { IsLegal self.new.header self.new.history }
         ensures header { self.new.header ≡ self.old.header }
     {
-        let changesets = &self.changesets;
-        let commit = Commit::decode(alloc, bytes)?;
-        check_parents(changesets, commit.changeset())?;
-        check_contents(&self.lengths, alloc, commit.changeset().edits())?;
-        let id = commit.id();
-        if is_known_as(changesets, alloc, &id, bytes)? {
-            return Ok(id);
+        let judged = self.judge_changeset(alloc, who, bytes)?;
+        match self.admit(judged) {
+            Granted::Changeset(id) => Ok(id),
+            _ => unreachable!(),
         }
-        self.enter_change(who, commit)?;
-        Ok(id)
     }
 
-    // Enters a changeset that isn't known.
-    fn enter_change(&mut self, who: u64, commit: Commit) -> Result<(), Refusal>
-        requires short { length (model.spelling commit) < 2 ^ 63 }
-        requires new { is_known (known self.old.history) (model.id_of commit) ≡ false }
-        requires parents { AllByRecursion (λ p. is_known (known self.old.history) p ≡ true) commit.parents }
-        requires made { CanMake self.old.header self.old.history (history.Change commit) }
-        ensures reply { Enters self.old.header self.old.history who (history.Change commit) result self.new.history }
-        ensures legal { IsLegal self.new.header self.new.history }
+    /// Judges the changeset that the seat `who` asks to store, and makes room for it and for one fault after it.
+    pub fn judge_changeset(
+        &mut self,
+        alloc: Global,
+        who: u64,
+        bytes: &[u8],
+    ) -> Result<Judged, Refusal>
+        ensures ok { IfOk result (Judges self.old.header self.old.history self.new.room who (PutChangeset bytes.now)) }
+        ensures granted { IfOk result (λ judged. (x : List ℕ) × (judged.granted ≡ ChangesetPut x)) }
+        ensures err { IfErr result (IsRefusal (judge self.old.header self.old.history (PutChangeset bytes.now))) }
         ensures header { self.new.header ≡ self.old.header }
+        ensures history { self.new.history ≡ self.old.history }
+        ensures legal { IsLegal self.old.header self.old.history }
     {
-        let size = self.size_with(commit.encoded_length() as u64)?;
-        self.entries.try_reserve(1)?;
-        self.changesets.reserve(1)?;
-        let number = self.changesets.add(commit);
-        self.entries.push_reserved(Entry {
-            who,
-            record: Record::Change { number },
-        });
-        self.size = size;
-        Ok(())
+        self.check_up()?;
+        let commit = match Commit::decode(alloc, bytes) {
+            Ok(commit) => commit,
+            Err(fault) => return Err(refusal_of(fault)),
+        };
+        self.judge_commit(alloc, who, commit)
+    }
+
+    /// Judges a changeset that was decoded, as in a payload.
+    pub fn judge_commit(
+        &mut self,
+        alloc: Global,
+        who: u64,
+        commit: Commit,
+    ) -> Result<Judged, Refusal>
+        requires decoded { decoded (spelling commit) ≡ Ok commit }
+        requires bytes { IsTrue (are_bytes (spelling commit)) }
+        ensures ok { IfOk result (Judges self.old.header self.old.history self.new.room who (PutChangeset (spelling commit))) }
+        ensures granted { IfOk result (λ judged. judged.granted ≡ ChangesetPut (id_of commit)) }
+        ensures err { IfErr result (IsRefusal (judge self.old.header self.old.history (PutChangeset (spelling commit)))) }
+        ensures header { self.new.header ≡ self.old.header }
+        ensures history { self.new.history ≡ self.old.history }
+        ensures legal { IsLegal self.old.header self.old.history }
+    {
+        self.check_up()?;
+        check_parents(&self.changesets, commit.changeset())?;
+        check_contents(&self.contents, alloc, commit.changeset().edits())?;
+        let id = commit.id();
+        if self.changesets.is_other(&commit) {
+            return Err(Refusal::Collision { id });
+        }
+        let granted = Granted::Changeset(id);
+        if self.changesets.is_known(&id) {
+            return Ok(Judged::unchanged(alloc, who, granted));
+        }
+        self.prepare(alloc, who, granted, Body::Change(commit), &[])
+    }
+}
+
+// What is wrong with an upload's bytes.
+fn refusal_of(fault: DecodeFault) -> Refusal
+    ensures { result ≡ fault_refusal fault }
+{
+    match fault {
+        DecodeFault::TooLong { length } => Refusal::TooLong {
+            length: length as u64,
+        },
+        DecodeFault::BadEncoding { at } => Refusal::BadEncoding { at: at as u64 },
+        DecodeFault::SelfConflict { short, long } => Refusal::SelfConflict { short, long },
+        DecodeFault::Memory => Refusal::Memory,
     }
 }
 
@@ -76,8 +119,8 @@ fn check_parents(changesets: &ChangesetStore, changeset: &Changeset) -> Result<(
 }
 
 fn check_parent(changesets: &ChangesetStore, parent: &Id) -> Result<(), Refusal>
-    ensures known { OnOk result (is_known changesets.now.known parent.now.0 ≡ true) }
-    ensures unknown { IfErr result (λ e. (e ≡ Refusal.NoParent parent.now) × (is_known changesets.now.known parent.now.0 ≡ false)) }
+    ensures known { OnOk result (is_known changesets.now.known parent.now ≡ true) }
+    ensures unknown { IfErr result (λ e. (e ≡ Refusal.NoParent parent.now) × (is_known changesets.now.known parent.now ≡ false)) }
 {
     if changesets.is_known(parent) {
         Ok(())
@@ -87,17 +130,21 @@ fn check_parent(changesets: &ChangesetStore, parent: &Id) -> Result<(), Refusal>
 }
 
 // Refuses contents that aren't stored, and contents of another length.
-fn check_contents(lengths: &HashMap<Id, u64>, alloc: Global, edits: &[Edit]) -> Result<(), Refusal>
-    ensures { Checks result (contents_refusal (λ x. get ⟦<Id as PartialEq>⟧.eq lengths.now (record { 0 = x })) (edits_view edits.now)) }
+fn check_contents(
+    contents: &HashMap<Id, Place>,
+    alloc: Global,
+    edits: &[Edit],
+) -> Result<(), Refusal>
+    ensures { Checks result (contents_refusal (λ x. option_map (λ place. place.length) (get ⟦<Id as PartialEq>⟧.eq contents.now x)) (edits_view edits.now)) }
 {
     'edits: for edit in edits {
-        check_edit(lengths, alloc, edit)?;
+        check_edit(contents, alloc, edit)?;
     }
     Ok(())
 }
 
-fn check_edit(lengths: &HashMap<Id, u64>, alloc: Global, edit: &Edit) -> Result<(), Refusal>
-    ensures { Checks result (edit_refusal (λ x. get ⟦<Id as PartialEq>⟧.eq lengths.now (record { 0 = x })) (edit_view edit.now)) }
+fn check_edit(contents: &HashMap<Id, Place>, alloc: Global, edit: &Edit) -> Result<(), Refusal>
+    ensures { Checks result (edit_refusal (λ x. option_map (λ place. place.length) (get ⟦<Id as PartialEq>⟧.eq contents.now x)) (edit_view edit.now)) }
 {
     let Change::Set {
         content,
@@ -107,37 +154,16 @@ fn check_edit(lengths: &HashMap<Id, u64>, alloc: Global, edit: &Edit) -> Result<
     else {
         return Ok(());
     };
-    match lengths.get(content) {
-        Some(found) if *found == *size => Ok(()),
+    match contents.get(content) {
+        Some(found) if found.length == *size => Ok(()),
         Some(found) => Err(Refusal::WrongSize {
             path: edit.path.copy(alloc)?,
             wanted: *size,
-            found: *found,
+            found: found.length,
         }),
         None => Err(Refusal::NoContent {
             path: edit.path.copy(alloc)?,
             id: *content,
         }),
     }
-}
-
-// Whether a changeset of this spelling is known. Refuses a spelling whose id is that of another one.
-pub(crate) fn is_known_as(
-    changesets: &ChangesetStore,
-    alloc: Global,
-    id: &Id,
-    spelling: &[u8],
-) -> Result<bool, Refusal>
-    requires { IsOnce changesets.now.known }
-    ensures ok { IfOk result (λ found. (found ≡ is_known changesets.now.known id.now.0) × (collision_refusal changesets.now.known id.now.0 spelling.now ≡ None)) }
-    ensures err { IfErr result (λ e. IsFound e (collision_refusal changesets.now.known id.now.0 spelling.now)) }
-{
-    let Some(known) = changesets.get(id) else {
-        return Ok(false);
-    };
-    let bytes = encode(alloc, known.changeset())?;
-    if bytes.as_slice() != spelling {
-        return Err(Refusal::Collision { id: *id });
-    }
-    Ok(true)
 }

@@ -10,20 +10,23 @@ use std::alloc::{AllocError, Global};
 use std::cmp::Ordering;
 use std::fmt;
 use std::marker::Model;
+use thiserror::Error;
 
 /// The most bytes of a name.
-const LONGEST_NAME: usize = 128;
+pub const LONGEST_NAME: usize = 128;
 
 /// Why a text gave no name.
-#[derive(Clone, Copy, Debug, PartialEq, Eq)]
+#[derive(Clone, Copy, Debug, PartialEq, Eq, Error)]
 pub enum NameFault {
     /// The text is no name.
+    #[error("no name: wrong at byte {at}")]
     BadName {
         /// The place of the first byte among the first 128 that isn't allowed, else 128 where the text is longer, and 0
         /// where it is empty.
         at: usize,
     },
     /// Memory ran out.
+    #[error("memory ran out")]
     Memory,
 }
 
@@ -148,6 +151,12 @@ impl Ord for BookName {
 }
 
 impl fmt::Debug for BookName {
+    fn fmt<W: fmt::Write>(&self, f: &mut fmt::Formatter<W>) -> fmt::Result {
+        f.write_str(self.as_str())
+    }
+}
+
+impl fmt::Display for BookName {
     fn fmt<W: fmt::Write>(&self, f: &mut fmt::Formatter<W>) -> fmt::Result {
         f.write_str(self.as_str())
     }

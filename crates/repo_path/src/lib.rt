@@ -8,10 +8,8 @@ pub mod path;
 pub mod path_fault;
 mod path_text;
 
-pub use book_name::{BookName, NameFault};
+pub use book_name::{BookName, LONGEST_NAME, NameFault};
 pub use element::is_element;
 pub use path::RepoPath;
 pub use path_fault::PathFault;
-
-#[cfg(test)]
-mod tests;
+pub use path_text::LONGEST_PATH;

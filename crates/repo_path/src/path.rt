@@ -136,3 +136,9 @@ impl fmt::Debug for RepoPath {
         f.write_str(self.as_str())
     }
 }
+
+impl fmt::Display for RepoPath {
+    fn fmt<W: fmt::Write>(&self, f: &mut fmt::Formatter<W>) -> fmt::Result {
+        f.write_str(self.as_str())
+    }
+}

@@ -6,7 +6,7 @@ use crate::element::is_element;
 use std::cmp::Ordering;
 
 /// The most bytes of a path.
-pub(crate) const LONGEST_PATH: usize = 4096;
+pub const LONGEST_PATH: usize = 4096;
 
 /// Where a text first breaks the rules of a path.
 pub(crate) fn path_fault_of(text: &[u8]) -> Option<usize>

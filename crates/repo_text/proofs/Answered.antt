@@ -2,12 +2,13 @@
 use Rattle.std.proofs.Common.{◌≡◌, refl}
 use Rattle.reply_model.specs.Reply.{Ask}
 use Rattle.session_model.specs.Asking.{change_response}
-use Rattle.repo_machine.specs.declared.refusal.Refusal.{Refusal}
-use Rattle.repo_machine.specs.declared.refusal.Refusal.TheVariants as refusals
-use Rattle.repo_machine.specs.Answering.{refused}
+use Rattle.repo_calls.specs.declared.refusal.Refusal.{Refusal}
+use Rattle.repo_calls.specs.declared.refusal.Refusal.TheVariants as refusals
+use Rattle.repo_calls.specs.Calls.{refused}
 use Rattle.repo_text.specs.Refusing.{response_to}
 
 pub change_response-refused : (ask : Ask) (r : Refusal) → change_response ask (refused r) ≡ response_to r
+change_response-refused ask refusals.Down = refl
 change_response-refused ask (refusals.TooLong length) = refl
 change_response-refused ask (refusals.BadEncoding at) = refl
 change_response-refused ask (refusals.SelfConflict short long) = refl

@@ -5,11 +5,11 @@ use Rattle.std.proofs.lemmas.List.{length-map, length-take-le, map-append, take_
 use Rattle.serde_json.specs.Data.{array}
 use Rattle.serde_json.specs.View.{view, items_view}
 use Rattle.serde_json.specs.declared.value.Value.{Value, Array, the_lemmas}
-use Rattle.object_id.specs.declared.id.Id.{Id}
+use Rattle.byte_fields.specs.Bytes.{Id}
 use Rattle.reply_model.specs.Log.{LogLine}
 use Rattle.session_model.specs.Bodies.{id_text, list_text, line_text, line_texts}
-use Rattle.repo_machine.specs.declared.log.LogEntry.{LogEntry}
-use Rattle.repo_machine.specs.Answering.{ids_seen, line_seen, lines_seen}
+use Rattle.repo_calls.specs.declared.log.LogEntry.{LogEntry}
+use Rattle.repo_calls.specs.Calls.{line_seen, lines_seen}
 use Rattle.repo_text.specs.Spelling.{Spells, SpellAll}
 use Rattle.repo_text.proofs.Spelled.{list_spelled, one_more, same_spelled}
 
@@ -23,9 +23,9 @@ pub values_more : (vs ws : List Value) (v : Value) (ts us : List (List ℕ)) (t 
 values_more vs ws v ts us t e f h spelled =
     subst (λ x. SpellAll (map view x) us) (sym e) (subst (λ x. SpellAll x us) (sym (map-append view vs (v ∷ []))) (subst (λ x. SpellAll (map view vs ++ view v ∷ []) x) (sym f) (one_more (map view vs) ts (view v) t h spelled)))
 
-pub id_texts_more : (ids : List Id) (i : ℕ) (d : Id) → i < length ids → map id_text (ids_seen (take (i + 1) ids)) ≡ map id_text (ids_seen (take i ids)) ++ id_text (get_or ids i d).0 ∷ []
+pub id_texts_more : (ids : List Id) (i : ℕ) (d : Id) → i < length ids → map id_text (take (i + 1) ids) ≡ map id_text (take i ids) ++ id_text (get_or ids i d) ∷ []
 id_texts_more ids i d inside =
-    ap (λ x. map id_text (ids_seen x)) (take_more ids i d inside) ∙ ap (map id_text) (map-append (λ id. id.0) (take i ids) (get_or ids i d ∷ [])) ∙ map-append id_text (ids_seen (take i ids)) ((get_or ids i d).0 ∷ [])
+    ap (map id_text) (take_more ids i d inside) ∙ map-append id_text (take i ids) (get_or ids i d ∷ [])
 
 line_texts-push : (n m : ℕ) (lines : List LogLine) (line : LogLine) → m ≡ n + length lines → line_texts n (lines ++ line ∷ []) ≡ line_texts n lines ++ line_text m line ∷ []
 line_texts-push n m [] line e =

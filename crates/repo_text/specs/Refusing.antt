@@ -1,24 +1,24 @@
--- The responses to refusals of the machine.
+-- The responses to changes that are refused.
 --     response_to refusal      the response, whatever was asked for
 use Rattle.reply_model.specs.Reply as reply
 use Rattle.session_model.specs.Responses.{Response}
 use Rattle.session_model.specs.Bodies.{memory}
 use Rattle.session_model.specs.Asking.{refused}
-use Rattle.repo_machine.specs.declared.refusal.Refusal.{Refusal}
-use Rattle.repo_machine.specs.declared.refusal.Refusal.TheVariants as refusals
-use Rattle.repo_machine.specs.Answering.{id_seen}
+use Rattle.repo_calls.specs.declared.refusal.Refusal.{Refusal}
+use Rattle.repo_calls.specs.declared.refusal.Refusal.TheVariants as refusals
 
 abbrev pub response_to : Refusal → Response
+response_to refusals.Down = refused reply.Down
 response_to (refusals.TooLong length) = refused (reply.TooLong length)
 response_to (refusals.BadEncoding at) = refused (reply.BadEncoding at)
 response_to (refusals.SelfConflict short long) = refused (reply.SelfConflict short long)
 response_to refusals.Merge = refused reply.Merge
-response_to (refusals.NoParent id) = refused (reply.NoParent id.0)
-response_to (refusals.NoContent path id) = refused (reply.NoContent path id.0)
+response_to (refusals.NoParent id) = refused (reply.NoParent id)
+response_to (refusals.NoContent path id) = refused (reply.NoContent path id)
 response_to (refusals.WrongSize path wanted found) = refused (reply.WrongSize path wanted found)
-response_to (refusals.Collision id) = refused (reply.Collision id.0)
-response_to (refusals.NoChangeset id) = refused (reply.NoChangeset id.0)
-response_to (refusals.Moved found) = refused (reply.Moved (id_seen found))
+response_to (refusals.Collision id) = refused (reply.Collision id)
+response_to (refusals.NoChangeset id) = refused (reply.NoChangeset id)
+response_to (refusals.Moved found) = refused (reply.Moved found)
 response_to refusals.NoBookmark = refused reply.NoBookmark
 response_to refusals.NoRoot = refused reply.NoRoot
 response_to (refusals.TooFarBehind distance) = refused (reply.TooFarBehind distance)

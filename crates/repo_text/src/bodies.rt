@@ -1,7 +1,7 @@
 //! The bodies of successful changes and of codes, written into room that was reserved. They take no memory.
-ghost use Rattle.std.specs.Prelude.{◌≡◌, ◌+◌, ◌*◌, ◌≤◌, ◌++◌, [], length, vec_len, vec_capacity, codes, flat_map};
+ghost use Rattle.std.specs.Prelude.{◌≡◌, ◌+◌, ◌*◌, ◌≤◌, ◌++◌, [], length, vec_len, vec_capacity, codes, flat_map, map, ◌∷◌};
+ghost use Rattle.std.specs.List.{join_with_byte};
 ghost use Rattle.session_model.specs.Bodies.{coded, content_body, changeset_body, bookmark_body, landed_body, id_text, ids_text, maybe_id_text, name_text};
-ghost use Rattle.repo_machine.specs.Answering.{id_seen, ids_seen};
 
 use crate::response::put;
 use itoa::Buffer;
@@ -16,7 +16,7 @@ pub const MOST_LANDED: usize = 100;
 
 fn put_id(out: &mut Vec<u8>, id: &Id)
     requires { vec_len out.old + 66 ≤ vec_capacity out.old }
-    ensures items { out.new.items ≡ out.old.items ++ id_text id.now.0 }
+    ensures items { out.new.items ≡ out.old.items ++ id_text id.now }
     ensures short { vec_len out.new ≤ vec_len out.old + 66 }
     ensures room { vec_capacity out.old ≤ vec_capacity out.new }
 {
@@ -29,7 +29,7 @@ fn put_id(out: &mut Vec<u8>, id: &Id)
 
 fn put_maybe_id(out: &mut Vec<u8>, id: Option<Id>)
     requires { vec_len out.old + 66 ≤ vec_capacity out.old }
-    ensures items { out.new.items ≡ out.old.items ++ maybe_id_text (id_seen id) }
+    ensures items { out.new.items ≡ out.old.items ++ maybe_id_text id }
     ensures short { vec_len out.new ≤ vec_len out.old + 66 }
     ensures room { vec_capacity out.old ≤ vec_capacity out.new }
 {
@@ -42,7 +42,7 @@ fn put_maybe_id(out: &mut Vec<u8>, id: Option<Id>)
 // Each id behind a comma.
 fn put_later_ids(out: &mut Vec<u8>, ids: &[Id])
     requires { vec_len out.old + 67 * length ids.now ≤ vec_capacity out.old }
-    ensures items { out.new.items ≡ out.old.items ++ flat_map (λ x. codes "," ++ id_text x) (ids_seen ids.now) }
+    ensures items { out.new.items ≡ out.old.items ++ flat_map (λ x. codes "," ++ id_text x) ids.now }
     ensures short { vec_len out.new ≤ vec_len out.old + 67 * length ids.now }
     ensures room { vec_capacity out.old ≤ vec_capacity out.new }
 {
@@ -52,16 +52,27 @@ fn put_later_ids(out: &mut Vec<u8>, ids: &[Id])
     }
 }
 
+// An id, and others behind it.
+fn put_joined_ids(out: &mut Vec<u8>, first: &Id, later: &[Id])
+    requires { vec_len out.old + 67 * (length later.now + 1) ≤ vec_capacity out.old }
+    ensures items { out.new.items ≡ out.old.items ++ join_with_byte 0x2C (map id_text (first.now ∷ later.now)) }
+    ensures short { vec_len out.new ≤ vec_len out.old + 67 * (length later.now + 1) }
+    ensures room { vec_capacity out.old ≤ vec_capacity out.new }
+{
+    put_id(out, first);
+    put_later_ids(out, later);
+}
+
 fn put_ids(out: &mut Vec<u8>, ids: &[Id])
     requires { vec_len out.old + 67 * length ids.now + 2 ≤ vec_capacity out.old }
-    ensures items { out.new.items ≡ out.old.items ++ ids_text (ids_seen ids.now) }
+    ensures items { out.new.items ≡ out.old.items ++ ids_text ids.now }
     ensures short { vec_len out.new ≤ vec_len out.old + 67 * length ids.now + 2 }
     ensures room { vec_capacity out.old ≤ vec_capacity out.new }
 {
     put(out, b"[");
-    if let [first, later @ ..] = ids {
-        put_id(out, first);
-        put_later_ids(out, later);
+    match ids.split_first() {
+        Some((first, later)) => put_joined_ids(out, first, later),
+        None => {}
     }
     put(out, b"]");
 }
@@ -81,7 +92,7 @@ pub fn put_code_body(out: &mut Vec<u8>, code: &str)
 /// Adds the body that answers a content which was stored, at most 192 bytes.
 pub fn put_content_body(out: &mut Vec<u8>, id: &Id, size: usize)
     requires { vec_len out.old + 192 ≤ vec_capacity out.old }
-    ensures items { out.new.items ≡ out.old.items ++ content_body id.now.0 size }
+    ensures items { out.new.items ≡ out.old.items ++ content_body id.now size }
     ensures short { vec_len out.new ≤ vec_len out.old + 192 }
     ensures room { vec_capacity out.old ≤ vec_capacity out.new }
 {
@@ -96,7 +107,7 @@ pub fn put_content_body(out: &mut Vec<u8>, id: &Id, size: usize)
 /// Adds the body that answers a changeset which was stored, at most 192 bytes.
 pub fn put_changeset_body(out: &mut Vec<u8>, id: &Id)
     requires { vec_len out.old + 192 ≤ vec_capacity out.old }
-    ensures items { out.new.items ≡ out.old.items ++ changeset_body id.now.0 }
+    ensures items { out.new.items ≡ out.old.items ++ changeset_body id.now }
     ensures short { vec_len out.new ≤ vec_len out.old + 192 }
     ensures room { vec_capacity out.old ≤ vec_capacity out.new }
 {
@@ -108,7 +119,7 @@ pub fn put_changeset_body(out: &mut Vec<u8>, id: &Id)
 /// Adds the body that tells where a bookmark stands, `None` where it is deleted: at most 256 bytes.
 pub fn put_bookmark_body(out: &mut Vec<u8>, head: Option<Id>, name: &BookName)
     requires { vec_len out.old + 256 ≤ vec_capacity out.old }
-    ensures items { out.new.items ≡ out.old.items ++ bookmark_body (id_seen head) name.now }
+    ensures items { out.new.items ≡ out.old.items ++ bookmark_body head name.now }
     ensures short { vec_len out.new ≤ vec_len out.old + 256 }
     ensures room { vec_capacity out.old ≤ vec_capacity out.new }
 {
@@ -124,7 +135,7 @@ pub fn put_bookmark_body(out: &mut Vec<u8>, head: Option<Id>, name: &BookName)
 pub fn put_landed_body(out: &mut Vec<u8>, old: &Id, ids: &[Id])
     requires few { length ids.now ≤ MOST_LANDED }
     requires room { vec_len out.old + MOST_CHANGE_BODY ≤ vec_capacity out.old }
-    ensures items { out.new.items ≡ out.old.items ++ landed_body old.now.0 (ids_seen ids.now) }
+    ensures items { out.new.items ≡ out.old.items ++ landed_body old.now ids.now }
     ensures short { vec_len out.new ≤ vec_len out.old + MOST_CHANGE_BODY }
     ensures room { vec_capacity out.old ≤ vec_capacity out.new }
 {

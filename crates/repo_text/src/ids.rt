@@ -3,7 +3,6 @@ ghost use Rattle.std.specs.Prelude.{◌≡◌, IfOk, IfSome, string_bytes};
 ghost use Rattle.hex.specs.Hex.{encode_lower};
 ghost use Rattle.serde_json.specs.View.{view};
 ghost use Rattle.session_model.specs.Bodies.{ids_text};
-ghost use Rattle.repo_machine.specs.Answering.{id_seen, ids_seen};
 ghost use Rattle.repo_text.specs.Plain.{IsPlain};
 ghost use Rattle.repo_text.specs.Spelling.{Spells, id_data, maybe_id_data};
 
@@ -20,22 +19,22 @@ fn hex_text(alloc: Global, bytes: &[u8]) -> Result<String, AllocError>
 }
 
 pub(crate) fn hex_of(alloc: Global, id: &Id) -> Result<String, AllocError>
-    ensures text { IfOk result (λ text. string_bytes text ≡ encode_lower id.now.0) }
-    ensures plain { IsPlain (encode_lower id.now.0) }
+    ensures text { IfOk result (λ text. string_bytes text ≡ encode_lower id.now) }
+    ensures plain { IsPlain (encode_lower id.now) }
 {
-    hex_text(alloc, id.0.as_slice())
+    hex_text(alloc, id.as_bytes().as_slice())
 }
 
 pub(crate) fn id_value(alloc: Global, id: &Id) -> Result<Value, AllocError>
-    ensures value { IfOk result (λ v. view v ≡ id_data id.now.0) }
-    ensures plain { IsPlain (encode_lower id.now.0) }
+    ensures value { IfOk result (λ v. view v ≡ id_data id.now) }
+    ensures plain { IsPlain (encode_lower id.now) }
 {
     Ok(Value::String(hex_of(alloc, id)?))
 }
 
 pub(crate) fn maybe_id_value(alloc: Global, id: Option<Id>) -> Result<Value, AllocError>
-    ensures value { IfOk result (λ v. view v ≡ maybe_id_data (id_seen id)) }
-    ensures plain { IfSome (id_seen id) (λ x. IsPlain (encode_lower x)) }
+    ensures value { IfOk result (λ v. view v ≡ maybe_id_data id) }
+    ensures plain { IfSome id (λ x. IsPlain (encode_lower x)) }
 {
     match id {
         None => Ok(Value::Null),
@@ -44,7 +43,7 @@ pub(crate) fn maybe_id_value(alloc: Global, id: Option<Id>) -> Result<Value, All
 }
 
 pub(crate) fn ids_value(alloc: Global, ids: &[Id]) -> Result<Value, AllocError>
-    ensures { IfOk result (λ v. Spells (view v) (ids_text (ids_seen ids.now))) }
+    ensures { IfOk result (λ v. Spells (view v) (ids_text ids.now)) }
 {
     let mut values = Vec::with_capacity(alloc, ids.len())?;
     for id in ids {

@@ -12,6 +12,3 @@ mod values;
 pub use bodies::{MOST_CHANGE_BODY, MOST_LANDED};
 pub use refused::Refused;
 pub use response::{Media, Response};
-
-#[cfg(test)]
-mod tests;

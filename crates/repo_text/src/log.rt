@@ -5,13 +5,13 @@ ghost use Rattle.serde_json.specs.Data.{string, number as number_data, unsigned}
 ghost use Rattle.serde_json.specs.View.{view};
 ghost use Rattle.session_model.specs.Bodies as bodies;
 ghost use Rattle.session_model.specs.Bodies.{line_text, line_texts, list_text};
-ghost use Rattle.repo_machine.specs.Answering.{line_seen, lines_seen};
+ghost use Rattle.repo_calls.specs.Calls.{line_seen, lines_seen};
 ghost use Rattle.repo_text.specs.Plain.{IsPlain};
 ghost use Rattle.repo_text.specs.Spelling.{Spells, coded_data, object_data, id_data};
 
 use crate::ids::{hex_of, id_value, ids_value, maybe_id_value};
 use object_id::Id;
-use repo_machine::{LogEntry, LogPage};
+use repo_calls::{LogEntry, LogPage};
 use serde_json::{Value, json};
 use std::alloc::{AllocError, Global};
 
@@ -68,16 +68,16 @@ fn line_value(alloc: Global, number: u64, entry: &LogEntry) -> Result<Value, All
 }
 
 fn content_value(alloc: Global, number: u64, id: &Id, size: u64) -> Result<Value, AllocError>
-    ensures plain { IsPlain (encode_lower id.now.0) }
-    ensures value { IfOk result (λ v. view v ≡ object_data ((codes "id", id_data id.now.0) ∷ (codes "kind", string (codes "content")) ∷ (codes "number", number_data (unsigned number)) ∷ (codes "size", number_data (unsigned size)) ∷ [])) }
+    ensures plain { IsPlain (encode_lower id.now) }
+    ensures value { IfOk result (λ v. view v ≡ object_data ((codes "id", id_data id.now) ∷ (codes "kind", string (codes "content")) ∷ (codes "number", number_data (unsigned number)) ∷ (codes "size", number_data (unsigned size)) ∷ [])) }
 {
     let hex = hex_of(alloc, id)?;
     json!(in alloc; {"id": hex, "kind": "content", "number": number, "size": size})
 }
 
 fn changeset_value(alloc: Global, number: u64, id: &Id) -> Result<Value, AllocError>
-    ensures plain { IsPlain (encode_lower id.now.0) }
-    ensures value { IfOk result (λ v. view v ≡ object_data ((codes "id", id_data id.now.0) ∷ (codes "kind", string (codes "changeset")) ∷ (codes "number", number_data (unsigned number)) ∷ [])) }
+    ensures plain { IsPlain (encode_lower id.now) }
+    ensures value { IfOk result (λ v. view v ≡ object_data ((codes "id", id_data id.now) ∷ (codes "kind", string (codes "changeset")) ∷ (codes "number", number_data (unsigned number)) ∷ [])) }
 {
     let hex = hex_of(alloc, id)?;
     json!(in alloc; {"id": hex, "kind": "changeset", "number": number})

@@ -15,7 +15,7 @@ use crate::values::{
     missing_content_value, moved_value, place_value, self_conflict_value, wrong_size_value,
 };
 use object_id::Id;
-use repo_machine::Refusal;
+use repo_calls::Refusal;
 use serde_json::Value;
 use session_model::Status;
 use std::alloc::{AllocError, Global};
@@ -46,7 +46,7 @@ pub fn bad_id(alloc: Global, at: usize) -> Result<Refused, AllocError>
 
 /// The response to a read of a changeset that isn't stored.
 pub fn no_changeset(alloc: Global, id: &Id) -> Result<Refused, AllocError>
-    ensures { IfOk result (λ r. response_of r ≡ absent (AbsentChangeset id.now.0)) }
+    ensures { IfOk result (λ r. response_of r ≡ absent (AbsentChangeset id.now)) }
 {
     let value = coded_id_value(alloc, "no-changeset", id)?;
     with_body(alloc, Status::NotFound, &value)
@@ -80,6 +80,7 @@ fn status_of(refusal: &Refusal) -> Status
         | Refusal::NoContent { .. }
         | Refusal::WrongSize { .. } => Status::UnprocessableContent,
         Refusal::Full { .. } => Status::InsufficientStorage,
+        Refusal::Down => Status::InternalServerError,
         Refusal::Memory => Status::ServiceUnavailable,
     }
 }
@@ -110,6 +111,7 @@ fn value_of(alloc: Global, refusal: &Refusal) -> Result<Value, AllocError>
         Refusal::Clash { left, right } => clash_value(alloc, left, right),
         Refusal::TooLarge { length } => length_value(alloc, "too-large", *length),
         Refusal::Full { size, length } => full_value(alloc, *size, *length),
+        Refusal::Down => code_value(alloc, "down"),
         Refusal::Memory => Err(AllocError),
     }
 }

@@ -4,7 +4,6 @@ ghost use Rattle.changeset_model.specs.Path.{text_of};
 ghost use Rattle.hex.specs.Hex.{encode_lower};
 ghost use Rattle.serde_json.specs.Data.{string, number, unsigned};
 ghost use Rattle.serde_json.specs.View.{view};
-ghost use Rattle.repo_machine.specs.Answering.{id_seen};
 ghost use Rattle.repo_text.specs.Plain.{IsPlain};
 ghost use Rattle.repo_text.specs.Spelling.{coded_data, id_data, maybe_id_data};
 
@@ -33,8 +32,8 @@ pub(crate) fn length_value(alloc: Global, code: &str, length: u64) -> Result<Val
 }
 
 pub(crate) fn coded_id_value(alloc: Global, code: &str, id: &Id) -> Result<Value, AllocError>
-    ensures plain { IsPlain (encode_lower id.now.0) }
-    ensures value { IfOk result (λ v. view v ≡ coded_data code.now ((codes "id", id_data id.now.0) ∷ [])) }
+    ensures plain { IsPlain (encode_lower id.now) }
+    ensures value { IfOk result (λ v. view v ≡ coded_data code.now ((codes "id", id_data id.now) ∷ [])) }
 {
     let hex = hex_of(alloc, id)?;
     json!(in alloc; {"code": code, "id": hex})
@@ -55,8 +54,8 @@ pub(crate) fn missing_content_value(
     path: &RepoPath,
     id: &Id,
 ) -> Result<Value, AllocError>
-    ensures plain { IsPlain (encode_lower id.now.0) }
-    ensures value { IfOk result (λ v. view v ≡ coded_data (codes "missing-content") ((codes "id", id_data id.now.0) ∷ (codes "path", string (text_of path.now)) ∷ [])) }
+    ensures plain { IsPlain (encode_lower id.now) }
+    ensures value { IfOk result (λ v. view v ≡ coded_data (codes "missing-content") ((codes "id", id_data id.now) ∷ (codes "path", string (text_of path.now)) ∷ [])) }
 {
     let hex = hex_of(alloc, id)?;
     json!(in alloc; {"code": "missing-content", "id": hex, "path": path.as_str()})
@@ -74,8 +73,8 @@ pub(crate) fn wrong_size_value(
 }
 
 pub(crate) fn moved_value(alloc: Global, found: Option<Id>) -> Result<Value, AllocError>
-    ensures plain { IfSome (id_seen found) (λ x. IsPlain (encode_lower x)) }
-    ensures value { IfOk result (λ v. view v ≡ coded_data (codes "moved") ((codes "found", maybe_id_data (id_seen found)) ∷ [])) }
+    ensures plain { IfSome found (λ x. IsPlain (encode_lower x)) }
+    ensures value { IfOk result (λ v. view v ≡ coded_data (codes "moved") ((codes "found", maybe_id_data found) ∷ [])) }
 {
     let found = maybe_id_value(alloc, found)?;
     json!(in alloc; {"code": "moved", "found": found})

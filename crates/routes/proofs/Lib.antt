@@ -1,8 +1,8 @@
 pub mod Walks
 pub mod Segments
+pub mod Chains
 pub mod Found
-pub mod Taken
-pub mod Shapes
+pub mod Walked
 pub mod Matching
 pub mod Reading
 pub mod Answering

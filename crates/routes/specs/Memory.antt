@@ -4,16 +4,21 @@
 use Rattle.std.specs.Prelude.{ℕ, ◌==◌, List, IsTrue}
 use Rattle.std.specs.List.{list_any}
 use Rattle.percent_encoding.specs.Percent.{percent_sign}
-use Rattle.session_model.specs.Routes.{Route, ContentsRoute, ChangesetsRoute, ChangesetRoute, HeadRoute, MoveRoute, LandRoute, LogRoute}
+use Rattle.session_model.specs.declared.route_name.RouteName.{RouteName}
+use Rattle.session_model.specs.declared.route_name.RouteName.TheVariants.{Contents, Changesets, Changeset, Head, Move, Land, Log}
+use Rattle.session_model.specs.Routes.{Route, value}
 
 abbrev pub HasEscape : List ℕ → Type 0
 HasEscape raw = IsTrue (list_any (λ b. b == percent_sign) raw)
 
+abbrev pub NeedsMemory : RouteName → (ℕ → List ℕ) → Type 0
+NeedsMemory Contents value = ⊥
+NeedsMemory Changesets value = ⊥
+NeedsMemory Changeset value = HasEscape (value 0)
+NeedsMemory Head value = Unit {0}
+NeedsMemory Move value = Unit {0}
+NeedsMemory Land value = Unit {0}
+NeedsMemory Log value = HasEscape (value 0)
+
 abbrev pub TakesMemory : Route → Type 0
-TakesMemory ContentsRoute = ⊥
-TakesMemory ChangesetsRoute = ⊥
-TakesMemory (ChangesetRoute id) = HasEscape id
-TakesMemory (HeadRoute name) = Unit {0}
-TakesMemory (MoveRoute name from to) = Unit {0}
-TakesMemory (LandRoute name draft) = Unit {0}
-TakesMemory (LogRoute from) = HasEscape from
+TakesMemory route = NeedsMemory route.name (value route)

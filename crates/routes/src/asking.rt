@@ -6,19 +6,19 @@ ghost use Rattle.http_model.specs.Head.{path_of};
 ghost use Rattle.session_model.specs.Methods.{method_text};
 ghost use Rattle.session_model.specs.Routes.{is_target, route_of};
 ghost use Rattle.session_model.specs.Asking.{asked as what_is_asked, by_route};
-ghost use Rattle.routes.specs.Seen.{route_seen};
+ghost use Rattle.routes.specs.Taken.{taken, route_taken, Takes};
 ghost use Rattle.routes.specs.Failed.{Reads};
 ghost use Rattle.routes.specs.Memory.{TakesMemory};
 ghost use Rattle.routes.specs.Asked.{Asks, call_seen};
 
-use crate::failure::Failure;
 use crate::parameters::{id_parameter, maybe_id_parameter, name_parameter, number_parameter};
-use crate::route::Route;
-use crate::router::Routes;
+use crate::route_refusal::RouteRefusal;
+use crate::router::{Routes, part};
 use http_wire::Request;
+use matchit::Params;
 use object_id::Id;
 use repo_path::BookName;
-use session_model::Method;
+use session_model::{Method, RouteName};
 use std::alloc::Global;
 use std::str;
 
@@ -74,26 +74,32 @@ fn has_method(request: &Request, method: Method) -> bool
 }
 
 // What a route asks for, which was asked by its method.
-fn call_from<'a>(alloc: Global, route: Route<'_>, body: &'a [u8]) -> Result<Call<'a>, Failure>
-    ensures call { Reads call_seen result (by_route (route_seen route.entry) body.now) }
-    ensures memory { IsErrOf result Failure.Memory → TakesMemory (route_seen route.entry) }
+fn call_from<'a>(
+    alloc: Global,
+    name: RouteName,
+    params: &Params<'_, '_>,
+    body: &'a [u8],
+) -> Result<Call<'a>, RouteRefusal>
+    requires { Takes name params.now }
+    ensures call { Reads call_seen result (by_route (route_taken name (taken params.now)) body.now) }
+    ensures memory { IsErrOf result RouteRefusal.Memory → TakesMemory (route_taken name (taken params.now)) }
 {
-    Ok(match route {
-        Route::Contents => Call::PutContent(body),
-        Route::Changesets => Call::PutChangeset(body),
-        Route::Changeset { id } => Call::Changeset(id_parameter(alloc, id)?),
-        Route::Head { name } => Call::Head(name_parameter(alloc, name)?),
-        Route::Move { name, from, to } => Call::SetBookmark {
-            name: name_parameter(alloc, name)?,
-            from: maybe_id_parameter(alloc, from)?,
-            to: maybe_id_parameter(alloc, to)?,
+    Ok(match name {
+        RouteName::Contents => Call::PutContent(body),
+        RouteName::Changesets => Call::PutChangeset(body),
+        RouteName::Changeset => Call::Changeset(id_parameter(alloc, part(params, "id"))?),
+        RouteName::Head => Call::Head(name_parameter(alloc, part(params, "name"))?),
+        RouteName::Move => Call::SetBookmark {
+            name: name_parameter(alloc, part(params, "name"))?,
+            from: maybe_id_parameter(alloc, part(params, "from"))?,
+            to: maybe_id_parameter(alloc, part(params, "to"))?,
         },
-        Route::Land { name, draft } => Call::Land {
-            name: name_parameter(alloc, name)?,
-            draft: id_parameter(alloc, draft)?,
+        RouteName::Land => Call::Land {
+            name: name_parameter(alloc, part(params, "name"))?,
+            draft: id_parameter(alloc, part(params, "id"))?,
         },
-        Route::Log { from } => Call::Log {
-            from: number_parameter(alloc, from)?,
+        RouteName::Log => Call::Log {
+            from: number_parameter(alloc, part(params, "from"))?,
         },
     })
 }
@@ -101,20 +107,21 @@ fn call_from<'a>(alloc: Global, route: Route<'_>, body: &'a [u8]) -> Result<Call
 impl Routes {
     /// What the request asks for. Its path has to be a route's before escapes are decoded (RFC 3986), and its method
     /// the route's; the parameters are judged from left to right.
-    pub fn call_of<'a>(&self, alloc: Global, request: &'a Request) -> Result<Call<'a>, Failure>
+    pub fn call_of<'a>(&self, alloc: Global, request: &'a Request) -> Result<Call<'a>, RouteRefusal>
         ensures asks { Asks result (what_is_asked (seen request.now)) }
-        ensures memory { IsErrOf result Failure.Memory → IsSomeAnd (route_of (path_of (seen request.now).target)) TakesMemory }
+        ensures memory { IsErrOf result RouteRefusal.Memory → IsSomeAnd (route_of (path_of (seen request.now).target)) TakesMemory }
     {
         let Some(path) = target(request.path()) else {
-            return Err(Failure::BadTarget);
+            return Err(RouteRefusal::BadTarget);
         };
-        let Some(route) = self.route_of(path) else {
-            return Err(Failure::NoRoute);
+        let Some(found) = self.find(path) else {
+            return Err(RouteRefusal::NoRoute);
         };
-        let method = route.method();
+        let name = *found.value;
+        let method = name.method();
         if !has_method(request, method) {
-            return Err(Failure::Method(method));
+            return Err(RouteRefusal::Method(method));
         }
-        call_from(alloc, route, request.body.as_slice())
+        call_from(alloc, name, &found.params, request.body.as_slice())
     }
 }

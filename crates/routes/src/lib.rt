@@ -2,14 +2,10 @@
 #![tactic(auto)]
 
 mod asking;
-mod failure;
 mod parameters;
-mod route;
+mod route_refusal;
 mod router;
 
 pub use asking::Call;
-pub use failure::Failure;
+pub use route_refusal::RouteRefusal;
 pub use router::Routes;
-
-#[cfg(test)]
-mod tests;

@@ -8,9 +8,8 @@ ghost use Rattle.byte_fields.specs.Bytes.{is_text};
 ghost use Rattle.session_model.specs.Parameters as model;
 ghost use Rattle.routes.specs.Failed.{Reads};
 ghost use Rattle.routes.specs.Memory.{HasEscape};
-ghost use Rattle.routes.specs.Asked.{id_seen, maybe_id_seen};
 
-use crate::failure::Failure;
+use crate::route_refusal::RouteRefusal;
 use object_id::Id;
 use percent_encoding::{DecodeError, percent_decode};
 use repo_path::{BookName, NameFault};
@@ -31,29 +30,29 @@ fn decoded(alloc: Global, raw: &str) -> Result<Option<CowStr<'_>>, AllocError>
 }
 
 // A name of a bookmark, in memory of its own.
-fn name_of(alloc: Global, text: &str) -> Result<BookName, Failure>
+fn name_of(alloc: Global, text: &str) -> Result<BookName, RouteRefusal>
     ensures { Reads (λ name. name) result (model.name_of text.now) }
 {
     match BookName::parse(alloc, text) {
         Ok(name) => Ok(name),
-        Err(NameFault::BadName { at }) => Err(Failure::BadName { at: at as u64 }),
-        Err(NameFault::Memory) => Err(Failure::Memory),
+        Err(NameFault::BadName { at }) => Err(RouteRefusal::BadName { at: at as u64 }),
+        Err(NameFault::Memory) => Err(RouteRefusal::Memory),
     }
 }
 
-fn id_of(text: &str) -> Result<Id, Failure>
-    ensures id { Reads id_seen result (model.id_of text.now) }
-    ensures memory { result ≢ Err Failure.Memory }
+fn id_of(text: &str) -> Result<Id, RouteRefusal>
+    ensures id { Reads (λ id. id) result (model.id_of text.now) }
+    ensures memory { result ≢ Err RouteRefusal.Memory }
 {
     match Id::from_hex(text) {
         Ok(id) => Ok(id),
-        Err(bad) => Err(Failure::BadId { at: bad.at as u64 }),
+        Err(bad) => Err(RouteRefusal::BadId { at: bad.at as u64 }),
     }
 }
 
 // An id, or none.
-fn maybe_id_of(text: &str) -> Result<Option<Id>, Failure>
-    ensures { Reads maybe_id_seen result (model.maybe_id_of text.now) }
+fn maybe_id_of(text: &str) -> Result<Option<Id>, RouteRefusal>
+    ensures { Reads (λ id. id) result (model.maybe_id_of text.now) }
 {
     if text == "none" {
         return Ok(None);
@@ -74,12 +73,12 @@ fn is_number(text: &[u8]) -> bool
 }
 
 // A number of 1 to 19 decimal digits, which fits.
-fn number_of(text: &str) -> Result<u64, Failure>
+fn number_of(text: &str) -> Result<u64, RouteRefusal>
     ensures number { Reads (λ n. n) result (model.number_of text.now) }
-    ensures memory { result ≢ Err Failure.Memory }
+    ensures memory { result ≢ Err RouteRefusal.Memory }
 {
     if !is_number(text.as_bytes()) {
-        return Err(Failure::BadNumber);
+        return Err(RouteRefusal::BadNumber);
     }
     match text.parse() {
         Ok(number) => Ok(number),
@@ -88,43 +87,43 @@ fn number_of(text: &str) -> Result<u64, Failure>
 }
 
 /// The name of a bookmark.
-pub(crate) fn name_parameter(alloc: Global, raw: &str) -> Result<BookName, Failure>
+pub(crate) fn name_parameter(alloc: Global, raw: &str) -> Result<BookName, RouteRefusal>
     ensures { Reads (λ name. name) result (model.name_parameter raw.now) }
 {
     match decoded(alloc, raw)? {
         Some(text) => name_of(alloc, text.as_str()),
-        None => Err(Failure::BadName { at: 0 }),
+        None => Err(RouteRefusal::BadName { at: 0 }),
     }
 }
 
 /// The id of a changeset, in hex of either case.
-pub(crate) fn id_parameter(alloc: Global, raw: &str) -> Result<Id, Failure>
-    ensures id { Reads id_seen result (model.id_parameter raw.now) }
-    ensures memory { IsErrOf result Failure.Memory → HasEscape raw.now }
+pub(crate) fn id_parameter(alloc: Global, raw: &str) -> Result<Id, RouteRefusal>
+    ensures id { Reads (λ id. id) result (model.id_parameter raw.now) }
+    ensures memory { IsErrOf result RouteRefusal.Memory → HasEscape raw.now }
 {
     match decoded(alloc, raw)? {
         Some(text) => id_of(text.as_str()),
-        None => Err(Failure::BadId { at: 0 }),
+        None => Err(RouteRefusal::BadId { at: 0 }),
     }
 }
 
 /// The id of a changeset, or `none`.
-pub(crate) fn maybe_id_parameter(alloc: Global, raw: &str) -> Result<Option<Id>, Failure>
-    ensures { Reads maybe_id_seen result (model.maybe_id_parameter raw.now) }
+pub(crate) fn maybe_id_parameter(alloc: Global, raw: &str) -> Result<Option<Id>, RouteRefusal>
+    ensures { Reads (λ id. id) result (model.maybe_id_parameter raw.now) }
 {
     match decoded(alloc, raw)? {
         Some(text) => maybe_id_of(text.as_str()),
-        None => Err(Failure::BadId { at: 0 }),
+        None => Err(RouteRefusal::BadId { at: 0 }),
     }
 }
 
 /// A number of 1 to 19 decimal digits.
-pub(crate) fn number_parameter(alloc: Global, raw: &str) -> Result<u64, Failure>
+pub(crate) fn number_parameter(alloc: Global, raw: &str) -> Result<u64, RouteRefusal>
     ensures number { Reads (λ n. n) result (model.number_parameter raw.now) }
-    ensures memory { IsErrOf result Failure.Memory → HasEscape raw.now }
+    ensures memory { IsErrOf result RouteRefusal.Memory → HasEscape raw.now }
 {
     match decoded(alloc, raw)? {
         Some(text) => number_of(text.as_str()),
-        None => Err(Failure::BadNumber),
+        None => Err(RouteRefusal::BadNumber),
     }
 }

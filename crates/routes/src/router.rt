@@ -1,41 +1,40 @@
 //! The router.
-ghost use Rattle.std.specs.Prelude.{◌≡◌, Ok, Err, Some, None, OnOk, OnErr, IsTrue, IsSome};
+ghost use Rattle.std.specs.Prelude.{◌≡◌, Ok, Err, Some, None, OnOk, OnErr, IsSome};
 ghost use Rattle.matchit.specs.Params.{named, AllText};
 ghost use Rattle.matchit.specs.Order.{placed};
 ghost use Rattle.matchit.specs.Router.{nearest};
 ghost use Rattle.matchit.specs.Route.{parse_route};
-ghost use Rattle.session_model.specs.Routes as model;
-ghost use Rattle.routes.specs.Seen.{route_seen};
-ghost use Rattle.routes.specs.Rows.{row_of, pattern_of, IsRead, table};
-ghost use Rattle.routes.specs.Taken.{taken, Takes};
+ghost use Rattle.session_model.specs.Routes.{pattern_of};
+ghost use Rattle.routes.specs.Rows.{row_of, tokens, IsRead, table};
+ghost use Rattle.routes.specs.Taken.{taken};
 
-use crate::route::{Kind, Route};
-use matchit::{InsertError, Params, Router};
+use matchit::{InsertError, Match, Params, Router};
+use session_model::RouteName;
 use std::alloc::{AllocError, Global};
 
 /// The routes of the repository, which stay the same.
 #[derive(Drop)]
 pub struct Routes {
-    router: Router<Kind>,
+    router: Router<RouteName>,
     ghost routes: { router ≡ table },
 }
 
 // Adds a route that none of the others conflicts with.
-fn add(router: &mut Router<Kind>, route: &str, kind: Kind) -> Result<(), AllocError>
-    requires reads { IsRead (parse_route route.now) kind }
-    requires fits { nearest (pattern_of kind) router.old ≡ None }
-    ensures ok { OnOk result (router.new ≡ placed (row_of kind) router.old) }
+fn add(router: &mut Router<RouteName>, route: &str, name: RouteName) -> Result<(), AllocError>
+    requires reads { IsRead (parse_route route.now) name }
+    requires fits { nearest (tokens (pattern_of name)) router.old ≡ None }
+    ensures ok { OnOk result (router.new ≡ placed (row_of name) router.old) }
     ensures err { OnErr result (router.new ≡ router.old) }
 {
-    match router.insert(route, kind) {
+    match router.insert(route, name) {
         Ok(()) => Ok(()),
         Err(InsertError::OutOfMemory) => Err(AllocError),
         Err(_) => unreachable!(),
     }
 }
 
-// The part of the path that a name took.
-fn part<'v>(params: &Params<'_, 'v>, name: &str) -> &'v str
+/// The part of the path that a name took.
+pub(crate) fn part<'v>(params: &Params<'_, 'v>, name: &str) -> &'v str
     requires text { AllText (taken params.now) }
     requires some { IsSome (named name.now (taken params.now)) }
     ensures { named name.now (taken params.now) ≡ Some result.now }
@@ -46,61 +45,34 @@ fn part<'v>(params: &Params<'_, 'v>, name: &str) -> &'v str
     }
 }
 
-// The route of a match.
-fn matched<'v>(kind: Kind, params: &Params<'_, 'v>) -> Route<'v>
-    requires { (route : model.Route) × Takes kind params.now route }
-    ensures { (route : model.Route) → Takes kind params.now route → route_seen result ≡ route }
-{
-    match kind {
-        Kind::Contents => Route::Contents,
-        Kind::Changesets => Route::Changesets,
-        Kind::Changeset => Route::Changeset {
-            id: part(params, "id"),
-        },
-        Kind::Head => Route::Head {
-            name: part(params, "name"),
-        },
-        Kind::Move => Route::Move {
-            name: part(params, "name"),
-            from: part(params, "from"),
-            to: part(params, "to"),
-        },
-        Kind::Land => Route::Land {
-            name: part(params, "name"),
-            draft: part(params, "id"),
-        },
-        Kind::Log => Route::Log {
-            from: part(params, "from"),
-        },
-    }
-}
-
 impl Routes {
-    ghost use Rattle.std.specs.Prelude.{◌≡◌, IsTrue};
+    ghost use Rattle.std.specs.Prelude.{◌≡◌, IsTrue, IsNone, IfSome};
     ghost use Rattle.session_model.specs.Routes.{is_target, route_of};
-    ghost use Rattle.routes.specs.Seen.{route_found};
+    ghost use Rattle.routes.specs.Taken.{taken, route_taken, Takes};
 
     /// A router of all routes.
     #[tactic(auto, unfolding(matchit::specs::Route::scan))]
     pub fn new(alloc: Global) -> Result<Routes, AllocError> {
         let mut router = Router::new(alloc);
-        add(&mut router, "/bookmark/{name}/{from}/{to}", Kind::Move)?;
-        add(&mut router, "/bookmark/{name}", Kind::Head)?;
-        add(&mut router, "/changeset/{id}", Kind::Changeset)?;
-        add(&mut router, "/changeset", Kind::Changesets)?;
-        add(&mut router, "/content", Kind::Contents)?;
-        add(&mut router, "/land/{name}/{id}", Kind::Land)?;
-        add(&mut router, "/log/{from}", Kind::Log)?;
+        add(&mut router, "/bookmark/{name}/{from}/{to}", RouteName::Move)?;
+        add(&mut router, "/bookmark/{name}", RouteName::Head)?;
+        add(&mut router, "/changeset/{id}", RouteName::Changeset)?;
+        add(&mut router, "/changeset", RouteName::Changesets)?;
+        add(&mut router, "/content", RouteName::Contents)?;
+        add(&mut router, "/land/{name}/{id}", RouteName::Land)?;
+        add(&mut router, "/log/{from}", RouteName::Log)?;
         Ok(Routes { router })
     }
 
-    /// The route of a target before any `?`.
-    pub(crate) fn route_of<'p>(&self, path: &'p str) -> Option<Route<'p>>
+    /// The route of a target before any `?`, with what its parameters took.
+    pub(crate) fn find<'r, 'p>(&'r self, path: &'p str) -> Option<Match<'r, 'p, &'r RouteName>>
         requires { IsTrue (is_target path.now) }
-        ensures { route_found result ≡ route_of path.now }
+        ensures found { IfSome result (λ m. route_of path.now ≡ Some (route_taken m.value.now (taken m.params))) }
+        ensures takes { IfSome result (λ m. Takes m.value.now m.params) }
+        ensures none { IsNone result → route_of path.now ≡ None }
     {
         match self.router.at(path) {
-            Ok(found) => Some(matched(*found.value, &found.params)),
+            Ok(found) => Some(found),
             Err(_) => None,
         }
     }

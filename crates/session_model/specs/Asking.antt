@@ -10,10 +10,12 @@ use Rattle.reply_model.specs.After.{Answer, Grants, Refuses, Shows, Lacks, Roots
 use Rattle.http_model.specs.Head.{path_of}
 use Rattle.http_model.specs.Stream.{Request}
 use Rattle.session_model.specs.declared.status.Status.TheVariants.{Fine, BadRequest, NotFound, MethodNotAllowed, Conflict, ContentTooLarge, UnprocessableContent, InternalServerError, InsufficientStorage}
-use Rattle.session_model.specs.Methods.{method_text}
+use Rattle.session_model.specs.declared.route_name.RouteName.{RouteName}
+use Rattle.session_model.specs.declared.route_name.RouteName.TheVariants.{Contents, Changesets, Changeset, Head, Move, Land, Log}
+use Rattle.session_model.specs.Methods.{method_text, method_of}
 use Rattle.session_model.specs.Responses.{Response, Json}
 use Rattle.session_model.specs.Bodies.{coded, id_text, maybe_id_text, path_text, content_body, changeset_body, bookmark_body, landed_body, log_body, json, of_code, octets, memory}
-use Rattle.session_model.specs.Routes.{Route, ContentsRoute, ChangesetsRoute, ChangesetRoute, HeadRoute, MoveRoute, LandRoute, LogRoute, is_target, route_of, method_of}
+use Rattle.session_model.specs.Routes.{Route, value, is_target, route_of}
 use Rattle.session_model.specs.Parameters.{name_parameter, id_parameter, maybe_id_parameter, number_parameter}
 
 -- ---- requests
@@ -24,27 +26,30 @@ pub data Asked : Type 0 where
   Fails : Response → Asked
 
 -- the parameters from left to right: the first that is refused decides
-abbrev pub by_route : Route → List ℕ → Result Asked Response
-by_route ContentsRoute body = Ok (Changes (PutContent body))
-by_route ChangesetsRoute body = Ok (Changes (PutChangeset body))
-by_route (ChangesetRoute id) body = do
-  x ← id_parameter id
+abbrev pub by_name : RouteName → (ℕ → List ℕ) → List ℕ → Result Asked Response
+by_name Contents value body = Ok (Changes (PutContent body))
+by_name Changesets value body = Ok (Changes (PutChangeset body))
+by_name Changeset value body = do
+  x ← id_parameter (value 0)
   Ok (Looks (ChangesetOf x))
-by_route (HeadRoute name) body = do
-  m ← name_parameter name
+by_name Head value body = do
+  m ← name_parameter (value 0)
   Ok (Looks (HeadOf m))
-by_route (MoveRoute name from to) body = do
-  m ← name_parameter name
-  before ← maybe_id_parameter from
-  after ← maybe_id_parameter to
+by_name Move value body = do
+  m ← name_parameter (value 0)
+  before ← maybe_id_parameter (value 1)
+  after ← maybe_id_parameter (value 2)
   Ok (Changes (SetBookmark m before after))
-by_route (LandRoute name draft) body = do
-  m ← name_parameter name
-  d ← id_parameter draft
+by_name Land value body = do
+  m ← name_parameter (value 0)
+  d ← id_parameter (value 1)
   Ok (Changes (LandDraft m d))
-by_route (LogRoute from) body = do
-  n ← number_parameter from
+by_name Log value body = do
+  n ← number_parameter (value 0)
   Ok (Looks (LogFrom n))
+
+abbrev pub by_route : Route → List ℕ → Result Asked Response
+by_route route body = by_name route.name (value route) body
 
 abbrev pub asked_or : Result Asked Response → Asked
 asked_or (Ok asked) = asked
@@ -56,7 +61,7 @@ not_allowed methods = record { status = MethodNotAllowed; media = Json; allow = 
 
 abbrev pub on_route : Option Route → Request → Asked
 on_route None q = Fails (of_code NotFound (codes "no-route"))
-on_route (Some route) q = if bytes_eq q.method (method_text (method_of route)) then asked_or (by_route route q.body) else Fails (not_allowed (method_text (method_of route)))
+on_route (Some route) q = if bytes_eq q.method (method_text (method_of route.name)) then asked_or (by_route route q.body) else Fails (not_allowed (method_text (method_of route.name)))
 
 abbrev pub asked : Request → Asked
 asked q = let path = path_of q.target in if is_target path then on_route (route_of path) q else Fails (of_code BadRequest (codes "bad-target"))

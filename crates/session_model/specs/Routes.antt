@@ -1,23 +1,44 @@
 -- Which route a target has. Targets are of RFC 9112.
---     Route      with its parameters as they stand in the target
+--     Pattern      a word, then the names of parameters, and of what takes the rest of the path, where something does
+--     pattern_of name      the pattern of each route;  order      the routes in the order in which they are tried
 --     is_target path      the target before any `?` begins with a slash and is UTF-8
---     route_of path      the route, if the path has one. A parameter has at least one byte
---     method_of route      the one method that it has
-use Rattle.std.specs.Prelude.{ℕ, nat_eq, Bool, ◌&&◌, ◌==◌, if◌then◌else◌, List, [], ◌∷◌, length, drop, bytes_eq, codes, Option, None, Some}
-use Rattle.std.specs.List.{starts_with, list_any}
-use Rattle.byte_fields.specs.Bytes.{is_text}
-use Rattle.changeset_model.specs.Path.{elements}
-use Rattle.session_model.specs.declared.method.Method.{Method}
-use Rattle.session_model.specs.declared.method.Method.TheVariants.{Get, Post, Put}
+--     values names rest parts      what the parameters take of the segments after the word: a segment each, and the rest, each of at least one byte
+--     Route      a route, with the values of its parameters as they stand in the target;  value r n      the n-th value
+--     route_of path      the route of the first pattern that the path matches, if it matches one
+use Rattle.std.specs.Prelude.{ℕ, nat_eq, Bool, ◌&&◌, ◌==◌, if◌then◌else◌, List, [], ◌∷◌, length, drop, get_or, bytes_eq, codes, Option, None, Some, option_map}
+use Rattle.std.specs.List.{starts_with}
+use Rattle.byte_fields.specs.Bytes.{is_text, first_some}
+use Rattle.changeset_model.specs.Path.{elements, text_of}
+use Rattle.session_model.specs.declared.route_name.RouteName.{RouteName}
+use Rattle.session_model.specs.declared.route_name.RouteName.TheVariants.{Contents, Changesets, Changeset, Head, Move, Land, Log}
 
-pub data Route : Type 0 where
-  ContentsRoute : Route
-  ChangesetsRoute : Route
-  ChangesetRoute : (id : List ℕ) → Route
-  HeadRoute : (name : List ℕ) → Route
-  MoveRoute : (name from to : List ℕ) → Route
-  LandRoute : (name draft : List ℕ) → Route
-  LogRoute : (from : List ℕ) → Route
+pub record Pattern : Type 0 where
+  pub word : List ℕ
+  pub parameters : List (List ℕ)
+  pub rest : Option (List ℕ)
+
+abbrev pub of_word : List ℕ → List (List ℕ) → Pattern
+of_word word parameters = record { word = word; parameters = parameters; rest = None }
+
+abbrev pub pattern_of : RouteName → Pattern
+pattern_of Contents = of_word (codes "content") []
+pattern_of Changesets = of_word (codes "changeset") []
+pattern_of Changeset = of_word (codes "changeset") (codes "id" ∷ [])
+pattern_of Head = of_word (codes "bookmark") (codes "name" ∷ [])
+pattern_of Move = of_word (codes "bookmark") (codes "name" ∷ codes "from" ∷ codes "to" ∷ [])
+pattern_of Land = of_word (codes "land") (codes "name" ∷ codes "id" ∷ [])
+pattern_of Log = of_word (codes "log") (codes "from" ∷ [])
+
+-- a router keeps its routes in this order
+abbrev pub order : List RouteName
+order = Move ∷ Head ∷ Changeset ∷ Changesets ∷ Contents ∷ Land ∷ Log ∷ []
+
+pub record Route : Type 0 where
+  pub name : RouteName
+  pub values : List (List ℕ)
+
+abbrev pub value : Route → ℕ → List ℕ
+value r n = get_or r.values n []
 
 abbrev pub is_target : List ℕ → Bool
 is_target path = starts_with nat_eq path (codes "/") && is_text path
@@ -26,38 +47,21 @@ is_target path = starts_with nat_eq path (codes "/") && is_text path
 abbrev pub segments : List ℕ → List (List ℕ)
 segments path = elements (drop 1 path)
 
-abbrev pub whole_route : List ℕ → Option Route
-whole_route word =
-    if bytes_eq word (codes "content") then Some ContentsRoute
-    else (if bytes_eq word (codes "changeset") then Some ChangesetsRoute
-    else None)
-
-abbrev pub route_with_one : List ℕ → List ℕ → Option Route
-route_with_one word a =
-    if bytes_eq word (codes "changeset") then Some (ChangesetRoute a)
-    else (if bytes_eq word (codes "bookmark") then Some (HeadRoute a)
-    else (if bytes_eq word (codes "log") then Some (LogRoute a)
-    else None))
-
-abbrev pub of_segments : List (List ℕ) → Option Route
-of_segments [] = None
-of_segments (word ∷ []) = whole_route word
-of_segments (word ∷ a ∷ []) = route_with_one word a
-of_segments (word ∷ a ∷ b ∷ []) = if bytes_eq word (codes "land") then Some (LandRoute a b) else None
-of_segments (word ∷ a ∷ b ∷ c ∷ []) = if bytes_eq word (codes "bookmark") then Some (MoveRoute a b c) else None
-of_segments (word ∷ a ∷ b ∷ c ∷ d ∷ more) = None
-
 abbrev pub is_empty : List ℕ → Bool
 is_empty segment = length segment == 0
 
-abbrev pub route_of : List ℕ → Option Route
-route_of path = if list_any is_empty (segments path) then None else of_segments (segments path)
+abbrev pub values : List (List ℕ) → Option (List ℕ) → List (List ℕ) → Option (List (List ℕ))
+values [] None [] = Some []
+values [] None (part ∷ parts) = None
+values [] (Some name) parts = if is_empty (text_of parts) then None else Some (text_of parts ∷ [])
+values (name ∷ names) rest [] = None
+values (name ∷ names) rest (part ∷ parts) = if is_empty part then None else option_map (λ later. part ∷ later) (values names rest parts)
 
-abbrev pub method_of : Route → Method
-method_of ContentsRoute = Put
-method_of ChangesetsRoute = Put
-method_of (ChangesetRoute id) = Get
-method_of (HeadRoute name) = Get
-method_of (MoveRoute name from to) = Put
-method_of (LandRoute name draft) = Post
-method_of (LogRoute from) = Get
+abbrev pub route_by : RouteName → List (List ℕ) → Option Route
+route_by name [] = None
+route_by name (word ∷ parts) =
+    let pattern = pattern_of name in
+    if bytes_eq word pattern.word then option_map (λ vs. record { name = name; values = vs }) (values pattern.parameters pattern.rest parts) else None
+
+abbrev pub route_of : List ℕ → Option Route
+route_of path = first_some (λ name. route_by name (segments path)) order

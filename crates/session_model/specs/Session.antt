@@ -4,17 +4,17 @@
 --     Session header who h s out after end      for all bytes read, where the session came to this end
 --     Broken header who h s out after      where the link failed: what went out lacks at most an end of the last text
 --     closing refusal, closing_memory      what is written last where the session is refused, and where there was no memory to begin
-use Rattle.std.specs.Prelude.{◌≡◌, ◌⊎◌, ℕ, true, false, List, [], ◌∷◌, ◌++◌}
+use Rattle.std.specs.Prelude.{◌≡◌, ◌≤◌, ◌⊎◌, ℕ, true, false, List, [], ◌∷◌, ◌++◌, length}
 use Rattle.std.specs.List.{concat}
 use mathlib.Core.List.{IsPrefix}
 use Rattle.history_model.specs.History.{Entry}
 use Rattle.history_model.specs.Journal.{Header}
 use Rattle.reply_model.specs.After.{Answer, Call, Asks, Looks, Replies}
-use Rattle.http_model.specs.declared.refusal.Refusal.{Refusal}
-use Rattle.http_model.specs.declared.refusal.Refusal.TheVariants as refusals
+use Rattle.http_model.specs.declared.head_refusal.HeadRefusal.{HeadRefusal}
+use Rattle.http_model.specs.declared.head_refusal.HeadRefusal.TheVariants as refusals
 use Rattle.http_model.specs.Refusals.{code_of, status_of}
 use Rattle.http_model.specs.Stream.{Request, Whole, Refuses, is_head_only}
-use Rattle.http_model.specs.Session.{End, Ended, Closed, Cut, Refused, Spent, Takes, Leaves, Requests}
+use Rattle.http_model.specs.Session.{End, Ended, Closed, Cut, Refused, Spent, Takes, Leaves, Requests, most_read}
 use Rattle.session_model.specs.declared.status.Status.{Status}
 use Rattle.session_model.specs.declared.status.Status.TheVariants.{BadRequest, LengthRequired, ContentTooLarge, HeaderFieldsTooLarge, NotImplemented}
 use Rattle.session_model.specs.Responses.{Response, text_of}
@@ -54,7 +54,7 @@ Serves header who h (q ∷ requests) (text ∷ texts) after = (between : List En
 Serves header who h [] (text ∷ texts) after = ⊥
 Serves header who h (q ∷ requests) [] after = ⊥
 
-abbrev pub status_for : Refusal → Status
+abbrev pub status_for : HeadRefusal → Status
 status_for refusals.HeadTooLarge = HeaderFieldsTooLarge
 status_for refusals.BadHead = BadRequest
 status_for refusals.TooManyHeaders = HeaderFieldsTooLarge
@@ -63,7 +63,7 @@ status_for refusals.BadLength = BadRequest
 status_for refusals.NoLength = LengthRequired
 status_for refusals.BodyTooLarge = ContentTooLarge
 
-abbrev pub closing : Refusal → List ℕ
+abbrev pub closing : HeadRefusal → List ℕ
 closing refusal = text_of (of_code (status_for refusal) (code_of refusal)) true false
 
 abbrev pub closing_memory : List ℕ
@@ -74,7 +74,7 @@ abbrev pub Closes : List ℕ → List Request → End → List (List ℕ) → Ty
 Closes s requests Ended last = last ≡ []
 Closes s requests Closed last = last ≡ []
 Closes s requests (Cut read) last = last ≡ []
-Closes s requests (Refused status) last = (refusal : Refusal) × Leaves s requests (Refuses refusal) × (status_of refusal ≡ status) × (last ≡ closing refusal ∷ [])
+Closes s requests (Refused status) last = (refusal : HeadRefusal) × Leaves s requests (Refuses refusal) × (status_of refusal ≡ status) × (last ≡ closing refusal ∷ [])
 Closes s requests Spent last = last ≡ []
 
 pub record Session (header : Header) (who : ℕ) (h : List Entry) (s out : List ℕ) (after : List Entry) (end : End) : Type 0 where
@@ -103,11 +103,12 @@ CutOff texts out =
 -- the closing text, once it was begun
 abbrev pub MayClose : List ℕ → List Request → List (List ℕ) → Type 0
 MayClose s requests last =
-    (last ≡ []) ⊎ ((refusal : Refusal) × Leaves s requests (Refuses refusal) × (last ≡ closing refusal ∷ [])) ⊎ ((s ≡ []) × (requests ≡ []) × (last ≡ closing_memory ∷ []))
+    (last ≡ []) ⊎ ((refusal : HeadRefusal) × Leaves s requests (Refuses refusal) × (last ≡ closing refusal ∷ [])) ⊎ ((s ≡ []) × (requests ≡ []) × (last ≡ closing_memory ∷ []))
 
 pub record Broken (header : Header) (who : ℕ) (h : List Entry) (s out : List ℕ) (after : List Entry) : Type 0 where
   pub requests : List Request
   pub took : Took s requests
+  pub few : length s ≤ most_read
   pub texts : List (List ℕ)
   pub serves : Serves header who h requests texts after
   pub last : List (List ℕ)

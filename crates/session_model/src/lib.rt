@@ -3,7 +3,9 @@
 #![tactic(auto)]
 
 pub mod method;
+pub mod route_name;
 pub mod status;
 
 pub use method::Method;
+pub use route_name::RouteName;
 pub use status::Status;

@@ -13,7 +13,7 @@ use Rattle.changeset_model.specs.Changeset as model
 use Rattle.changeset_model.proofs.Paths.{path_cmp_total, path_cmp-IsAntisymmetric}
 use Rattle.repo_path.specs.Order.{path_eq_equiv, path_eq_ties}
 use Rattle.object_id.specs.declared.id.Id.{Id}
-use Rattle.bonsai.specs.declared.change.FileKind.{FileKind}
+use Rattle.file_kind.specs.declared.kind.FileKind.{FileKind}
 use Rattle.bonsai.specs.declared.change.Change.TheVariants as changes
 use Rattle.bonsai.specs.declared.edit.Edit.{Edit}
 use Rattle.bonsai.specs.View.{change_view, edit_view}

@@ -5,4 +5,3 @@ pub mod AtOnce
 pub mod Trees
 pub mod Texts
 pub mod Children
-pub mod Accepted

@@ -4,12 +4,12 @@
 use Rattle.std.specs.Prelude.{ℕ, List, map, Option, option_map, string_bytes}
 use Rattle.changeset_model.specs.Path.{Path}
 use Rattle.changeset_model.specs.Changeset as model
-use Rattle.bonsai.specs.View.{kind_view}
+use Rattle.file_kind.specs.Kinds.{kind_view}
 use Rattle.tree_fold.specs.declared.file.File.{File}
 use Rattle.tree_fold.specs.declared.child.Child.{Child}
 
 abbrev pub file_view : File → model.File
-file_view f = record { content = f.content.0; kind = kind_view f.kind; size = f.size }
+file_view f = record { content = f.content; kind = kind_view f.kind; size = f.size }
 
 abbrev pub files_view : List (Path × File) → List (Path × model.File)
 files_view es = map (λ e. (e.0, file_view e.1)) es

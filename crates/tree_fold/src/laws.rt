@@ -1,11 +1,8 @@
 //! Laws of trees and their files, each the contract of a function that does nothing.
-ghost use Rattle.std.specs.Prelude.{◌≡◌, ◌∷◌, ◌++◌, ℕ, false, None, Ok, List, [], map, Contains};
-ghost use Rattle.byte_fields.specs.Bytes.{Id};
+ghost use Rattle.std.specs.Prelude.{◌≡◌, ◌∷◌, ◌++◌, ℕ, false, List, [], map, Contains};
 ghost use Rattle.changeset_model.specs.Path.{Path, comparable, IsRising};
-ghost use Rattle.changeset_model.specs.Changeset.{Changeset, File, touched_paths, self_conflict};
-ghost use Rattle.changeset_model.specs.Decoding.{decoded};
+ghost use Rattle.changeset_model.specs.Changeset.{Changeset, File, touched_paths};
 ghost use Rattle.history_model.specs.Tree.{tree, files, file_at, is_dir, below, children};
-ghost use Rattle.history_model.specs.Pushrebase.{on_parent};
 
 /// The files of a chain stand by strictly rising paths, and at each path is what the tree has there.
 pub fn files_are_the_tree()
@@ -34,10 +31,4 @@ pub fn no_directory_is_empty()
 /// What stands in a directory of files by rising paths stands by strictly rising names.
 pub fn children_rise()
     ensures { (fs : List (Path × File)) (d : Path) → IsRising (map (λ f. f.0) fs) → IsRising (map (λ c. c.0 ∷ []) (children (below d fs))) }
-{}
-
-/// What is decoded can be applied to a tree, also on another parent.
-pub fn what_is_decoded_can_be_applied()
-    ensures decoded { (bytes : List ℕ) (c : Changeset) → decoded bytes ≡ Ok c → self_conflict c ≡ None }
-    ensures moved { (parent : Id) (c : Changeset) → self_conflict (on_parent parent c) ≡ self_conflict c }
 {}

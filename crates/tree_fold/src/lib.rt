@@ -14,6 +14,3 @@ pub mod tree;
 pub use child::Child;
 pub use file::File;
 pub use tree::Tree;
-
-#[cfg(test)]
-mod tests;

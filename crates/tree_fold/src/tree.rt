@@ -1,7 +1,7 @@
 //! The tree of a chain of changesets.
-ghost use Rattle.std.specs.Prelude.{◌≡◌, ◌∷◌, ◌++◌, [], List, None, map, option_map, if◌then◌else◌, OnOk, OnErr, IfOk};
+ghost use Rattle.std.specs.Prelude.{◌≡◌, ◌∷◌, ◌++◌, [], List, map, option_map, if◌then◌else◌, OnOk, OnErr, IfOk};
 ghost use Rattle.changeset_model.specs.Path.{Path};
-ghost use Rattle.changeset_model.specs.Changeset.{Changeset as ModelChangeset, self_conflict, set_at};
+ghost use Rattle.changeset_model.specs.Changeset.{Changeset as ModelChangeset, set_at};
 ghost use Rattle.history_model.specs.Tree.{decides, tree, files as files_of, file_at, below, children};
 ghost use Rattle.tree_fold.specs.View.{file_view, child_view};
 ghost use Rattle.tree_fold.specs.Listing.{dir_path};
@@ -51,10 +51,9 @@ impl Tree {
         }
     }
 
-    /// Applies one more changeset, of which no set path lies under another, as in each that is decoded. It costs a search
-    /// for each change, and what it removes. After an error the tree is as before.
+    /// Applies one more changeset. It costs a search for each change, and what it removes. After an error the tree is as
+    /// before.
     pub fn apply(&mut self, alloc: Global, change: &Changeset) -> Result<(), AllocError>
-        requires { self_conflict change.now ≡ None }
         ensures tree { OnOk result ((cs : List ModelChangeset) → self.old ≡ files_of cs → self.new ≡ files_of (cs ++ change.now ∷ [])) }
         ensures decided { OnOk result ((p : Path) → file_at self.new p ≡ (if decides change.now p then set_at change.now p else file_at self.old p)) }
         ensures err { OnErr result (self.new ≡ self.old) }

@@ -2,9 +2,7 @@
 use Rattle.std.proofs.Common.{◌≡◌, ℕ, zero, suc, ◌<◌, ◌≤◌, List, [], ◌∷◌, ◌++◌, length, map, refl, sym, ap, subst, ◌∙◌, append_assoc, arith}
 use Rattle.std.specs.Prelude.{Option, None, Some, unwrap_or}
 use Rattle.std.specs.Option.{option_map_or}
-use Rattle.std.proofs.lemmas.List.{map_push}
 use Rattle.byte_fields.specs.Bytes.{Id}
-use Rattle.object_id.specs.declared.id.Id.{Id as RustId}
 use Rattle.manifest_model.specs.Unode.{Unode, linknode_of}
 use Rattle.unode.specs.History.{parents_of, IsLine}
 
@@ -59,13 +57,12 @@ fewer n at x u line l small e =
     let rest : length (walked n at (parents_of u)) ≡ length s.rest = ap length (walked-line n at (parents_of u) s.rest s.goes (omega arith)) in
     omega arith
 
-abbrev pub told : List RustId → List Unode → List Id
-told links left = map (λ x. x.0) links ++ map linknode_of left
+abbrev pub told : List Id → List Unode → List Id
+told links left = links ++ map linknode_of left
 
-pub told-onward : (links new : List RustId) (id : RustId) (u : Unode) (rest line : List Unode) → new ≡ links ++ id ∷ [] → id.0 ≡ linknode_of u → line ≡ u ∷ rest → told new rest ≡ told links line
+pub told-onward : (links new : List Id) (id : Id) (u : Unode) (rest line : List Unode) → new ≡ links ++ id ∷ [] → id ≡ linknode_of u → line ≡ u ∷ rest → told new rest ≡ told links line
 told-onward links new id u rest line grown link is =
     ap (λ ids. told ids rest) grown
-    ∙ ap (λ ids. ids ++ map linknode_of rest) (map_push (λ x. x.0) links id)
-    ∙ append_assoc (map (λ x. x.0) links) (id.0 ∷ []) (map linknode_of rest)
-    ∙ ap (λ x. map (λ x. x.0) links ++ (x ∷ map linknode_of rest)) link
+    ∙ append_assoc links (id ∷ []) (map linknode_of rest)
+    ∙ ap (λ x. links ++ (x ∷ map linknode_of rest)) link
     ∙ ap (told links) (sym is)

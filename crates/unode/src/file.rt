@@ -1,6 +1,6 @@
 //! Unodes of files.
 
-use node_fields::FileKind;
+use file_kind::FileKind;
 use object_id::Id;
 
 /// A file as one changeset set it.

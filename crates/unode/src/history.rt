@@ -16,14 +16,14 @@ pub trait Nodes {
 
     /// The unode of a file that stands under this id.
     fn file_unode(&self, id: &Id) -> Option<FileUnode>
-        ensures { option_map file_seen result ≡ file_at self.now id.now.0 };
+        ensures { option_map file_seen result ≡ file_at self.now id.now };
 }
 
 /// The changesets that set a file, newest first, back to the last whose parent lacks it as a file: those that made the
 /// file's unodes, from this one back through the parents. All these unodes are there, and none is reached from itself.
 pub fn file_history<N: Nodes>(alloc: Global, nodes: &N, node: Id) -> Result<Vec<Id>, AllocError>
-    requires { HasLine (N.file_at nodes.now) node.0 }
-    ensures { (line : List ModelUnode) → IsLine (N.file_at nodes.now) (node.0 ∷ []) line → IfOk result (λ ids. map (λ x. x.0) ids.items ≡ map linknode_of line) }
+    requires { HasLine (N.file_at nodes.now) node }
+    ensures { (line : List ModelUnode) → IsLine (N.file_at nodes.now) (node ∷ []) line → IfOk result (λ ids. ids.items ≡ map linknode_of line) }
 {
     let mut links = Vec::new(alloc);
     let mut next = Some(node);

@@ -18,6 +18,3 @@ pub use manifest::UnodeManifest;
 pub use node::Unode;
 pub use reading::{decode, decode_file};
 pub use writing::encode;
-
-#[cfg(test)]
-mod tests;

@@ -19,7 +19,7 @@ pub enum Unode {
 impl Unode {
     /// The changeset that made it.
     pub fn linknode(&self) -> Id
-        ensures { result.0 ≡ linknode_of (unode_seen self.now) }
+        ensures { result ≡ linknode_of (unode_seen self.now) }
     {
         match self {
             Unode::Manifest(manifest) => manifest.linknode,

@@ -2,10 +2,11 @@
 ghost use Rattle.std.specs.Prelude.{◌≡◌, true, None, Ok, option_map, IfOk};
 ghost use Rattle.std.specs.Option.{option_copied};
 ghost use Rattle.byte_fields.specs.Gives.{Gives};
+ghost use Rattle.byte_fields.specs.Reads.{Reads};
 ghost use Rattle.changeset_model.specs.Path.{is_element};
 ghost use Rattle.manifest_model.specs.Unode.{Unode as ModelUnode, unode_bytes, is_unode};
 ghost use Rattle.manifest_model.specs.NodeReading.{one_unode_entry, entry, entries, node_parents, manifest as manifest_fields, file_unode as file_fields, unode_fields, unode_of};
-ghost use Rattle.node_fields.specs.Answers.{GivesInMemory, DecodesTo};
+ghost use Rattle.node_fields.specs.Answers.{DecodesTo};
 ghost use Rattle.unode.specs.Parts.{parents_seen, entry_seen, children_seen, file_seen, manifest_of_parts};
 ghost use Rattle.unode.specs.Views.{manifest_seen, unode_seen, file_in};
 
@@ -13,10 +14,11 @@ use crate::entry::{UnodeChild, UnodeEntry};
 use crate::file::FileUnode;
 use crate::manifest::UnodeManifest;
 use crate::node::Unode;
-use byte_fields::BadField;
-use byte_fields::fields::{id_at, u8_at, u32_at};
-use node_fields::field::{bad_node, below_at, exactly_at, name_at};
-use node_fields::{FileKind, Name, NodeFault, ReadFault};
+use byte_fields::fields::{exactly_at, id_at, u8_at, u8_below, u32_at};
+use byte_fields::{BadField, FieldFault};
+use file_kind::kind_at;
+use node_fields::field::{bad_node, name_at};
+use node_fields::{Name, NodeFault};
 use object_id::Id;
 use std::alloc::Global;
 
@@ -58,13 +60,13 @@ fn node_of(alloc: Global, bytes: &[u8]) -> Result<Unode, NodeFault>
     match unode_at(alloc, bytes) {
         Ok((node, [])) => Ok(node),
         Ok((_, rest)) => Err(bad_node(bytes, rest.len())),
-        Err(ReadFault::Field(bad)) => Err(bad_node(bytes, bad.left)),
-        Err(ReadFault::Memory) => Err(NodeFault::Memory),
+        Err(FieldFault::Bad { left }) => Err(bad_node(bytes, left)),
+        Err(FieldFault::Memory) => Err(NodeFault::Memory),
     }
 }
 
-fn unode_at(alloc: Global, bytes: &[u8]) -> Result<(Unode, &[u8]), ReadFault>
-    ensures { GivesInMemory (λ x. (unode_seen x.0, x.1.now)) result (unode_fields bytes.now) }
+fn unode_at(alloc: Global, bytes: &[u8]) -> Result<(Unode, &[u8]), FieldFault>
+    ensures { Reads (λ x. (unode_seen x.0, x.1.now)) result (unode_fields bytes.now) }
 {
     let (mark, rest) = u8_at(bytes)?;
     match mark {
@@ -72,16 +74,16 @@ fn unode_at(alloc: Global, bytes: &[u8]) -> Result<(Unode, &[u8]), ReadFault>
             let (manifest, rest) = manifest_at(alloc, rest)?;
             Ok((Unode::Manifest(manifest), rest))
         }
-        FILE_MARK => {
-            let (file, rest) = file_at(rest)?;
-            Ok((Unode::File(file), rest))
-        }
-        _ => Err(ReadFault::Field(BadField { left: bytes.len() })),
+        FILE_MARK => match file_at(rest) {
+            Ok((file, rest)) => Ok((Unode::File(file), rest)),
+            Err(fault) => Err(fault.into()),
+        },
+        _ => Err(FieldFault::Bad { left: bytes.len() }),
     }
 }
 
-fn manifest_at(alloc: Global, bytes: &[u8]) -> Result<(UnodeManifest, &[u8]), ReadFault>
-    ensures { GivesInMemory (λ x. (manifest_seen x.0, x.1.now)) result (manifest_fields bytes.now) }
+fn manifest_at(alloc: Global, bytes: &[u8]) -> Result<(UnodeManifest, &[u8]), FieldFault>
+    ensures { Reads (λ x. (manifest_seen x.0, x.1.now)) result (manifest_fields bytes.now) }
 {
     let ((parent, linknode, entries), rest) = manifest_parts_at(alloc, bytes)?;
     let manifest = UnodeManifest {
@@ -96,30 +98,36 @@ fn manifest_at(alloc: Global, bytes: &[u8]) -> Result<(UnodeManifest, &[u8]), Re
 fn manifest_parts_at(
     alloc: Global,
     bytes: &[u8],
-) -> Result<((Option<Id>, Id, Vec<UnodeChild>), &[u8]), ReadFault>
-    ensures { GivesInMemory (λ x. (manifest_of_parts x.0.0 x.0.1 x.0.2, x.1.now)) result (manifest_fields bytes.now) }
+) -> Result<((Option<Id>, Id, Vec<UnodeChild>), &[u8]), FieldFault>
+    ensures { Reads (λ x. (manifest_of_parts x.0.0 x.0.1 x.0.2, x.1.now)) result (manifest_fields bytes.now) }
 {
-    let (parent, rest) = parent_at(bytes)?;
+    let (parent, rest) = match parent_at(bytes) {
+        Ok(read) => read,
+        Err(fault) => return Err(fault.into()),
+    };
     let (linknode, rest) = id_at(rest)?;
     let (count, rest) = u32_at(rest)?;
     let (entries, rest) = entries_at(alloc, count, rest)?;
-    Ok(((parent, Id(linknode), entries), rest))
+    Ok(((parent, Id::from_bytes(linknode), entries), rest))
 }
 
 fn file_at(bytes: &[u8]) -> Result<(FileUnode, &[u8]), BadField>
     ensures { Gives (λ x. (file_seen x.0, x.1.now)) result (file_fields bytes.now) }
 {
-    let (parent, rest) = parent_at(bytes)?;
+    let (parent, rest) = match parent_at(bytes) {
+        Ok(read) => read,
+        Err(fault) => return Err(fault),
+    };
     let (content, rest) = id_at(rest)?;
-    let (kind, rest) = below_at(rest, 3)?;
+    let (kind, rest) = kind_at(rest)?;
     let (path_hash, rest) = id_at(rest)?;
     let (linknode, rest) = id_at(rest)?;
     let file = FileUnode {
         parent,
-        content: Id(content),
-        kind: FileKind::of_byte(kind),
-        path_hash: Id(path_hash),
-        linknode: Id(linknode),
+        content: Id::from_bytes(content),
+        kind,
+        path_hash: Id::from_bytes(path_hash),
+        linknode: Id::from_bytes(linknode),
     };
     Ok((file, rest))
 }
@@ -129,12 +137,12 @@ fn parent_at(bytes: &[u8]) -> Result<(Option<Id>, &[u8]), BadField>
     ensures { Gives (λ x. (parents_seen x.0, x.1.now)) result (node_parents bytes.now) }
 {
     let rest = exactly_at(bytes, 1)?;
-    let (count, rest) = below_at(rest, 2)?;
+    let (count, rest) = u8_below(rest, 2)?;
     if count == 0 {
         return Ok((None, rest));
     }
     let (parent, rest) = id_at(rest)?;
-    Ok((Some(Id(parent)), rest))
+    Ok((Some(Id::from_bytes(parent)), rest))
 }
 
 // A number of entries.
@@ -142,15 +150,18 @@ fn entries_at(
     alloc: Global,
     count: u32,
     bytes: &[u8],
-) -> Result<(Vec<UnodeChild>, &[u8]), ReadFault>
-    ensures { GivesInMemory (λ x. (children_seen x.0.items, x.1.now)) result (entries one_unode_entry count None bytes.now) }
+) -> Result<(Vec<UnodeChild>, &[u8]), FieldFault>
+    ensures { Reads (λ x. (children_seen x.0.items, x.1.now)) result (entries one_unode_entry count None bytes.now) }
 {
     let room = (bytes.len() / SHORTEST_ENTRY).min(count as usize);
     let mut children = Vec::with_capacity(alloc, room)?;
     let mut rest = bytes;
     let mut before = None;
     for _ in 0..count {
-        let ((name, entry), after) = named_at(rest, before)?;
+        let ((name, entry), after) = match named_at(rest, before) {
+            Ok(read) => read,
+            Err(fault) => return Err(fault.into()),
+        };
         let name_copy = Name::copy_of(alloc, name)?;
         children.push(UnodeChild {
             name: name_copy,
@@ -171,18 +182,20 @@ fn named_at<'a>(
     ensures element { IfOk result (λ x. is_element x.0.0.now ≡ true) }
 {
     let (name, rest) = name_at(bytes, before)?;
-    let (entry, rest) = entry_at(rest)?;
-    Ok(((name, entry), rest))
+    match entry_at(rest) {
+        Ok((entry, rest)) => Ok(((name, entry), rest)),
+        Err(fault) => Err(fault),
+    }
 }
 
 fn entry_at(bytes: &[u8]) -> Result<(UnodeEntry, &[u8]), BadField>
     ensures { Gives (λ x. (entry_seen x.0, x.1.now)) result (one_unode_entry bytes.now) }
 {
-    let (tag, rest) = below_at(bytes, 2)?;
+    let (tag, rest) = u8_below(bytes, 2)?;
     let (id, rest) = id_at(rest)?;
     if tag == 0 {
-        Ok((UnodeEntry::File(Id(id)), rest))
+        Ok((UnodeEntry::File(Id::from_bytes(id)), rest))
     } else {
-        Ok((UnodeEntry::Directory(Id(id)), rest))
+        Ok((UnodeEntry::Directory(Id::from_bytes(id)), rest))
     }
 }

@@ -30,7 +30,7 @@ fn encode_manifest(alloc: Global, manifest: &UnodeManifest) -> Result<Vec<u8>, A
 {
     let mut out = Vec::new(alloc);
     put_head(&mut out, 0x55, manifest.parent)?;
-    put_id(&mut out, &manifest.linknode.0)?;
+    put_id(&mut out, &manifest.linknode)?;
     out.extend_from_slice(&(manifest.entries.len() as u32).to_be_bytes())?;
     put_children(&mut out, &manifest.entries)?;
     Ok(out)
@@ -42,10 +42,10 @@ fn encode_file(alloc: Global, file: &FileUnode) -> Result<Vec<u8>, AllocError>
 {
     let mut out = Vec::new(alloc);
     put_head(&mut out, 0x56, file.parent)?;
-    put_id(&mut out, &file.content.0)?;
+    put_id(&mut out, &file.content)?;
     out.push(file.kind.to_byte())?;
-    put_id(&mut out, &file.path_hash.0)?;
-    put_id(&mut out, &file.linknode.0)?;
+    put_id(&mut out, &file.path_hash)?;
+    put_id(&mut out, &file.linknode)?;
     Ok(out)
 }
 
@@ -58,7 +58,7 @@ fn put_head(out: &mut Vec<u8>, mark: u8, parent: Option<Id>) -> Result<(), Alloc
         None => out.extend_from_slice(&[mark, 1, 0]),
         Some(parent) => {
             out.extend_from_slice(&[mark, 1, 1])?;
-            put_id(out, &parent.0)
+            put_id(out, &parent)
         }
     }
 }
@@ -83,15 +83,15 @@ fn put_child(out: &mut Vec<u8>, child: &UnodeChild) -> Result<(), AllocError>
 }
 
 fn put_entry(out: &mut Vec<u8>, tag: u8, id: Id) -> Result<(), AllocError>
-    ensures { OnOk result (out.new.items ≡ out.old.items ++ (tag ∷ id.0)) }
+    ensures { OnOk result (out.new.items ≡ out.old.items ++ (tag ∷ id)) }
 {
     out.push(tag)?;
-    put_id(out, &id.0)
+    put_id(out, &id)
 }
 
-fn put_id(out: &mut Vec<u8>, id: &[u8; 32]) -> Result<(), AllocError>
+fn put_id(out: &mut Vec<u8>, id: &Id) -> Result<(), AllocError>
     ensures written { OnOk result (out.new.items ≡ out.old.items ++ id.now) }
     ensures whole { OnOk result (is_bytes 32 id.now ≡ true) }
 {
-    out.extend_from_slice(id)
+    out.extend_from_slice(id.as_bytes())
 }

@@ -1,8 +1,8 @@
 use Rattle.std.proofs.Common.{◌≡◌, ◌-◌, None}
 use Rattle.changeset_model.specs.Decoding.{edits}
-use Rattle.bonsai.specs.Parts.{last_path}
+use Rattle.bonsai.specs.LastPath.{last_path}
 use Rattle.bonsai.specs.View.{edits_view}
-use Rattle.bonsai.proofs.Run.{with_front}
+use Rattle.byte_fields.proofs.Run.{with_front}
 use Rattle.bonsai.proofs.edits.edits_at.Given as goal
 
 -- what was read, with what is left to read, is what there is to read

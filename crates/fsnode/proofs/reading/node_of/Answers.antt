@@ -1,7 +1,7 @@
 use Rattle.std.proofs.Common.{arith, length}
 use Rattle.manifest_model.specs.NodeReading.{fsnode_fields}
 use Rattle.manifest_model.proofs.Decoded.{fsnode_read_exactly}
-use Rattle.node_fields.proofs.Exact.{read_to_end}
+use Rattle.byte_fields.proofs.Run.{read_to_end}
 use Rattle.fsnode.specs.Parts.{fsnode_of_parts}
 use Rattle.fsnode.proofs.reading.node_of.Goals as goal
 

@@ -1,5 +1,5 @@
 use Rattle.std.proofs.Common.{arith, sym, ◌∙◌}
-use Rattle.http_wire.proofs.StandingLemmas.{fronts_more, fronts_all}
+use Rattle.http_wire.proofs.HeadOutcomeLemmas.{fronts_more, fronts_all}
 use Rattle.http_wire.proofs.cutting.head_len.Goals as goal
 
 pub fronts-preserved : goal.fronts-preserved

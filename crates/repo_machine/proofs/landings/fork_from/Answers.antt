@@ -5,8 +5,8 @@ use Rattle.repo_machine.proofs.LandingSteps.{unknown_draft, no_root}
 use Rattle.repo_machine.proofs.landings.fork_from.Goals as goal
 
 pub returns-then-not-is_known-clause-steps : goal.returns-then-not-is_known-clause-steps
-returns-then-not-is_known-clause-steps c = unknown_draft c.args.store.now.known c.args.old.now.0 c.args.draft.now (sym c.is_known.ensures ∙ c.if-not-is_known.true)
+returns-then-not-is_known-clause-steps c = unknown_draft c.args.store.now.known c.args.old.now c.args.draft.now (sym c.is_known.ensures ∙ c.if-not-is_known.true)
 
 pub returns-in-None-clause-steps : goal.returns-in-None-clause-steps
 returns-in-None-clause-steps c =
-    no_root c.args.store.now.known c.args.old.now.0 c.args.draft.now (sym c.is_known.ensures ∙ c.if-not-is_known.false) (sym c.fork.ensures.fork ∙ ap (option_map (fork_between c.args.store.now.known)) c.in-None.is)
+    no_root c.args.store.now.known c.args.old.now c.args.draft.now (sym c.is_known.ensures ∙ c.if-not-is_known.false) (sym c.fork.ensures.fork ∙ ap (option_map (fork_between c.args.store.now.known)) c.in-None.is)

@@ -1,4 +1,4 @@
-use Rattle.repo_machine.proofs.LandingAlone.{ids_more}
+use Rattle.repo_machine.proofs.Lists.{ids_more}
 use Rattle.repo_machine.proofs.landings.ids_of.Goals as goal
 
 pub commits-preserved : goal.commits-preserved

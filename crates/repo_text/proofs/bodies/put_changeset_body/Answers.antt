@@ -9,4 +9,4 @@ same_body x = ap (λ l. codes "{\"code\":\"changeset\"" ++ l) (one_member (codes
 
 pub returns-clause-items : goal.returns-clause-items
 returns-clause-items c =
-    three_added _ _ (id_text c.args.id.now.0) _ _ _ _ c.put.ensures.items c.put_id.ensures.items c.put-2.ensures.items ∙ ap (λ l. c.args.out.now.items ++ l) (same_body (id_text c.args.id.now.0))
+    three_added _ _ (id_text c.args.id.now) _ _ _ _ c.put.ensures.items c.put_id.ensures.items c.put-2.ensures.items ∙ ap (λ l. c.args.out.now.items ++ l) (same_body (id_text c.args.id.now))

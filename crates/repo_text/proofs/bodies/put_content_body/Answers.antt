@@ -10,5 +10,5 @@ same_body x digits = ap (λ l. codes "{\"code\":\"content\"" ++ l) (two_members 
 
 pub returns-clause-items : goal.returns-clause-items
 returns-clause-items c =
-    five_added _ _ (id_text c.args.id.now.0) _ (decimal c.args.size) _ _ _ _ _ _ c.put.ensures.items c.put_id.ensures.items c.put-2.ensures.items (c.put-3.ensures.items ∙ ap (λ l. c.put-2.new.out.items ++ l) (c.as_bytes.ensures.value ∙ c.format.ensures.text)) c.put-4.ensures.items
-    ∙ ap (λ l. c.args.out.now.items ++ l) (same_body (id_text c.args.id.now.0) (decimal c.args.size))
+    five_added _ _ (id_text c.args.id.now) _ (decimal c.args.size) _ _ _ _ _ _ c.put.ensures.items c.put_id.ensures.items c.put-2.ensures.items (c.put-3.ensures.items ∙ ap (λ l. c.put-2.new.out.items ++ l) (c.as_bytes.ensures.value ∙ c.format.ensures.text)) c.put-4.ensures.items
+    ∙ ap (λ l. c.args.out.now.items ++ l) (same_body (id_text c.args.id.now) (decimal c.args.size))

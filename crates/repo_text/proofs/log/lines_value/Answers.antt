@@ -2,7 +2,7 @@ use Rattle.std.proofs.Common.{◌+◌, ap, subst}
 use Rattle.std.proofs.lemmas.List.{take_all}
 use Rattle.serde_json.specs.View.{view}
 use Rattle.session_model.specs.Bodies.{line_text, line_texts}
-use Rattle.repo_machine.specs.Answering.{line_seen, lines_seen}
+use Rattle.repo_calls.specs.Calls.{line_seen, lines_seen}
 use Rattle.repo_text.specs.Spelling.{Spells}
 use Rattle.repo_text.proofs.Lines.{array_spelled, values_more, line_texts_more}
 use Rattle.repo_text.proofs.log.lines_value.Goals as goal

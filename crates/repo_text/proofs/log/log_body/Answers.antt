@@ -2,7 +2,7 @@ use Rattle.std.proofs.Common.{◌∙◌, subst}
 use Rattle.std.proofs.lemmas.Result.{IfOk-weaker}
 use Rattle.serde_json.specs.View.{view}
 use Rattle.session_model.specs.Bodies.{line_texts, list_text}
-use Rattle.repo_machine.specs.Answering.{lines_seen}
+use Rattle.repo_calls.specs.Calls.{lines_seen}
 use Rattle.repo_text.specs.Spelling.{Spells}
 use Rattle.repo_text.proofs.Spelled.{same_spelled}
 use Rattle.repo_text.proofs.LineTexts.{page_spelled}

@@ -1,13 +1,14 @@
 use Rattle.std.proofs.Common.{◌≡◌, refl, ap, ◌∙◌}
 use Rattle.std.proofs.lemmas.Result.{IfOk-weaker}
 use Rattle.session_model.specs.Bodies.{json}
-use Rattle.repo_machine.specs.declared.refusal.Refusal.{Refusal}
-use Rattle.repo_machine.specs.declared.refusal.Refusal.TheVariants as refusals
+use Rattle.repo_calls.specs.declared.refusal.Refusal.{Refusal}
+use Rattle.repo_calls.specs.declared.refusal.Refusal.TheVariants as refusals
 use Rattle.repo_text.specs.Refusing.{response_to}
 use Rattle.repo_text.proofs.refusals.refused.Goals as goal
 
 -- each is JSON
 whole : (r : Refusal) → json (response_to r).status (response_to r).body ≡ response_to r
+whole refusals.Down = refl
 whole (refusals.TooLong length) = refl
 whole (refusals.BadEncoding at) = refl
 whole (refusals.SelfConflict short long) = refl

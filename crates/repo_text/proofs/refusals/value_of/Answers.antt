@@ -7,8 +7,7 @@ use Rattle.serde_json.specs.Data.{Data}
 use Rattle.serde_json.specs.View.{view}
 use Rattle.serde_json.specs.declared.value.Value.{Value}
 use Rattle.session_model.specs.Bodies.{maybe_id_text}
-use Rattle.repo_machine.specs.declared.refusal.Refusal.{Refusal}
-use Rattle.repo_machine.specs.Answering.{id_seen}
+use Rattle.repo_calls.specs.declared.refusal.Refusal.{Refusal}
 use Rattle.repo_text.specs.Refusing.{response_to}
 use Rattle.repo_text.specs.Spelling.{Spells, maybe_id_data}
 use Rattle.repo_text.proofs.Spelled.{number_part, path_part, id_part, coded_spelled, number_spelled, string_spelled, id_spelled, maybe_id_spelled}
@@ -32,22 +31,22 @@ pub returns-in-Merge : goal.returns-in-Merge
 returns-in-Merge c = in_case _ _ _ _ c.in-Merge.is c.code_value.ensures (coded_spelled (codes "merge") ([]) refl tt)
 
 pub returns-in-NoParent : goal.returns-in-NoParent
-returns-in-NoParent c = in_case _ _ _ _ c.in-NoParent.is c.coded_id_value.ensures.value (coded_spelled (codes "no-parent") (id_part c.in-NoParent.id.0 ∷ []) refl ((refl, id_spelled c.in-NoParent.id.0 c.coded_id_value.ensures.plain), tt))
+returns-in-NoParent c = in_case _ _ _ _ c.in-NoParent.is c.coded_id_value.ensures.value (coded_spelled (codes "no-parent") (id_part c.in-NoParent.id ∷ []) refl ((refl, id_spelled c.in-NoParent.id c.coded_id_value.ensures.plain), tt))
 
 pub returns-in-NoContent : goal.returns-in-NoContent
-returns-in-NoContent c = in_case _ _ _ _ c.in-NoContent.is c.missing_content_value.ensures.value (coded_spelled (codes "missing-content") (id_part c.in-NoContent.id.0 ∷ path_part (codes "path") c.in-NoContent.path ∷ []) refl ((refl, id_spelled c.in-NoContent.id.0 c.missing_content_value.ensures.plain), ((refl, string_spelled (text_of c.in-NoContent.path)), tt)))
+returns-in-NoContent c = in_case _ _ _ _ c.in-NoContent.is c.missing_content_value.ensures.value (coded_spelled (codes "missing-content") (id_part c.in-NoContent.id ∷ path_part (codes "path") c.in-NoContent.path ∷ []) refl ((refl, id_spelled c.in-NoContent.id c.missing_content_value.ensures.plain), ((refl, string_spelled (text_of c.in-NoContent.path)), tt)))
 
 pub returns-in-WrongSize : goal.returns-in-WrongSize
 returns-in-WrongSize c = in_case _ _ _ _ c.in-WrongSize.is c.wrong_size_value.ensures (coded_spelled (codes "wrong-size") (number_part (codes "found") c.in-WrongSize.found ∷ path_part (codes "path") c.in-WrongSize.path ∷ number_part (codes "wanted") c.in-WrongSize.wanted ∷ []) refl ((refl, number_spelled c.in-WrongSize.found), ((refl, string_spelled (text_of c.in-WrongSize.path)), ((refl, number_spelled c.in-WrongSize.wanted), tt))))
 
 pub returns-in-Collision : goal.returns-in-Collision
-returns-in-Collision c = in_case _ _ _ _ c.in-Collision.is c.coded_id_value-in-Collision.ensures.value (coded_spelled (codes "collision") (id_part c.in-Collision.id.0 ∷ []) refl ((refl, id_spelled c.in-Collision.id.0 c.coded_id_value-in-Collision.ensures.plain), tt))
+returns-in-Collision c = in_case _ _ _ _ c.in-Collision.is c.coded_id_value-in-Collision.ensures.value (coded_spelled (codes "collision") (id_part c.in-Collision.id ∷ []) refl ((refl, id_spelled c.in-Collision.id c.coded_id_value-in-Collision.ensures.plain), tt))
 
 pub returns-in-NoChangeset : goal.returns-in-NoChangeset
-returns-in-NoChangeset c = in_case _ _ _ _ c.in-NoChangeset.is c.coded_id_value-in-NoChangeset.ensures.value (coded_spelled (codes "no-changeset") (id_part c.in-NoChangeset.id.0 ∷ []) refl ((refl, id_spelled c.in-NoChangeset.id.0 c.coded_id_value-in-NoChangeset.ensures.plain), tt))
+returns-in-NoChangeset c = in_case _ _ _ _ c.in-NoChangeset.is c.coded_id_value-in-NoChangeset.ensures.value (coded_spelled (codes "no-changeset") (id_part c.in-NoChangeset.id ∷ []) refl ((refl, id_spelled c.in-NoChangeset.id c.coded_id_value-in-NoChangeset.ensures.plain), tt))
 
 pub returns-in-Moved : goal.returns-in-Moved
-returns-in-Moved c = in_case _ _ _ _ c.in-Moved.is c.moved_value.ensures.value (coded_spelled (codes "moved") ((codes "found", maybe_id_data (id_seen c.in-Moved.found), maybe_id_text (id_seen c.in-Moved.found)) ∷ []) refl ((refl, maybe_id_spelled (id_seen c.in-Moved.found) c.moved_value.ensures.plain), tt))
+returns-in-Moved c = in_case _ _ _ _ c.in-Moved.is c.moved_value.ensures.value (coded_spelled (codes "moved") ((codes "found", maybe_id_data c.in-Moved.found, maybe_id_text c.in-Moved.found) ∷ []) refl ((refl, maybe_id_spelled c.in-Moved.found c.moved_value.ensures.plain), tt))
 
 pub returns-in-NoBookmark : goal.returns-in-NoBookmark
 returns-in-NoBookmark c = in_case _ _ _ _ c.in-NoBookmark.is c.code_value-in-NoBookmark.ensures (coded_spelled (codes "no-bookmark") ([]) refl tt)
@@ -72,3 +71,6 @@ returns-in-TooLarge c = in_case _ _ _ _ c.in-TooLarge.is c.length_value-in-TooLa
 
 pub returns-in-Full : goal.returns-in-Full
 returns-in-Full c = in_case _ _ _ _ c.in-Full.is c.full_value.ensures (coded_spelled (codes "full") (number_part (codes "length") c.in-Full.length ∷ number_part (codes "size") c.in-Full.size ∷ []) refl ((refl, number_spelled c.in-Full.length), ((refl, number_spelled c.in-Full.size), tt)))
+
+pub returns-in-Down : goal.returns-in-Down
+returns-in-Down c = in_case _ _ _ _ c.in-Down.is c.code_value-in-Down.ensures (coded_spelled (codes "down") ([]) refl tt)

@@ -6,5 +6,5 @@ use Rattle.tree_fold.proofs.placed.place.Goals as goal
 
 pub returns-clause-ok : goal.returns-clause-ok
 returns-clause-ok c =
-    let P : Path → Type 0 = λ q. Updates path_cmp c.args.files.now c.insert.new.self q (Some c.args.placing.now.file) in
-    get-updates c.args.files.now c.insert.new.self c.args.placing.now.path.now (Some c.args.placing.now.file) (subst P c.in_ok-path.ensures c.in_ok-insert.ensures.updates)
+    let P : Path → Type 0 = λ q. Updates path_cmp c.args.files.now c.insert.new.self q (Some c.args.file.now) in
+    get-updates c.args.files.now c.insert.new.self c.args.path.now (Some c.args.file.now) (subst P c.in_ok-copy.ensures c.in_ok-insert.ensures.updates)

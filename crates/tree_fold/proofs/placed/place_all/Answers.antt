@@ -12,22 +12,22 @@ returns-in_err-place-clause-kept c = λ p away.
     let i = c.loop-placing.placing-index in
     let ns = c.args.placings.now in
     get-unchanged c.loop-placing.files c.place.new.files c.in_err-place.ensures.err p
-    ∙ sym (placed_in-none (drop i ns) p (get path_cmp c.loop-placing.files p) (is_placed-drop i ns p away))
+    ∙ sym (placed_in-none c.args.file.now (drop i ns) p (get path_cmp c.loop-placing.files p) (is_placed-drop i ns p away))
     ∙ c.loop-placing.invariant.placed p
-    ∙ placed_in-none ns p (get path_cmp c.args.files.now p) away
+    ∙ placed_in-none c.args.file.now ns p (get path_cmp c.args.files.now p) away
 
 pub returns-clause-placed : goal.returns-clause-placed
 returns-clause-placed c = λ p among.
     let i = c.loop-placing.placing-index in
     let ns = c.args.placings.now in
-    ap (λ left. is_some (placed_in left p (get path_cmp c.loop-placing.files p))) (sym (drop_all i ns c.loop-placing-test.false))
+    ap (λ left. is_some (placed_in c.args.file.now left p (get path_cmp c.loop-placing.files p))) (sym (drop_all i ns c.loop-placing-test.false))
     ∙ ap is_some (c.loop-placing.invariant.placed p)
-    ∙ placed_in-some ns p (get path_cmp c.args.files.now p) among
+    ∙ placed_in-some c.args.file.now ns p (get path_cmp c.args.files.now p) among
 
 pub returns-clause-kept : goal.returns-clause-kept
 returns-clause-kept c = λ p away.
     let i = c.loop-placing.placing-index in
     let ns = c.args.placings.now in
-    ap (λ left. placed_in left p (get path_cmp c.loop-placing.files p)) (sym (drop_all i ns c.loop-placing-test.false))
+    ap (λ left. placed_in c.args.file.now left p (get path_cmp c.loop-placing.files p)) (sym (drop_all i ns c.loop-placing-test.false))
     ∙ c.loop-placing.invariant.placed p
-    ∙ placed_in-none ns p (get path_cmp c.args.files.now p) away
+    ∙ placed_in-none c.args.file.now ns p (get path_cmp c.args.files.now p) away

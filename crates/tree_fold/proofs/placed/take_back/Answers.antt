@@ -13,6 +13,6 @@ loop-placing-preserved c =
     let ns = c.args.placings.now in
     let later = drop (i + 1) ns in
     record {
-      taken = λ p. taken-more n later (drop i ns) p (get path_cmp c.loop-placing.files p) (get path_cmp c.remove.new.self p) _ (drop_more ns i n c.loop-placing-test.true ∙ ap (λ n. n ∷ later) (sym c.placing-item.is)) (get-updates c.loop-placing.files c.remove.new.self n.path.now None c.remove.ensures.updates p) (c.loop-placing.invariant.taken p);
+      taken = λ p. taken-more n later (drop i ns) p (get path_cmp c.loop-placing.files p) (get path_cmp c.remove.new.self p) _ (drop_more ns i n c.loop-placing-test.true ∙ ap (λ n. n ∷ later) (sym c.placing-item.is)) (get-updates c.loop-placing.files c.remove.new.self n.now None c.remove.ensures.updates p) (c.loop-placing.invariant.taken p);
       ordered = c.remove.ensures.ordered;
     }

@@ -2,7 +2,7 @@ use Rattle.std.proofs.Common.{◌≡◌, ◌-◌, None}
 use Rattle.std.specs.Option.{option_copied}
 use Rattle.manifest_model.specs.NodeReading.{one_unode_entry, entries}
 use Rattle.unode.specs.Parts.{children_seen}
-use Rattle.node_fields.proofs.Entries.{with_front}
+use Rattle.byte_fields.proofs.Run.{with_front}
 use Rattle.unode.proofs.reading.entries_at.Given as goal
 
 abbrev pub invariant-loop : goal.invariant-loop

@@ -2,7 +2,7 @@ use Rattle.std.proofs.Common.{length, arith, refl, sym, subst, true, false}
 use Rattle.std.proofs.lemmas.List.{length-replicate}
 use Rattle.disk_model.specs.Images.{Syncs}
 use Rattle.blob_disk.specs.Memory.{disk_of, IsGood}
-use Rattle.blob_disk.specs.Calls.{DidBy}
+use Rattle.disk_model.specs.Calls.{DidBy}
 use Rattle.blob_disk.specs.declared.call_kind.CallKind.TheVariants.{Sync}
 use Rattle.blob_disk.proofs.Memories.{synced_did, good_holding_all}
 use Rattle.blob_disk.proofs.Moments.{kept_same, kept_moved, only_moved, agrees_moved, same_counted, same_failed}

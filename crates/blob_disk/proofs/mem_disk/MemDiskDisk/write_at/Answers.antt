@@ -2,7 +2,7 @@ use Rattle.std.proofs.Common.{◌≡◌, ◌+◌, ◌≤◌, true, false, length
 use Rattle.disk_model.specs.Images.{Writes}
 use Rattle.disk_model.proofs.Crashes.{write_at_len}
 use Rattle.blob_disk.specs.Memory.{disk_of, IsGood}
-use Rattle.blob_disk.specs.Calls.{DidBy}
+use Rattle.disk_model.specs.Calls.{DidBy}
 use Rattle.blob_disk.specs.declared.call_kind.CallKind.TheVariants.{Write}
 use Rattle.blob_disk.proofs.Memories.{refused_did, tore_did, wrote_did, tore_is, tore_len, good_tore, good_wrote, reaches}
 use Rattle.blob_disk.proofs.Moments.{kept_same, kept_moved, only_moved, agrees_moved, same_counted, same_failed}

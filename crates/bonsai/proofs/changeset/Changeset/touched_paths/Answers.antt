@@ -12,5 +12,5 @@ returns-clause-edits c =
 pub returns-clause-touched : goal.returns-clause-touched
 returns-clause-touched c =
     let f = fields_view c.self.inside.fields in
-    let touched = sym (touched_paths_are f (changes_rise f c.self.invariant)) ∙ ap (λ m. touched_paths (m ∷ [])) c.self.view_is in
+    let touched = sym (touched_paths_are f (changes_rise f c.self.invariant.rules)) ∙ ap (λ m. touched_paths (m ∷ [])) c.self.view_is in
     if_ok _ _ c.paths_of.result (λ paths h. h ∙ ap (map (λ e. e.path)) c.as_slice.ensures.value ∙ paths_view c.self.inside.fields.edits.items ∙ touched) c.paths_of.ensures

@@ -2,15 +2,16 @@ use Rattle.std.proofs.Common.{sym, ap, ◌∙◌, arith, option_map}
 use Rattle.changeset_store.specs.Fork.{fork_between}
 use Rattle.changeset_store.proofs.Stored.{are_known, members}
 use Rattle.changeset_store.proofs.Forks.{value_below, fork_is, is_fork}
+use Rattle.changeset_store.specs.Shared.{values}
 use Rattle.changeset_store.proofs.store.ChangesetStore.fork.Goals as goal
 
 pub nearest-requires-clause-a_known : goal.nearest-requires-clause-a_known
 nearest-requires-clause-a_known c =
-    omega (arith, value_below c.number_of.result c.unwrap-head.result _ c.unwrap-head.ensures c.number_of.ensures.in_range, members c.self.inside.commits.items c.self.invariant _ (ap (λ s. s.known) c.self.view_is))
+    omega (arith, value_below c.number_of.result c.unwrap-head.result _ c.unwrap-head.ensures c.number_of.ensures.in_range, members (values c.self.inside.commits.items) c.self.invariant _ (ap (λ s. s.known) c.self.view_is))
 
 pub nearest-requires-clause-b_known : goal.nearest-requires-clause-b_known
 nearest-requires-clause-b_known c =
-    omega (arith, value_below c.number_of-2.result c.unwrap-draft.result _ c.unwrap-draft.ensures c.number_of-2.ensures.in_range, members c.self.inside.commits.items c.self.invariant _ (ap (λ s. s.known) c.self.view_is))
+    omega (arith, value_below c.number_of-2.result c.unwrap-draft.result _ c.unwrap-draft.ensures c.number_of-2.ensures.in_range, members (values c.self.inside.commits.items) c.self.invariant _ (ap (λ s. s.known) c.self.view_is))
 
 pub returns-in_err-root-clause-fork : goal.returns-in_err-root-clause-fork
 returns-in_err-root-clause-fork c =
@@ -18,7 +19,7 @@ returns-in_err-root-clause-fork c =
     let a = c.unwrap-head.result in
     let b = c.unwrap-draft.result in
     ap (option_map (fork_between ks)) c.from_residual.ensures
-    ∙ sym (fork_is ks c.self.inside.chain.parents (are_known c.self.inside.commits.items c.self.invariant _ (ap (λ s. s.known) c.self.view_is)) c.args.head.now.0 c.args.draft.now.0 a b (sym c.number_of.ensures.number ∙ c.unwrap-head.ensures) (sym c.number_of-2.ensures.number ∙ c.unwrap-draft.ensures)
+    ∙ sym (fork_is ks c.self.inside.chain.parents (are_known (values c.self.inside.commits.items) c.self.invariant _ (ap (λ s. s.known) c.self.view_is)) c.args.head.now c.args.draft.now a b (sym c.number_of.ensures.number ∙ c.unwrap-head.ensures) (sym c.number_of-2.ensures.number ∙ c.unwrap-draft.ensures)
     ∙ ap (option_map (λ r. fork_between ks (record { root = r; head = a; draft = b }))) (sym c.nearest.ensures.nearest ∙ c.in_err-root.was))
 
 pub returns-clause-fork : goal.returns-clause-fork
@@ -26,12 +27,12 @@ returns-clause-fork c =
     let ks = c.args.self.now.known in
     let a = c.unwrap-head.result in
     let b = c.unwrap-draft.result in
-    sym (fork_is ks c.self.inside.chain.parents (are_known c.self.inside.commits.items c.self.invariant _ (ap (λ s. s.known) c.self.view_is)) c.args.head.now.0 c.args.draft.now.0 a b (sym c.number_of.ensures.number ∙ c.unwrap-head.ensures) (sym c.number_of-2.ensures.number ∙ c.unwrap-draft.ensures)
+    sym (fork_is ks c.self.inside.chain.parents (are_known (values c.self.inside.commits.items) c.self.invariant _ (ap (λ s. s.known) c.self.view_is)) c.args.head.now c.args.draft.now a b (sym c.number_of.ensures.number ∙ c.unwrap-head.ensures) (sym c.number_of-2.ensures.number ∙ c.unwrap-draft.ensures)
     ∙ ap (option_map (λ r. fork_between ks (record { root = r; head = a; draft = b }))) (sym c.nearest.ensures.nearest ∙ c.in_ok-root.was))
 
 pub returns-clause-is_fork : goal.returns-clause-is_fork
 returns-clause-is_fork c =
-    is_fork c.args.self.now.known c.self.inside.chain.parents (are_known c.self.inside.commits.items c.self.invariant _ (ap (λ s. s.known) c.self.view_is)) c.unwrap-head.result c.unwrap-draft.result c.in_ok-root.root c.nearest.result c.in_ok-root.was
+    is_fork c.args.self.now.known c.self.inside.chain.parents (are_known (values c.self.inside.commits.items) c.self.invariant _ (ap (λ s. s.known) c.self.view_is)) c.unwrap-head.result c.unwrap-draft.result c.in_ok-root.root c.nearest.result c.in_ok-root.was
     (value_below c.number_of.result c.unwrap-head.result _ c.unwrap-head.ensures c.number_of.ensures.in_range)
     (value_below c.number_of-2.result c.unwrap-draft.result _ c.unwrap-draft.ensures c.number_of-2.ensures.in_range)
     c.nearest.ensures.of_a c.nearest.ensures.of_b

@@ -11,36 +11,36 @@ invariant_of-self-then-waiting-end c =
     let before = c.self.invariant in
     let waiting = waiting_is c.as_slice.result.now c.self.inside.bytes.items c.args.self.now c.self.inside.start c.as_slice.ensures.value c.self.view_is in
     let good = c.in-Head.ensures in
-    let awaits : List ℕ → Type 0 = λ bs. Awaits bs (c.in-Head.len + c.in-Head.demand.body) in
+    let awaits : List ℕ → Type 0 = λ bs. Awaits bs (c.in-Head.len + c.in-Head.framing.body) in
     record {
       start = before.start;
       room = before.room;
-      headers = rewritten_len c.self.inside.headers.len c.look.new.headers c.self.inside.headers.items (c.look.auto.headers ∙ c.as_mut_slice.ensures.len) (sym (ap length c.as_mut_slice.ensures.value) ∙ c.as_mut_slice.ensures.len) ∙ sym c.as_mut_slice.ensures.len ∙ ap length c.as_mut_slice.ensures.value ∙ before.headers;
+      headers = rewritten_len c.self.inside.headers.len c.read_head.new.headers c.self.inside.headers.items (c.read_head.auto.headers ∙ c.as_mut_slice.ensures.len) (sym (ap length c.as_mut_slice.ensures.value) ∙ c.as_mut_slice.ensures.len) ∙ sym c.as_mut_slice.ensures.len ∙ ap length c.as_mut_slice.ensures.value ∙ before.headers;
       scanned = before.scanned;
       none = before.none;
-      awaits = subst awaits (waiting ∙ sym c.self.view_is) (good_awaits _ c.in-Head.len c.in-Head.spans c.in-Head.demand (ap model.skip_blank waiting ∙ c.requires ∙ sym waiting) good);
-      most = let head = good.fits in let body = good.demands.most in omega arith;
+      awaits = subst awaits (waiting ∙ sym c.self.view_is) (good_awaits _ c.in-Head.len c.in-Head.spans c.in-Head.framing (ap model.skip_blank waiting ∙ c.requires ∙ sym waiting) good);
+      most = let head = good.fits in let body = good.frames.most in omega arith;
     }
 
 pub returns-then-waiting-end-clause-need_more : goal.returns-then-waiting-end-clause-need_more
 returns-then-waiting-end-clause-need_more c =
     let waiting = waiting_is c.as_slice.result.now c.self.inside.bytes.items c.args.self.now c.self.inside.start c.as_slice.ensures.value c.self.view_is in
     let P : List ℕ → Type 0 = λ bs. Stands bs (Partial (length bs)) in
-    subst P waiting (good_partial _ c.in-Head.len c.in-Head.spans c.in-Head.demand c.in-Head.ensures c.if-waiting-end.true)
+    subst P waiting (good_partial _ c.in-Head.len c.in-Head.spans c.in-Head.framing c.in-Head.ensures c.if-waiting-end.true)
 
 abbrev waiting_bytes : goal.After-self-in-Head-3-1 → List ℕ
 waiting_bytes c = take (length c.as_slice.result.now - c.self.inside.start) (drop c.self.inside.start c.as_slice.result.now)
 
 abbrev asked : goal.After-self-in-Head-3-1 → model.Request
-asked c = request_at (take c.in-Head.len (waiting_bytes c)) c.in-Head.spans c.in-Head.demand.close (take ((c.in-Head.len + c.in-Head.demand.body) - c.in-Head.len) (drop c.in-Head.len (waiting_bytes c)))
+asked c = request_at (take c.in-Head.len (waiting_bytes c)) c.in-Head.spans c.in-Head.framing.close (take ((c.in-Head.len + c.in-Head.framing.body) - c.in-Head.len) (drop c.in-Head.len (waiting_bytes c)))
 
 abbrev left : goal.After-self-in-Head-3-1 → List ℕ
-left c = drop (c.self.inside.start + (c.in-Head.len + c.in-Head.demand.body)) c.self.inside.bytes.items
+left c = drop (c.self.inside.start + (c.in-Head.len + c.in-Head.framing.body)) c.self.inside.bytes.items
 
 whole : (c : goal.After-self-in-Head-3-1) → Stands c.args.self.now (Whole (asked c) (left c))
 whole c =
     let waiting = waiting_is c.as_slice.result.now c.self.inside.bytes.items c.args.self.now c.self.inside.start c.as_slice.ensures.value c.self.view_is in
-    whole_at _ c.args.self.now c.self.inside.bytes.items c.self.inside.start c.in-Head.len c.in-Head.spans c.in-Head.demand waiting c.self.view_is c.in-Head.ensures c.if-waiting-end.false
+    whole_at _ c.args.self.now c.self.inside.bytes.items c.self.inside.start c.in-Head.len c.in-Head.spans c.in-Head.framing waiting c.self.view_is c.in-Head.ensures c.if-waiting-end.false
 
 pub returns-else-waiting-end-clause-message : goal.returns-else-waiting-end-clause-message
 returns-else-waiting-end-clause-message c =

@@ -10,15 +10,15 @@ node_bytes n = n.items
 
 pub returns-in-Some-clause-found : goal.returns-in-Some-clause-found
 returns-in-Some-clause-found c =
-    ap (λ n. Some n) c.as_slice.ensures.value ∙ ap (option_map node_bytes) c.in-Some.ensures.value ∙ sym (got c.self.inside.nodes.entries c.args.id.now) ∙ ap (λ m. map.get m c.args.id.now.0) c.self.view_is
+    ap (λ n. Some n) c.as_slice.ensures.value ∙ ap (option_map node_bytes) c.in-Some.ensures.value ∙ sym (got c.self.inside.nodes.entries c.args.id.now) ∙ ap (λ m. map.get m c.args.id.now) c.self.view_is
 
 pub returns-in-Some-clause-digest : goal.returns-in-Some-clause-digest
 returns-in-Some-clause-digest c =
-    c.self.invariant c.args.id.now.0 c.as_slice.result.now (got c.self.inside.nodes.entries c.args.id.now ∙ sym (ap (λ n. Some n) c.as_slice.ensures.value ∙ ap (option_map node_bytes) c.in-Some.ensures.value))
+    c.self.invariant c.args.id.now c.as_slice.result.now (got c.self.inside.nodes.entries c.args.id.now ∙ sym (ap (λ n. Some n) c.as_slice.ensures.value ∙ ap (option_map node_bytes) c.in-Some.ensures.value))
 
 pub returns-in-None-clause-found : goal.returns-in-None-clause-found
 returns-in-None-clause-found c =
-    ap (option_map node_bytes) c.in-None.ensures.value ∙ sym (got c.self.inside.nodes.entries c.args.id.now) ∙ ap (λ m. map.get m c.args.id.now.0) c.self.view_is
+    ap (option_map node_bytes) c.in-None.ensures.value ∙ sym (got c.self.inside.nodes.entries c.args.id.now) ∙ ap (λ m. map.get m c.args.id.now) c.self.view_is
 
 pub returns-in-Some-clause-digests : goal.returns-in-Some-clause-digests
 returns-in-Some-clause-digests c = subst AreDigests c.self.view_is c.self.invariant

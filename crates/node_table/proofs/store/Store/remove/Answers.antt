@@ -9,7 +9,7 @@ use Rattle.node_table.proofs.store.Store.remove.Goals as goal
 pub invariant_of-self : goal.invariant_of-self
 invariant_of-self c =
     let old = c.self.inside.nodes.entries in
-    subst AreDigests (sym (was_removed old c.remove.new.self.entries c.args.id.now c.remove.ensures.updates.0)) (digests-remove (nodes_of_entries old) c.args.id.now.0 c.self.invariant)
+    subst AreDigests (sym (was_removed old c.remove.new.self.entries c.args.id.now c.remove.ensures.updates.0)) (digests-remove (nodes_of_entries old) c.args.id.now c.self.invariant)
 
 pub returns : goal.returns
-returns c = was_removed c.self.inside.nodes.entries c.remove.new.self.entries c.args.id.now c.remove.ensures.updates.0 ∙ ap (λ m. map.remove m c.args.id.now.0) c.self.view_is
+returns c = was_removed c.self.inside.nodes.entries c.remove.new.self.entries c.args.id.now c.remove.ensures.updates.0 ∙ ap (λ m. map.remove m c.args.id.now) c.self.view_is

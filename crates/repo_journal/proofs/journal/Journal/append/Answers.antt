@@ -29,3 +29,10 @@ returns-in-Err-clause-crash g c = λ honest.
     let view = ap (λ v. v.size) c.self.view_is in
     let place : c.self.inside.size - 1 + 1 ≡ c.args.self.now.size = omega arith in
     subst (λ s. AllClosed s (g.D.Disk.meaning c.args.disk.now).state → Appends s (payload_in c.args.frame.now) (g.D.Disk.meaning c.args.disk.now) (g.D.Disk.meaning c.seal.new.disk)) place (c.in-Err.ensures.crash honest))
+
+pub returns-in-Ok-clause-crash : goal.returns-in-Ok-clause-crash
+returns-in-Ok-clause-crash g c = λ honest.
+    (let least = c.self.invariant.least in
+    let view = ap (λ v. v.size) c.self.view_is in
+    let place : c.self.inside.size - 1 + 1 ≡ c.args.self.now.size = omega arith in
+    subst (λ s. AllClosed s (g.D.Disk.meaning c.args.disk.now).state → Appends s (payload_in c.args.frame.now) (g.D.Disk.meaning c.args.disk.now) (g.D.Disk.meaning c.seal.new.disk)) place (c.in-Ok.ensures.crash honest))

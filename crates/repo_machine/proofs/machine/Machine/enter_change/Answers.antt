@@ -1,48 +1,36 @@
-use Rattle.std.proofs.Common.{length, refl, sym, ap, ◌∙◌, ◌++◌, ◌∷◌, []}
-use Rattle.history_model.specs.History as history
-use Rattle.changeset_model.specs.Changeset.{id_of}
-use Rattle.history_model.specs.History.{with_id, known, is_known, content_len}
+use Rattle.std.proofs.Common.{refl, sym, ap, ◌∙◌, ◌++◌, ◌∷◌, [], arith}
+use Rattle.std.specs.Arc.{arc_value}
 use Rattle.byte_fields.proofs.Lists.{option_or-None}
+use Rattle.changeset_model.specs.Changeset.{id_of}
+use Rattle.history_model.specs.History.{Change, with_id, known, is_known, content_len}
+use Rattle.reply_model.specs.After.{entry_by}
+use Rattle.repo_machine.specs.Held.{repository}
 use Rattle.repo_machine.specs.Records.{history_of}
 use Rattle.repo_machine.proofs.Within.{history_uploaded, within_uploaded}
 use Rattle.repo_machine.proofs.Growing.{known-change, head-push, content_len-push}
-use Rattle.repo_machine.proofs.Entering.{enters_full, enters_nothing_as, enters_made_as, legal_as, indexes_as}
+use Rattle.repo_machine.proofs.Entered.{enterable_as, legal_grown, indexes_grown, places_stay}
+use Rattle.repo_machine.proofs.Kept.{kept_grown}
 use Rattle.repo_machine.proofs.machine.Machine.enter_change.Goals as goal
 
-pub returns-in_err-size-clause-reply : goal.returns-in_err-size-clause-reply
-returns-in_err-size-clause-reply c =
-    enters_full c.args.self.now.header c.args.self.now.history c.args.who (history.Change c.args.commit) _ _ c.from_residual.result c.from_residual.ensures.1 c.in_err-size.ensures.err.0 c.in_err-size.ensures.err.1 c.encoded_length.ensures
-
-pub returns-in_err-try_reserve-clause-reply : goal.returns-in_err-try_reserve-clause-reply
-returns-in_err-try_reserve-clause-reply c =
-    enters_nothing_as c.self.invariant.1 c.args.self.now c.self.view_is c.args.who (history.Change c.args.commit) _ _ c.from_residual-in_err-try_reserve.ensures.1 (ap (history_of c.self.inside.changesets.known) c.try_reserve.ensures.items)
-
-pub returns-in_err-reserve-clause-reply : goal.returns-in_err-reserve-clause-reply
-returns-in_err-reserve-clause-reply c =
-    enters_nothing_as c.self.invariant.1 c.args.self.now c.self.view_is c.args.who (history.Change c.args.commit) _ _ c.from_residual-in_err-reserve.ensures.1 (λ i. history_of (c.reserve.ensures.known i) (c.try_reserve.ensures.items i))
-
-pub returns-clause-reply : goal.returns-clause-reply
-returns-clause-reply c =
-    enters_made_as c.self.invariant.1 c.args.self.now c.self.view_is c.args.who (history.Change c.args.commit) _ _ c.in_ok-size.ensures.ok.0 c.in_ok-size.ensures.ok.1 c.encoded_length.ensures _
-    (history_uploaded c.self.inside.changesets.known c.self.inside.entries.items c.self.invariant.0 _ c.try_reserve.ensures.items c.args.who _ c.args.commit (c.add-number.ensures.number ∙ ap length c.reserve.ensures.known) _ c.push_reserved.ensures.items _ (c.add-number.ensures.known ∙ ap (λ ks. ks ++ with_id c.args.commit ∷ []) c.reserve.ensures.known))
+pub returns-clause-history : goal.returns-clause-history
+returns-clause-history c = history_uploaded c.self.inside.changesets.known c.self.inside.entries.items c.self.invariant.0 _ refl c.args.who _ (arc_value c.args.commit) c.add-number.ensures.number _ c.push_reserved-2.ensures.items _ c.add-number.ensures.known ∙ ap (λ v. v.history ++ entry_by c.args.who (Change (arc_value c.args.commit)) ∷ []) c.self.view_is
 
 pub returns-clause-legal : goal.returns-clause-legal
 returns-clause-legal c =
-    legal_as c.self.invariant.1 c.args.self.now c.self.view_is c.args.who (history.Change c.args.commit) _ _ c.in_ok-size.ensures.ok.0 c.in_ok-size.ensures.ok.1 c.encoded_length.ensures _
-    (history_uploaded c.self.inside.changesets.known c.self.inside.entries.items c.self.invariant.0 _ c.try_reserve.ensures.items c.args.who _ c.args.commit (c.add-number.ensures.number ∙ ap length c.reserve.ensures.known) _ c.push_reserved.ensures.items _ (c.add-number.ensures.known ∙ ap (λ ks. ks ++ with_id c.args.commit ∷ []) c.reserve.ensures.known))
-    c.requires.made refl
+    legal_grown c.self.invariant.1 c.args.who (Change (arc_value c.args.commit)) (enterable_as (repository c.args.self.now) (Change (arc_value c.args.commit)) (ap repository c.self.view_is) c.requires.can) refl _ (history_uploaded c.self.inside.changesets.known c.self.inside.entries.items c.self.invariant.0 _ refl c.args.who _ (arc_value c.args.commit) c.add-number.ensures.number _ c.push_reserved-2.ensures.items _ c.add-number.ensures.known)
 
-pub invariant_of-self-2 : goal.invariant_of-self-2
-invariant_of-self-2 c =
+pub invariant_of-self : goal.invariant_of-self
+invariant_of-self c =
     let h = history_of c.self.inside.changesets.known c.self.inside.entries.items in
     let k = c.self.invariant.1 in
-    let number_is = c.add-number.ensures.number ∙ ap length c.reserve.ensures.known in
-    let added = c.add-number.ensures.known ∙ ap (λ ks. ks ++ with_id c.args.commit ∷ []) c.reserve.ensures.known in (
-      within_uploaded c.self.inside.changesets.known c.self.inside.entries.items c.self.invariant.0 _ c.try_reserve.ensures.items c.args.who _ c.args.commit number_is _ c.push_reserved.ensures.items _ added,
-      indexes_as k c.args.self.now c.self.view_is c.args.who (history.Change c.args.commit) _ _ c.in_ok-size.ensures.ok.0 c.in_ok-size.ensures.ok.1 c.encoded_length.ensures _
-          (history_uploaded c.self.inside.changesets.known c.self.inside.entries.items c.self.invariant.0 _ c.try_reserve.ensures.items c.args.who _ c.args.commit number_is _ c.push_reserved.ensures.items _ added)
-          c.requires.made refl _ _ _
-          (added ∙ ap (λ ks. ks ++ with_id c.args.commit ∷ []) k.known_are ∙ sym (known-change h c.args.who c.args.commit (ap (λ r. is_known (known r.history) (id_of c.args.commit)) c.self.view_is ∙ c.requires.new)))
-          (λ name. k.heads_are name ∙ sym (head-push h c.args.who (history.Change c.args.commit) name))
-          (λ y. k.lengths_are y ∙ sym (content_len-push h c.args.who (history.Change c.args.commit) y ∙ option_or-None (content_len h y))),
+    let can = enterable_as (repository c.args.self.now) (Change (arc_value c.args.commit)) (ap repository c.self.view_is) c.requires.can in
+    let grows = history_uploaded c.self.inside.changesets.known c.self.inside.entries.items c.self.invariant.0 _ refl c.args.who _ (arc_value c.args.commit) c.add-number.ensures.number _ c.push_reserved-2.ensures.items _ c.add-number.ensures.known in (
+      within_uploaded c.self.inside.changesets.known c.self.inside.entries.items c.self.invariant.0 _ refl c.args.who _ (arc_value c.args.commit) c.add-number.ensures.number _ c.push_reserved-2.ensures.items _ c.add-number.ensures.known,
+      indexes_grown k c.args.who (Change (arc_value c.args.commit)) can refl _ grows _ _ _ _
+          (c.add-number.ensures.known ∙ ap (λ ks. ks ++ with_id (arc_value c.args.commit) ∷ []) k.known_are ∙ sym (known-change h c.args.who (arc_value c.args.commit) can.new.0))
+          (λ name. k.heads_are name ∙ sym (head-push h c.args.who (Change (arc_value c.args.commit)) name))
+          (λ y. k.lengths_are y ∙ sym (content_len-push h c.args.who (Change (arc_value c.args.commit)) y ∙ option_or-None (content_len h y)))
+          (omega (arith, c.requires.length)),
+      places_stay h (entry_by c.args.who (Change (arc_value c.args.commit))) _ c.self.invariant.2 _ grows,
+      kept_grown c.self.inside.entries.items _ c.self.invariant.3 _ _ c.push_reserved-2.ensures.items refl _ (omega (arith, c.len.ensures)) _ c.push_reserved.ensures.items,
     )

@@ -1,47 +1,33 @@
-use Rattle.std.proofs.Common.{refl, sym, ap, ◌∙◌}
-use Rattle.history_model.specs.History.{Book, content_len}
-use Rattle.repo_events.specs.Entries.{move_of}
+use Rattle.std.proofs.Common.{cond, refl, sym, ap, ◌∙◌, arith}
+use Rattle.std.specs.Prelude.{bytes_eq}
 use Rattle.byte_fields.proofs.Lists.{option_or-None}
-use Rattle.reply_model.specs.Reply.{SetBookmark, BookmarkSet}
-use Rattle.repo_machine.specs.Answering.{id_seen}
+use Rattle.history_model.specs.History.{Book, content_len}
+use Rattle.reply_model.specs.After.{entry_by}
+use Rattle.repo_events.specs.Entries.{move_of}
+use Rattle.repo_machine.specs.Held.{repository}
 use Rattle.repo_machine.specs.Records.{history_of}
 use Rattle.repo_machine.proofs.Within.{history_pushed_same, within_pushed_same}
 use Rattle.repo_machine.proofs.Growing.{known-move, head-move, heads_set, content_len-push}
-use Rattle.repo_machine.proofs.Entering.{enters_full, enters_nothing_as, enters_made_as, legal_as, indexes_as}
+use Rattle.repo_machine.proofs.Entered.{enterable_as, legal_grown, indexes_grown, places_stay}
+use Rattle.repo_machine.proofs.Kept.{kept_grown}
 use Rattle.repo_machine.proofs.machine.Machine.enter_move.Goals as goal
-
-pub returns-in_err-size-clause-reply : goal.returns-in_err-size-clause-reply
-returns-in_err-size-clause-reply c =
-    enters_full c.args.self.now.header c.args.self.now.history c.args.who (Book (move_of c.args.movement)) _ _ c.from_residual.result c.from_residual.ensures.1 c.in_err-size.ensures.err.0 c.in_err-size.ensures.err.1 c.move_length.ensures.length
-
-pub returns-in_err-try_reserve-clause-reply : goal.returns-in_err-try_reserve-clause-reply
-returns-in_err-try_reserve-clause-reply c =
-    enters_nothing_as c.self.invariant.1 c.args.self.now c.self.view_is c.args.who (Book (move_of c.args.movement)) _ _ c.from_residual-in_err-try_reserve.ensures.1 (ap (history_of c.self.inside.changesets.known) c.try_reserve.ensures.items)
-
-pub returns-in_err-set_head-clause-reply : goal.returns-in_err-set_head-clause-reply
-returns-in_err-set_head-clause-reply c =
-    enters_nothing_as c.self.invariant.1 c.args.self.now c.self.view_is c.args.who (Book (move_of c.args.movement)) _ _ c.from_residual-in_err-set_head.ensures.1 (ap (history_of c.self.inside.changesets.known) c.try_reserve.ensures.items)
-
-pub returns-clause-reply : goal.returns-clause-reply
-returns-clause-reply c =
-    enters_made_as c.self.invariant.1 c.args.self.now c.self.view_is c.args.who (Book (move_of c.args.movement)) _ _ c.in_ok-size.ensures.ok.0 c.in_ok-size.ensures.ok.1 c.move_length.ensures.length _
-    (history_pushed_same c.self.inside.changesets.known c.self.inside.entries.items c.self.invariant.0 _ _ c.try_reserve.ensures.items _ c.push_reserved.ensures.items)
 
 pub returns-clause-legal : goal.returns-clause-legal
 returns-clause-legal c =
-    legal_as c.self.invariant.1 c.args.self.now c.self.view_is c.args.who (Book (move_of c.args.movement)) _ _ c.in_ok-size.ensures.ok.0 c.in_ok-size.ensures.ok.1 c.move_length.ensures.length _
-    (history_pushed_same c.self.inside.changesets.known c.self.inside.entries.items c.self.invariant.0 _ _ c.try_reserve.ensures.items _ c.push_reserved.ensures.items)
-    (record { ask = SetBookmark c.args.movement.name (id_seen c.args.movement.from) (id_seen c.args.movement.to); granted = BookmarkSet; asks = c.move_length.ensures.rules; judged = c.requires }) refl
+    legal_grown c.self.invariant.1 c.args.who (Book (move_of c.args.movement)) (enterable_as (repository c.args.self.now) (Book (move_of c.args.movement)) (ap repository c.self.view_is) c.requires.can) refl _ (history_pushed_same c.self.inside.changesets.known c.self.inside.entries.items c.self.invariant.0 _ _ refl _ c.push_reserved-2.ensures.items)
 
-pub invariant_of-self-2 : goal.invariant_of-self-2
-invariant_of-self-2 c = (
-  within_pushed_same c.self.inside.changesets.known c.self.inside.entries.items c.self.invariant.0 _ _ c.try_reserve.ensures.items _ c.push_reserved.ensures.items tt,
-  (let h = history_of c.self.inside.changesets.known c.self.inside.entries.items in
-      let k = c.self.invariant.1 in
-      indexes_as k c.args.self.now c.self.view_is c.args.who (Book (move_of c.args.movement)) _ _ c.in_ok-size.ensures.ok.0 c.in_ok-size.ensures.ok.1 c.move_length.ensures.length _
-      (history_pushed_same c.self.inside.changesets.known c.self.inside.entries.items c.self.invariant.0 _ _ c.try_reserve.ensures.items _ c.push_reserved.ensures.items)
-      (record { ask = SetBookmark c.args.movement.name (id_seen c.args.movement.from) (id_seen c.args.movement.to); granted = BookmarkSet; asks = c.move_length.ensures.rules; judged = c.requires }) refl _ _ _
-      (k.known_are ∙ sym (known-move h c.args.who (move_of c.args.movement)))
-      (λ name. heads_set _ _ h c.args.movement.name c.args.movement.to k.heads_are c.in_ok-set_head.ensures.ok.0 name ∙ sym (head-move h c.args.who (move_of c.args.movement) name))
-      (λ y. k.lengths_are y ∙ sym (content_len-push h c.args.who (Book (move_of c.args.movement)) y ∙ option_or-None (content_len h y)))),
-)
+pub invariant_of-self : goal.invariant_of-self
+invariant_of-self c =
+    let h = history_of c.self.inside.changesets.known c.self.inside.entries.items in
+    let k = c.self.invariant.1 in
+    let can = enterable_as (repository c.args.self.now) (Book (move_of c.args.movement)) (ap repository c.self.view_is) c.requires.can in
+    let grows = history_pushed_same c.self.inside.changesets.known c.self.inside.entries.items c.self.invariant.0 _ _ refl _ c.push_reserved-2.ensures.items in (
+      within_pushed_same c.self.inside.changesets.known c.self.inside.entries.items c.self.invariant.0 _ _ refl _ c.push_reserved-2.ensures.items tt,
+      indexes_grown k c.args.who (Book (move_of c.args.movement)) can refl _ grows _ _ _ _
+          (k.known_are ∙ sym (known-move h c.args.who (move_of c.args.movement)))
+          (λ name. heads_set _ _ h c.args.movement.name c.args.movement.to k.heads_are c.set_head.ensures.0 name ∙ sym (head-move h c.args.who (move_of c.args.movement) name))
+          (λ y. k.lengths_are y ∙ sym (content_len-push h c.args.who (Book (move_of c.args.movement)) y ∙ option_or-None (content_len h y)))
+          (omega (arith, c.requires.length)),
+      places_stay h (entry_by c.args.who (Book (move_of c.args.movement))) _ c.self.invariant.2 _ grows,
+      kept_grown c.self.inside.entries.items _ c.self.invariant.3 _ _ c.push_reserved-2.ensures.items refl _ (omega (arith, c.len.ensures)) _ c.push_reserved.ensures.items,
+    )

@@ -1,27 +1,37 @@
-use Rattle.std.proofs.Common.{map, refl, sym, ap, subst, ◌∙◌}
+use Rattle.std.proofs.Common.{◌++◌, length, refl, sym, ap, subst, ◌∙◌, arith}
+use Rattle.std.proofs.lemmas.List.{length-map}
 use Rattle.changeset_model.specs.Changeset.{id_of}
-use Rattle.reply_model.specs.Reply.{LandDraft, Landed}
 use Rattle.reply_model.specs.Legal.{IsLegal}
-use Rattle.repo_events.specs.Entries.{landing_of}
-use Rattle.repo_machine.specs.Answering.{landing_answer}
-use Rattle.repo_machine.proofs.Entering.{no_memory, passes_on}
-use Rattle.repo_machine.proofs.LandingEntry.{answers_refusal}
 use Rattle.repo_machine.proofs.LandingLaws.{lands}
+use Rattle.repo_machine.proofs.LandingEntry.{old_landed, ids_landed}
+use Rattle.std.specs.Prelude.{None}
+use Rattle.reply_model.specs.Reply.{LandDraft}
+use Rattle.reply_model.specs.After.{Asks, Grants, Replies, entries_of}
+use Rattle.repo_calls.specs.Calls.{granted_seen, landing_answer}
+use Rattle.repo_machine.proofs.Judging.{answers_refusal, replies_admitted}
 use Rattle.repo_machine.proofs.machine.Machine.land.Goals as goal
 
-pub returns-in_err-landing-clause-reply : goal.returns-in_err-landing-clause-reply
-returns-in_err-landing-clause-reply c =
-    answers_refusal landing_answer (λ e. refl) c.args.self.now.header c.args.self.now.history c.args.who (LandDraft c.args.name.now c.args.draft.0) c.from_residual.result _ c.from_residual.ensures.1 c.in_err-landing.ensures.err
+pub returns-in_err-judged-clause-reply : goal.returns-in_err-judged-clause-reply
+returns-in_err-judged-clause-reply c =
+    answers_refusal landing_answer (λ e. refl) c.args.self.now.header c.args.self.now.history c.args.who (LandDraft c.args.name.now c.args.draft) c.from_residual.result _ c.judge_landing.new.self.history c.from_residual.ensures.1 c.in_err-judged.ensures.err c.judge_landing.ensures.history
 
-pub returns-in_err-ids-clause-reply : goal.returns-in_err-ids-clause-reply
-returns-in_err-ids-clause-reply c = no_memory landing_answer (λ e. refl) _ _ c.args.who _ c.from_residual-in_err-ids.result c.from_residual-in_err-ids.ensures.1
+pub returns-clause-reply : goal.returns-clause-reply
+returns-clause-reply c =
+    subst (λ g. Replies c.args.self.now.header c.args.self.now.history c.args.who (Asks (LandDraft c.args.name.now c.args.draft)) (Grants g) c.admit.new.self.history) (sym c.admit.ensures.granted ∙ ap granted_seen c.in-Landing.is)
+    (replies_admitted c.args.self.now.header c.args.self.now.history c.args.who (LandDraft c.args.name.now c.args.draft) c.in_ok-judged.judged c.admit.new.self.history c.in_ok-judged.ensures.ok.is_judged c.in_ok-judged.ensures.ok.by
+    (c.admit.ensures.history ∙ ap (λ h. h ++ entries_of c.in_ok-judged.judged.who (record { entry = c.in_ok-judged.judged.made; fault = None })) c.judge_landing.ensures.history))
 
-pub returns-in_err-enter_landing-clause-reply : goal.returns-in_err-enter_landing-clause-reply
-returns-in_err-enter_landing-clause-reply c =
-    passes_on landing_answer (λ e. refl) c.args.self.now.header c.args.self.now.history c.args.who _ _ (LandDraft c.args.name.now c.args.draft.0) (Landed c.in_ok-landing.landing.old.0 (map id_of c.in_ok-landing.landing.new.items)) _
-    c.from_residual-in_err-enter_landing.result c.from_residual-in_err-enter_landing.ensures.1 c.in_err-enter_landing.ensures.reply c.in_ok-landing.ensures.ok.judged
+pub returns-clause-few : goal.returns-clause-few
+returns-clause-few c =
+    let ids = ids_landed _ _ _ _ (sym c.in_ok-judged.ensures.lands.granted_is ∙ sym c.admit.ensures.granted ∙ ap granted_seen c.in-Landing.is) in
+    let long = ap length ids ∙ length-map c.in_ok-judged.ensures.lands.landing.new id_of in
+    let few = c.in_ok-judged.ensures.lands.able.few in
+    omega arith
 
 pub returns-clause-lands : goal.returns-clause-lands
 returns-clause-lands c =
-    lands c.args.self.now.header c.args.self.now.history c.args.who (landing_of c.in_ok-landing.landing) c.args.name.now c.args.draft.0 c.in_ok-landing.ensures.ok c.enter_landing.new.self.history c.in_ok-enter_landing.ensures.entered
-    (subst (λ header. IsLegal header c.enter_landing.new.self.history) c.enter_landing.ensures.header c.enter_landing.ensures.legal) c.in_ok-ids.ids.items (c.in_ok-ids.ensures ∙ ap (map id_of) c.as_slice.ensures.value)
+    let e = sym c.in_ok-judged.ensures.lands.granted_is ∙ sym c.admit.ensures.granted ∙ ap granted_seen c.in-Landing.is in
+    lands c.args.self.now.header c.args.self.now.history c.in_ok-judged.judged.who c.in_ok-judged.ensures.lands.landing c.args.name.now c.args.draft c.in_ok-judged.ensures.lands.able c.admit.new.self.history
+    (c.admit.ensures.history ∙ (λ i. c.judge_landing.ensures.history i ++ entries_of c.in_ok-judged.judged.who (record { entry = c.in_ok-judged.ensures.lands.made_is i; fault = None })))
+    (subst (λ header. IsLegal header c.admit.new.self.history) (c.admit.ensures.header ∙ c.judge_landing.ensures.header) c.admit.ensures.legal)
+    _ _ (old_landed _ _ _ _ e) (ids_landed _ _ _ _ e)

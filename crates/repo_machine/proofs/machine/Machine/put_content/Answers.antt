@@ -1,26 +1,17 @@
-use Rattle.std.proofs.Common.{refl, sym, ◌∙◌, arith}
-use Rattle.reply_model.specs.Reply.{PutContent, ContentPut}
-use Rattle.repo_machine.specs.Answering.{put_answer}
-use Rattle.repo_machine.proofs.Judging.{replies_unchanged}
-use Rattle.repo_machine.proofs.Putting.{judged_known, judged_new, can_put}
-use Rattle.repo_machine.proofs.Entering.{passes_on}
+use Rattle.std.proofs.Common.{◌++◌, refl, sym, ap, subst, ◌∙◌}
+use Rattle.std.specs.Prelude.{None}
+use Rattle.reply_model.specs.Reply.{PutContent}
+use Rattle.reply_model.specs.After.{Asks, Grants, Replies, entries_of}
+use Rattle.repo_calls.specs.Calls.{granted_seen, content_answer}
+use Rattle.repo_machine.proofs.Judging.{answers_refusal, replies_admitted}
 use Rattle.repo_machine.proofs.machine.Machine.put_content.Goals as goal
 
-pub returns-then-contains_key-clause-reply : goal.returns-then-contains_key-clause-reply
-returns-then-contains_key-clause-reply c =
-    replies_unchanged _ _ c.args.who (PutContent c.args.bytes.now) (ContentPut c.of-id.result.0)
-    (judged_known c.self.invariant.1 c.args.self.now c.self.view_is c.args.bytes.now c.of-id.result.0 c.of-id.ensures c.if-bytes-gt-MOST_CONTENT.false (sym c.contains_key.ensures ∙ c.if-contains_key.true))
-
-pub enter_content-requires-clause-made : goal.enter_content-requires-clause-made
-enter_content-requires-clause-made c =
-    can_put c.self.invariant.1 c.args.self.now c.self.view_is c.args.bytes.now c.of-id.result.0 c.of-id.ensures c.if-bytes-gt-MOST_CONTENT.false (sym c.contains_key.ensures ∙ c.if-contains_key.false) (λ i. omega (arith, c.type_inv.bytes i))
-
-pub returns-in_err-enter_content-clause-reply : goal.returns-in_err-enter_content-clause-reply
-returns-in_err-enter_content-clause-reply c =
-    passes_on put_answer (λ e. refl) _ _ c.args.who _ _ (PutContent c.args.bytes.now) (ContentPut c.of-id.result.0) _ c.from_residual.result c.from_residual.ensures.1 c.in_err-enter_content.ensures.reply
-    (judged_new c.self.invariant.1 c.args.self.now c.self.view_is c.args.bytes.now c.of-id.result.0 c.of-id.ensures c.if-bytes-gt-MOST_CONTENT.false (sym c.contains_key.ensures ∙ c.if-contains_key.false))
+pub returns-in_err-judged-clause-reply : goal.returns-in_err-judged-clause-reply
+returns-in_err-judged-clause-reply c =
+    answers_refusal content_answer (λ e. refl) c.args.self.now.header c.args.self.now.history c.args.who (PutContent c.args.bytes.now) c.from_residual.result _ c.judge_content.new.self.history c.from_residual.ensures.1 c.in_err-judged.ensures.err c.judge_content.ensures.history
 
 pub returns-clause-reply : goal.returns-clause-reply
 returns-clause-reply c =
-    c.in_ok-enter_content.ensures.reply.replies (PutContent c.args.bytes.now) (ContentPut c.of-id.result.0)
-    (judged_new c.self.invariant.1 c.args.self.now c.self.view_is c.args.bytes.now c.of-id.result.0 c.of-id.ensures c.if-bytes-gt-MOST_CONTENT.false (sym c.contains_key.ensures ∙ c.if-contains_key.false))
+    subst (λ g. Replies c.args.self.now.header c.args.self.now.history c.args.who (Asks (PutContent c.args.bytes.now)) (Grants g) c.admit.new.self.history) (sym c.admit.ensures.granted ∙ ap granted_seen c.in-Content.is)
+    (replies_admitted c.args.self.now.header c.args.self.now.history c.args.who (PutContent c.args.bytes.now) c.in_ok-judged.judged c.admit.new.self.history c.in_ok-judged.ensures.ok.is_judged c.in_ok-judged.ensures.ok.by
+    (c.admit.ensures.history ∙ ap (λ h. h ++ entries_of c.in_ok-judged.judged.who (record { entry = c.in_ok-judged.judged.made; fault = None })) c.judge_content.ensures.history))

@@ -6,7 +6,7 @@ use Rattle.tree_fold.proofs.Trees.{files-one-more, view_sorted, decided_view}
 use Rattle.tree_fold.proofs.tree.Tree.apply.Goals as goal
 
 pub apply_edits-requires-clause-apart : goal.apply_edits-requires-clause-apart
-apply_edits-requires-clause-apart c = subst IsApart (sym c.edits.ensures.edits) (apart_without_conflict c.args.change.now c.requires)
+apply_edits-requires-clause-apart c = subst IsApart (sym c.edits.ensures.edits) (apart_without_conflict c.args.change.now c.edits.ensures.apart)
 
 pub returns-clause-decided : goal.returns-clause-decided
 returns-clause-decided c = IfOk-weaker c.apply_edits.result _ _ (λ _ decided. decided_view c.self.inside.files c.apply_edits.new.files c.args.self.now c.args.change.now _ c.self.view_is c.edits.ensures.edits decided) c.apply_edits.ensures.decided

@@ -1,0 +1,48 @@
+-- The lines that the program writes.
+--     report_text report      the line
+--     status_of report      the status of a run that is reported so
+--     Reports report status written kept before after      the line is written, or a front of it where the count of faults rose, which is the status where nothing else is wrong
+use Rattle.std.specs.Prelude.{◌≡◌, ◌≢◌, ◌⊎◌, ℕ, List, ◌++◌, codes, decimal, Option}
+use Rattle.ports.specs.Faults.{Rose}
+use Rattle.ports.specs.Streams.{Puts, PutsFront}
+use Rattle.program_words.specs.declared.texts.TheConstants.{HELP, VERSION}
+use Rattle.file_commands.specs.declared.report.Report.{Report}
+use Rattle.file_commands.specs.declared.report.Report.TheVariants as report
+use Rattle.file_commands.specs.declared.status.Status.{Status}
+use Rattle.file_commands.specs.declared.status.Status.TheVariants.{Done, Usage, DiskFault, NoMemory, StreamFault, NotEmpty}
+
+abbrev pub report_text : Report → List ℕ
+report_text (report.Ready capacity) = codes "ready " ++ (decimal capacity ++ codes "\n")
+report_text report.Help = HELP.now
+report_text report.Version = VERSION.now
+report_text report.Usage = codes "usage: hg_cli init FILE CAP | session FILE | serve FILE ADDR LANES DERIVERS CONNECTIONS | fsck FILE | gen SEED STACKS CLIENTS\n"
+report_text report.DiskFault = codes "disk fault\n"
+report_text report.NotEmpty = codes "file is not empty\n"
+report_text report.NoMemory = codes "no memory\n"
+
+abbrev pub status_of : Report → Status
+status_of (report.Ready capacity) = Done
+status_of report.Help = Done
+status_of report.Version = Done
+status_of report.Usage = Usage
+status_of report.DiskFault = DiskFault
+status_of report.NotEmpty = NotEmpty
+status_of report.NoMemory = NoMemory
+
+-- it is whole, and the status is the report's
+pub record IsWhole (report : Report) (status : Status) (written kept : Option (List ℕ)) : Type 0 where
+  pub puts : Puts (report_text report) written kept
+  pub status_is : status ≡ status_of report
+
+abbrev pub after_fault : Status → Status
+after_fault Done = StreamFault
+after_fault status = status
+
+pub record IsFront (report : Report) (status : Status) (written kept : Option (List ℕ)) (before after : ℕ) : Type 0 where
+  pub puts : PutsFront (report_text report) written kept
+  pub rose : Rose before after
+  pub status_is : status ≡ after_fault (status_of report)
+
+abbrev pub Reports : Report → Status → Option (List ℕ) → Option (List ℕ) → ℕ → ℕ → Type 0
+Reports report status written kept before after =
+    IsWhole report status written kept ⊎ IsFront report status written kept before after

@@ -1,0 +1,53 @@
+//! Bytes that tests are made of.
+use object_id::Id;
+use std::alloc::{AllocError, Global};
+
+/// The bytes that hex digits stand for; none where they are no hex, or memory ran out.
+pub(crate) fn of_hex(alloc: Global, text: &str) -> Vec<u8> {
+    match hex::decode(alloc, text) {
+        Ok(bytes) => bytes,
+        Err(_) => Vec::new(alloc),
+    }
+}
+
+/// The same bytes with another one at a place.
+pub(crate) fn changed(
+    alloc: Global,
+    bytes: &[u8],
+    place: usize,
+    byte: u8,
+) -> Result<Vec<u8>, AllocError> {
+    let mut out = Vec::from_slice(alloc, bytes)?;
+    if let Some(old) = out.get_mut(place) {
+        *old = byte;
+    }
+    Ok(out)
+}
+
+/// The last of these starts of fields at or before a length.
+pub(crate) fn last_start(starts: &[usize], len: usize) -> usize {
+    let mut last = 0;
+    for start in starts {
+        if *start <= len {
+            last = *start;
+        }
+    }
+    last
+}
+
+/// So many times the letter `a`.
+pub(crate) fn letters(alloc: Global, count: usize) -> Result<String, AllocError> {
+    let mut text = String::new(alloc);
+    for _ in 0..count {
+        text.push('a')?;
+    }
+    Ok(text)
+}
+
+/// The id that hex digits stand for; that of nothing where they are no id.
+pub(crate) fn id_of_hex(text: &str) -> Id {
+    match Id::from_hex(text) {
+        Ok(id) => id,
+        Err(_) => Id::of(b""),
+    }
+}

@@ -1,0 +1,114 @@
+//! Entries of a history, both ways.
+use crate::bytes::{id_of_hex, of_hex};
+use crate::samples::{ABC, CHANGESET, CONTENT, DELETED, LANDING, MADE, MOVED, NEW, NO_HEADS, OLD};
+use object_id::Id;
+use repo_events::{Body, FRAME, decode_payload, encode_entry};
+use std::alloc::Global;
+
+fn is_content(alloc: Global, payload: &str, wanted: Id, wanted_length: u64) -> bool {
+    match &decode_payload(alloc, &of_hex(alloc, payload)) {
+        Ok(Body::Content { id, length }) => *id == wanted && *length == wanted_length,
+        Ok(_) | Err(_) => false,
+    }
+}
+
+fn is_changeset(alloc: Global, payload: &str, wanted: &str) -> bool {
+    match decode_payload(alloc, &of_hex(alloc, payload)) {
+        Ok(Body::Change(commit)) => commit.id() == id_of_hex(wanted),
+        Ok(_) | Err(_) => false,
+    }
+}
+
+// Whether it moves `main` between heads, of which an empty text is none.
+fn is_move(alloc: Global, payload: &str, from: &str, to: &str) -> bool {
+    match decode_payload(alloc, &of_hex(alloc, payload)) {
+        Ok(Body::Book(book)) => {
+            book.name.as_str() == "main" && book.from == head(from) && book.to == head(to)
+        }
+        Ok(_) | Err(_) => false,
+    }
+}
+
+fn head(text: &str) -> Option<Id> {
+    Id::from_hex(text).ok()
+}
+
+fn is_landing(alloc: Global, payload: &str, old: Id, new: Id) -> bool {
+    match decode_payload(alloc, &of_hex(alloc, payload)) {
+        Ok(Body::Land(landing)) => {
+            landing.name.as_str() == "main"
+                && landing.old == old
+                && landing.draft == new
+                && landing.new.len() == 1
+                && landing.new.iter().all(|commit| commit.id() == new)
+        }
+        Ok(_) | Err(_) => false,
+    }
+}
+
+// The frame of the entry that a payload stands for.
+fn frame(alloc: Global, bytes: &[u8]) -> Option<Vec<u8>> {
+    if bytes.len() > 1_000_000 {
+        return None;
+    }
+    let body = decode_payload(alloc, bytes).ok()?;
+    let content = match &body {
+        Body::Content { id: _, length: _ } => bytes.get(1..)?,
+        Body::Change(_) | Body::Book(_) | Body::Land(_) => b"",
+    };
+    encode_entry(alloc, &body, content).ok()
+}
+
+// Whether a frame of an entry has its length in front, the payload and a closed gate.
+fn is_framed(alloc: Global, payload: &str, length: u8) -> bool {
+    let bytes = of_hex(alloc, payload);
+    let Some(frame) = frame(alloc, &bytes) else {
+        return false;
+    };
+    let end = 4 + usize::from(length);
+    frame.len() == usize::from(length) + FRAME
+        && frame.get(..4) == Some([0, 0, 0, length].as_slice())
+        && frame.get(4..end) == Some(bytes.as_slice())
+        && frame.last() == Some(&0)
+}
+
+#[test]
+fn contents_and_changesets_are_read(rt: HostRuntime) {
+    let alloc = rt.alloc();
+    assert!(rt; is_content(alloc, CONTENT, id_of_hex(ABC), 3));
+    assert!(rt; is_content(alloc, "42", Id::of(b""), 0));
+    assert!(rt; is_changeset(alloc, CHANGESET, OLD));
+}
+
+#[test]
+fn moves_are_read(rt: HostRuntime) {
+    for (payload, from, to) in [
+        (NO_HEADS, "", ""),
+        (MADE, "", OLD),
+        (DELETED, OLD, ""),
+        (MOVED, OLD, NEW),
+    ] {
+        assert!(rt; is_move(rt.alloc(), payload, from, to), "{payload}");
+    }
+}
+
+#[test]
+fn landings_are_read(rt: HostRuntime) {
+    assert!(rt; is_landing(rt.alloc(), LANDING, id_of_hex(OLD), id_of_hex(NEW)));
+}
+
+#[test]
+fn entries_are_written_as_they_were_read(rt: HostRuntime) {
+    for (payload, length) in [
+        (CONTENT, 4),
+        ("42", 1),
+        (CHANGESET, 26),
+        (NO_HEADS, 8),
+        (MADE, 40),
+        (DELETED, 40),
+        (MOVED, 72),
+        (LANDING, 179),
+    ] {
+        assert!(rt; is_framed(rt.alloc(), payload, length), "{payload}");
+    }
+}

@@ -1,0 +1,51 @@
+//! What stands first in bytes that don't begin with an empty line.
+ghost use Rattle.std.specs.Prelude.{◌≡◌, ◌≤◌, ℕ, length, take, false};
+ghost use Rattle.http_model.specs.Stream.{ends_head};
+ghost use Rattle.http_wire.specs.FirstThing.{StandsFirst};
+
+use crate::cutting::head_len;
+use crate::head::{Framing, HEADER_ROOM, MOST_HEAD, judge, parse};
+use http_model::HeadRefusal;
+use httparse::spans::{HeaderSpan, RequestSpans};
+
+/// What stands first, as far as the head goes.
+pub(crate) enum HeadOutcome {
+    /// No whole head, and it may still come.
+    Unfinished,
+    /// What ends the session.
+    Refused(HeadRefusal),
+    /// A head of `len` bytes that passes its tests, and where its parts are.
+    Head {
+        len: usize,
+        spans: RequestSpans,
+        framing: Framing,
+    },
+}
+
+/// Looks at the bytes. No front of `scanned` bytes or fewer ends a head.
+pub(crate) fn read_head(bytes: &[u8], scanned: usize, headers: &mut [HeaderSpan]) -> HeadOutcome
+    requires room { length headers.old ≡ HEADER_ROOM }
+    requires within { scanned ≤ length bytes.now }
+    requires none_before { (n : ℕ) → n ≤ scanned → ends_head (take n bytes.now) ≡ false }
+    ensures { StandsFirst bytes.now result }
+{
+    let Some(len) = head_len(bytes, scanned) else {
+        return if bytes.len() < MOST_HEAD {
+            HeadOutcome::Unfinished
+        } else {
+            HeadOutcome::Refused(HeadRefusal::HeadTooLarge)
+        };
+    };
+    let head = &bytes[..len];
+    let Some(spans) = parse(head, headers) else {
+        return HeadOutcome::Refused(HeadRefusal::BadHead);
+    };
+    match judge(head, &spans, &headers[..spans.headers]) {
+        Ok(framing) => HeadOutcome::Head {
+            len,
+            spans,
+            framing,
+        },
+        Err(refusal) => HeadOutcome::Refused(refusal),
+    }
+}

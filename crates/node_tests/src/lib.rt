@@ -1,0 +1,15 @@
+//! Tests of the nodes of manifests. The expected bytes, ids and places were computed with another program.
+#![tactic(auto)]
+
+#[cfg(test)]
+mod bytes;
+#[cfg(test)]
+mod faults;
+#[cfg(test)]
+mod fsnodes;
+#[cfg(test)]
+mod histories;
+#[cfg(test)]
+mod nodes;
+#[cfg(test)]
+mod unodes;

@@ -1,0 +1,6 @@
+pub mod Numbers
+pub mod Counts
+pub mod Stages
+pub mod Parts
+pub mod Walks
+pub mod Ends

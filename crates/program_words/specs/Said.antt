@@ -1,0 +1,26 @@
+-- The request that a command is, and the ranges of its numbers.
+use Rattle.std.specs.Prelude.{◌≤◌, ⊤}
+use Rattle.program_words.specs.Words.{Request, fsck, gen, help, init, serve, session, version}
+use Rattle.program_words.specs.declared.command.Command.{Command}
+use Rattle.program_words.specs.declared.command.Command.TheVariants as command
+
+abbrev pub said_of : Command → Request
+said_of (command.Init file capacity) = init file.now capacity
+said_of (command.Session file) = session file.now
+said_of (command.Serve file address lanes derivers connections) =
+    serve file.now address.now lanes derivers connections
+said_of (command.Fsck file) = fsck file.now
+said_of (command.Gen seed stacks clients) = gen seed stacks clients
+said_of command.Help = help
+said_of command.Version = version
+
+abbrev pub IsInRange : Command → Type 0
+IsInRange (command.Init file capacity) = (4096 ≤ capacity) × (capacity ≤ 34359738368)
+IsInRange (command.Session file) = ⊤
+IsInRange (command.Serve file address lanes derivers connections) =
+    (1 ≤ lanes) × (lanes ≤ 16) × (derivers ≤ 8) × (1 ≤ connections) × (connections ≤ 1000000)
+IsInRange (command.Fsck file) = ⊤
+IsInRange (command.Gen seed stacks clients) =
+    (seed ≤ 4294967295) × (1 ≤ stacks) × (stacks ≤ 400) × (1 ≤ clients) × (clients ≤ 8)
+IsInRange command.Help = ⊤
+IsInRange command.Version = ⊤

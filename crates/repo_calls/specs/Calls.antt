@@ -1,0 +1,82 @@
+-- What is asked of a repository and what it answers, as questions and answers of the definitions.
+--     ask_seen ask      a change
+--     granted_seen granted, refused e, change_answer result      its answer
+--     content_answer, changeset_answer, bookmark_answer, landing_answer      the answer to each change
+--     line_seen entry, lines_seen entries      what the log tells of an entry
+use Rattle.std.specs.Prelude.{List, map, Result, Ok, Err}
+use Rattle.byte_fields.specs.Bytes.{Id}
+use Rattle.reply_model.specs.Reply as reply
+use Rattle.reply_model.specs.Log.{LogLine, ContentLine, ChangesetLine, BookmarkLine, LandingLine}
+use Rattle.reply_model.specs.After.{Answer, Grants, Refuses, Memory}
+use Rattle.repo_calls.specs.declared.ask.Ask.{Ask}
+use Rattle.repo_calls.specs.declared.ask.Ask.TheVariants as asks
+use Rattle.repo_calls.specs.declared.ask.Granted.{Granted}
+use Rattle.repo_calls.specs.declared.ask.Granted.TheVariants as grants
+use Rattle.repo_calls.specs.declared.ask.Landed.{Landed}
+use Rattle.repo_calls.specs.declared.refusal.Refusal.{Refusal}
+use Rattle.repo_calls.specs.declared.refusal.Refusal.TheVariants as refusals
+use Rattle.repo_calls.specs.declared.log.LogEntry.{LogEntry}
+use Rattle.repo_calls.specs.declared.log.LogEntry.TheVariants as entries
+
+abbrev pub ask_seen : Ask → reply.Ask
+ask_seen (asks.PutContent bytes) = reply.PutContent bytes.now
+ask_seen (asks.PutChangeset bytes) = reply.PutChangeset bytes.now
+ask_seen (asks.SetBookmark name from to) = reply.SetBookmark name.now from to
+ask_seen (asks.Land name draft) = reply.LandDraft name.now draft
+
+abbrev pub granted_seen : Granted → reply.Granted
+granted_seen (grants.Content id) = reply.ContentPut id
+granted_seen (grants.Changeset id) = reply.ChangesetPut id
+granted_seen grants.Bookmark = reply.BookmarkSet
+granted_seen (grants.Landing landed) = reply.Landed landed.old landed.ids.items
+
+abbrev pub refused : Refusal → Answer
+refused refusals.Down = Refuses reply.Down
+refused (refusals.TooLong length) = Refuses (reply.TooLong length)
+refused (refusals.BadEncoding at) = Refuses (reply.BadEncoding at)
+refused (refusals.SelfConflict short long) = Refuses (reply.SelfConflict short long)
+refused refusals.Merge = Refuses reply.Merge
+refused (refusals.NoParent id) = Refuses (reply.NoParent id)
+refused (refusals.NoContent path id) = Refuses (reply.NoContent path id)
+refused (refusals.WrongSize path wanted found) = Refuses (reply.WrongSize path wanted found)
+refused (refusals.Collision id) = Refuses (reply.Collision id)
+refused (refusals.NoChangeset id) = Refuses (reply.NoChangeset id)
+refused (refusals.Moved found) = Refuses (reply.Moved found)
+refused refusals.NoBookmark = Refuses reply.NoBookmark
+refused refusals.NoRoot = Refuses reply.NoRoot
+refused (refusals.TooFarBehind distance) = Refuses (reply.TooFarBehind distance)
+refused refusals.AlreadyIn = Refuses reply.AlreadyIn
+refused (refusals.StackTooLong count) = Refuses (reply.StackTooLong count)
+refused (refusals.Clash left right) = Refuses (reply.Clash left right)
+refused (refusals.TooLarge length) = Refuses (reply.TooLarge length)
+refused (refusals.Full size length) = Refuses (reply.Full size length)
+refused refusals.Memory = Memory
+
+abbrev pub change_answer : Result Granted Refusal → Answer
+change_answer (Ok granted) = Grants (granted_seen granted)
+change_answer (Err e) = refused e
+
+abbrev pub content_answer : Result Id Refusal → Answer
+content_answer (Ok id) = Grants (reply.ContentPut id)
+content_answer (Err e) = refused e
+
+abbrev pub changeset_answer : Result Id Refusal → Answer
+changeset_answer (Ok id) = Grants (reply.ChangesetPut id)
+changeset_answer (Err e) = refused e
+
+abbrev pub bookmark_answer : Result (Unit {0}) Refusal → Answer
+bookmark_answer (Ok done) = Grants reply.BookmarkSet
+bookmark_answer (Err e) = refused e
+
+abbrev pub landing_answer : Result Landed Refusal → Answer
+landing_answer (Ok landed) = Grants (reply.Landed landed.old landed.ids.items)
+landing_answer (Err e) = refused e
+
+abbrev pub line_seen : LogEntry → LogLine
+line_seen (entries.Content id size) = ContentLine id size
+line_seen (entries.Changeset id) = ChangesetLine id
+line_seen (entries.Bookmark name from to) = BookmarkLine (record { name = name; from = from; to = to })
+line_seen (entries.Landing name old draft ids) = LandingLine name old draft ids.items
+
+abbrev pub lines_seen : List LogEntry → List LogLine
+lines_seen es = map line_seen es

@@ -1,0 +1,11 @@
+//! What is asked of a repository and what it answers: changes with their grants and refusals, and pages of the log.
+//! `specs` says which question and which answer of the definitions each is.
+#![tactic(auto)]
+
+pub mod ask;
+pub mod log;
+pub mod refusal;
+
+pub use ask::{Ask, Granted, Landed};
+pub use log::{LogEntry, LogPage};
+pub use refusal::Refusal;

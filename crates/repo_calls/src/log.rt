@@ -1,0 +1,37 @@
+//! Pages of the log.
+use object_id::Id;
+use repo_path::BookName;
+
+/// What the log tells of one stored entry.
+#[derive(Debug, PartialEq, Drop)]
+pub enum LogEntry {
+    /// A content was stored; its length in bytes.
+    Content {
+        id: Id,
+        size: u64,
+    },
+    /// A changeset was uploaded.
+    Changeset {
+        id: Id,
+    },
+    /// A bookmark was made, moved or deleted.
+    Bookmark {
+        name: BookName,
+        from: Option<Id>,
+        to: Option<Id>,
+    },
+    /// A draft was landed: the head before, and the new changesets in the order of the stack.
+    Landing {
+        name: BookName,
+        old: Id,
+        draft: Id,
+        ids: Vec<Id>,
+    },
+}
+
+/// At most 100 stored entries of the log, and how many there are in all.
+#[derive(Debug, PartialEq, Drop)]
+pub struct LogPage {
+    pub entries: Vec<LogEntry>,
+    pub total: u64,
+}

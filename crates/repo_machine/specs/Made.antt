@@ -1,0 +1,33 @@
+-- What a change makes, as an entry of the definitions.
+--     made_of made      the entry's body
+--     IsReady made      there is memory for the numbers of a landing's changesets
+use Rattle.std.specs.Prelude.{◌≡◌, ◌≤◌, [], length, vec_capacity, Option, None, Some}
+use Rattle.std.specs.Arc.{arc_value}
+use Rattle.history_model.specs.History as model
+use Rattle.repo_events.specs.Entries.{move_of}
+use Rattle.changeset_store.specs.Shared.{values}
+use Rattle.repo_machine.specs.declared.judged.LandMade.{LandMade}
+use Rattle.repo_machine.specs.declared.judged.Made.{Made}
+use Rattle.repo_machine.specs.declared.judged.Made.TheVariants.{Content, Change, Book, Land}
+
+abbrev pub landing_made : LandMade → model.Landing
+landing_made l = record { name = l.name; old = l.old; draft = l.draft; new = values l.new.items }
+
+abbrev pub made_of : Made → model.Body
+made_of (Content id length) = model.Content id length
+made_of (Change commit) = model.Change (arc_value commit)
+made_of (Book movement) = model.Book (move_of movement)
+made_of (Land landing) = model.Land (landing_made landing)
+
+abbrev pub HasNumbers : LandMade → Type 0
+HasNumbers l = (l.numbers.items ≡ []) × (length l.new.items ≤ vec_capacity l.numbers)
+
+abbrev pub IsMadeReady : Made → Type 0
+IsMadeReady (Content id length) = Unit {0}
+IsMadeReady (Change commit) = Unit {0}
+IsMadeReady (Book movement) = Unit {0}
+IsMadeReady (Land landing) = HasNumbers landing
+
+abbrev pub IsReady : Option Made → Type 0
+IsReady None = Unit {0}
+IsReady (Some made) = IsMadeReady made

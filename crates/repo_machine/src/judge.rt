@@ -1,0 +1,32 @@
+//! Judging any change.
+ghost use Rattle.std.specs.Prelude.{◌≡◌, IfOk, IfErr};
+ghost use Rattle.reply_model.specs.Reply as reply;
+ghost use Rattle.reply_model.specs.Legal.{IsLegal};
+ghost use Rattle.repo_calls.specs.Calls.{ask_seen};
+ghost use Rattle.repo_machine.specs.Entering.{Judges};
+ghost use Rattle.repo_machine.specs.Landings.{IsRefusal};
+
+use crate::judged::Judged;
+use crate::machine::Machine;
+use repo_calls::{Ask, Refusal};
+use std::alloc::Global;
+
+impl Machine {
+    /// Judges a change that the seat `who` asks for at the history as it stands: what it is granted, and the entry that it
+    /// makes with its framed record, if it makes one. It adds nothing, and makes room for that entry and for one fault
+    /// after it.
+    pub fn judge(&mut self, alloc: Global, who: u64, ask: &Ask) -> Result<Judged, Refusal>
+        ensures ok { IfOk result (Judges self.old.header self.old.history self.new.room who (ask_seen ask.now)) }
+        ensures err { IfErr result (IsRefusal (reply.judge self.old.header self.old.history (ask_seen ask.now))) }
+        ensures header { self.new.header ≡ self.old.header }
+        ensures history { self.new.history ≡ self.old.history }
+        ensures legal { IsLegal self.old.header self.old.history }
+    {
+        match *ask {
+            Ask::PutContent(bytes) => self.judge_content(alloc, who, bytes),
+            Ask::PutChangeset(bytes) => self.judge_changeset(alloc, who, bytes),
+            Ask::SetBookmark { name, from, to } => self.judge_bookmark(alloc, who, name, from, to),
+            Ask::Land { name, draft } => self.judge_landing(alloc, who, name, draft),
+        }
+    }
+}

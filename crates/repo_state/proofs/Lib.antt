@@ -1,0 +1,9 @@
+pub mod Chains
+pub mod Stands
+pub mod Leaving
+pub mod Sounds
+pub mod Contents
+pub mod Changes
+pub mod Answered
+pub mod Storing
+pub mod Looking

@@ -1,0 +1,113 @@
+//! Reads.
+ghost use Rattle.std.specs.Prelude.{◌≡◌, IsTrue, false};
+ghost use Rattle.ports.specs.Faults.{Counts};
+ghost use Rattle.disk_model.specs.Images.{IsImage};
+ghost use Rattle.disk_model.specs.Calls.{Kept, LeavesOnly, Looked};
+ghost use Rattle.reply_model.specs.After.{Answer, Answers, Looks, Replies, nothing};
+ghost use Rattle.reply_model.specs.Reply.{ChangesetOf, ContentOf, LogFrom};
+ghost use Rattle.repo_state.specs.Asking.{bytes_answer, is_bad_bytes, is_early, is_read_fault, IsAnswer, question_seen, reads_file, TellsDigest};
+ghost use Rattle.repo_state.specs.State.{IsSound};
+
+use crate::calls::{AskFault, Question, Seen};
+use crate::fill::{check, fill};
+use crate::state::RepoState;
+use blob_disk::Disk;
+use bonsai::encode;
+use object_id::Id;
+use std::alloc::Global;
+
+impl<D: Disk> RepoState<D> {
+    /// Answers a read of the seat `who`. A content is read from the file, and all else is known.
+    pub fn look(&mut self, alloc: Global, who: u64, question: &Question) -> Result<Seen, AskFault>
+        ensures reply { (answer : Answer) × IsAnswer result answer × Replies self.old.header self.old.history who (Looks (question_seen question.now)) answer self.new.history }
+        ensures header { self.new.header ≡ self.old.header }
+        ensures opening { self.new.opening ≡ self.old.opening }
+        ensures sound { IsSound self.new.opening self.new.history self.new.disk }
+        ensures looked { Looked self.old.disk self.new.disk }
+        ensures leaves { LeavesOnly (IsImage self.new.disk.state) self.old.disk self.new.disk }
+        ensures kept { Kept self.old.disk self.new.disk }
+        ensures faults { Counts self.old.disk.faults self.new.disk.faults (is_read_fault result) }
+        ensures found { TellsDigest self.old.disk self.old.history result }
+        ensures honest { IsTrue self.old.disk.honest → is_bad_bytes result ≡ false }
+
+        // The disk isn't asked where something is missing, nor for what is known.
+        ensures early { IsTrue (is_early result) → self.new.disk ≡ self.old.disk }
+        ensures known { reads_file question.now ≡ false → self.new.disk ≡ self.old.disk }
+    {
+        match *question {
+            Question::Head(name) => Ok(Seen::Head(self.machine.head(name))),
+            Question::Content(id) => match self.content(alloc, who, id) {
+                Ok(bytes) => Ok(Seen::Bytes(bytes)),
+                Err(fault) => Err(fault),
+            },
+            Question::Changeset(id) => self.encoding(alloc, id),
+            Question::Log(from) => self.page(alloc, from),
+        }
+    }
+
+    // A page of the log.
+    fn page(&self, alloc: Global, from: u64) -> Result<Seen, AskFault>
+        ensures answer { (answer : Answer) × IsAnswer result answer × Answers self.now.header self.now.history (Looks (LogFrom from)) answer nothing }
+        ensures sound { IsSound self.now.opening self.now.history self.now.disk }
+        ensures read { (is_read_fault result ≡ false) × (is_bad_bytes result ≡ false) }
+    {
+        match self.machine.log(alloc, from) {
+            Ok(page) => Ok(Seen::Log(page)),
+            Err(_) => Err(AskFault::Memory),
+        }
+    }
+
+    // The encoding of a changeset.
+    fn encoding(&self, alloc: Global, id: Id) -> Result<Seen, AskFault>
+        ensures answer { (answer : Answer) × IsAnswer result answer × Answers self.now.header self.now.history (Looks (ChangesetOf id)) answer nothing }
+        ensures sound { IsSound self.now.opening self.now.history self.now.disk }
+        ensures read { (is_read_fault result ≡ false) × (is_bad_bytes result ≡ false) }
+    {
+        let Some(commit) = self.machine.changeset(&id) else {
+            return Err(AskFault::NoChangeset { id });
+        };
+        match encode(alloc, commit.changeset()) {
+            Ok(bytes) => Ok(Seen::Bytes(bytes)),
+            Err(_) => Err(AskFault::Memory),
+        }
+    }
+
+    /// The bytes of a content, read from the file. Where the disk fails to read, that is entered as a
+    /// fault that the seat `who` met.
+    pub fn content(&mut self, alloc: Global, who: u64, id: Id) -> Result<Vec<u8>, AskFault>
+        ensures reply { Replies self.old.header self.old.history who (Looks (ContentOf id)) (bytes_answer result) self.new.history }
+        ensures header { self.new.header ≡ self.old.header }
+        ensures opening { self.new.opening ≡ self.old.opening }
+        ensures sound { IsSound self.new.opening self.new.history self.new.disk }
+        ensures looked { Looked self.old.disk self.new.disk }
+        ensures leaves { LeavesOnly (IsImage self.new.disk.state) self.old.disk self.new.disk }
+        ensures kept { Kept self.old.disk self.new.disk }
+
+        // The disk fails it only where a call of it failed.
+        ensures faults { Counts self.old.disk.faults self.new.disk.faults (is_read_fault result) }
+
+        // Bytes of another id are what the disk gave, which an honest disk never does.
+        ensures found { TellsDigest self.old.disk self.old.history result }
+        ensures honest { IsTrue self.old.disk.honest → is_bad_bytes result ≡ false }
+
+        // Where there is no such content or no memory, the disk isn't asked.
+        ensures early { IsTrue (is_early result) → self.new.disk ≡ self.old.disk }
+    {
+        let Some(place) = self.machine.content_place(&id) else {
+            return Err(AskFault::NoContent { id });
+        };
+        if self.machine.room().is_err() {
+            return Err(AskFault::Memory);
+        }
+        let Ok(bytes) = vec![in alloc; 0; place.length as usize] else {
+            return Err(AskFault::Memory);
+        };
+        match fill(&self.journal, &mut self.disk, place.at, bytes) {
+            Ok(bytes) => check(bytes, id),
+            Err(_) => {
+                self.machine.fault(who, false);
+                Err(AskFault::ReadFault)
+            }
+        }
+    }
+}

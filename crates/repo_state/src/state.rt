@@ -1,0 +1,93 @@
+//! The repository.
+ghost use Rattle.std.specs.Prelude.{◌≡◌, length};
+ghost use Rattle.history_model.specs.History.{is_down, stored};
+ghost use Rattle.reply_model.specs.Legal.{IsLegal};
+ghost use Rattle.repo_journal.specs.Opened.{IsOpened};
+ghost use Rattle.repo_state.specs.State.{IsSound, opening_of};
+
+use blob_disk::Disk;
+use repo_journal::Journal;
+use repo_machine::Machine;
+use std::marker::Model;
+use std::snapshot::Snapshot;
+use turn_history::Recorded;
+
+/// A repository in a file: what is known of it, how far its journal reaches, and the disk.
+#[derive(Drop)]
+pub struct RepoState<D: Disk> {
+    pub(crate) machine: Machine,
+    pub(crate) journal: Journal,
+    pub(crate) disk: D,
+    // The disk as it was once all was read.
+    pub(crate) first: Snapshot<D>,
+}
+
+impl<D: Disk> Model for RepoState<D> {
+    ghost use Rattle.repo_state.specs.State.{State, IsSound, Agrees, opening_of};
+
+    ghost Value = { State };
+
+    ghost view = { λ s. record {
+      header = s.machine.header;
+      history = s.machine.history;
+      disk = D.meaning s.disk;
+      opening = opening_of s.machine.header s.journal.opening (D.meaning s.first.value);
+    } };
+
+    ghost invariant = { λ s. IsSound (opening_of s.machine.header s.journal.opening (D.meaning s.first.value)) s.machine.history (D.meaning s.disk)
+        × Agrees s.machine.header s.machine.history s.journal (D.meaning s.disk) };
+}
+
+impl<D: Disk> RepoState<D> {
+    /// The repository of one opened file.
+    pub fn new(machine: Machine, journal: Journal, disk: D) -> Self
+        requires opened { IsOpened machine.header machine.history journal (D.meaning disk) }
+        requires legal { IsLegal machine.header machine.history }
+        requires unseated { machine.history ≡ stored machine.history }
+        ensures header { result.header ≡ machine.header }
+        ensures history { result.history ≡ machine.history }
+        ensures disk { result.disk ≡ D.meaning disk }
+        ensures opening { result.opening ≡ opening_of machine.header journal.opening (D.meaning disk) }
+        ensures sound { IsSound result.opening result.history result.disk }
+    {
+        let first = Snapshot::of(&disk);
+        RepoState {
+            machine,
+            journal,
+            disk,
+            first,
+        }
+    }
+
+    /// Its disk.
+    pub fn into_disk(self) -> D
+        ensures disk { D.meaning result ≡ self.disk }
+        ensures sound { IsSound self.opening self.history self.disk }
+    {
+        self.disk
+    }
+
+    /// Whether the disk failed so that nothing more is stored.
+    pub fn down(&self) -> bool
+        ensures { result ≡ is_down self.now.history }
+    {
+        self.machine.down()
+    }
+
+    /// How many entries the history has, with its faults.
+    pub fn history_length(&self) -> u64
+        ensures { result ≡ length self.now.history }
+    {
+        self.machine.history_length()
+    }
+}
+
+impl<D: Disk> Recorded for RepoState<D> {
+    ghost history = { λ s. s.history };
+
+    ghost opening = { λ s. s.opening };
+
+    fn length_word(&self) -> u64 {
+        self.history_length()
+    }
+}

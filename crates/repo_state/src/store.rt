@@ -1,0 +1,53 @@
+//! Changes.
+ghost use Rattle.std.specs.Prelude.{◌≡◌, IsTrue, IfErr, false};
+ghost use Rattle.ports.specs.Faults.{Counts};
+ghost use Rattle.disk_model.specs.Calls.{Kept};
+ghost use Rattle.reply_model.specs.After.{Asks, Replies};
+ghost use Rattle.repo_calls.specs.Calls.{ask_seen};
+ghost use Rattle.repo_state.specs.Asking.{stored_answer, is_disk_fault};
+ghost use Rattle.repo_state.specs.Images.{LeavesChange};
+ghost use Rattle.repo_state.specs.State.{IsSound};
+
+use crate::calls::ChangeFault;
+use crate::state::RepoState;
+use blob_disk::Disk;
+use repo_calls::{Ask, Granted};
+use repo_journal::AppendFault;
+use std::alloc::Global;
+
+impl<D: Disk> RepoState<D> {
+    /// Makes a change that the seat `who` asks for. All memory is taken before the first call of the
+    /// disk, and a call without an entry leaves the disk alone.
+    pub fn store(&mut self, alloc: Global, who: u64, ask: &Ask) -> Result<Granted, ChangeFault>
+        ensures reply { Replies self.old.header self.old.history who (Asks (ask_seen ask.now)) (stored_answer result) self.new.history }
+        ensures header { self.new.header ≡ self.old.header }
+        ensures opening { self.new.opening ≡ self.old.opening }
+        ensures sound { IsSound self.new.opening self.new.history self.new.disk }
+
+        // A change that is refused, and one that makes no entry, leave all as it was.
+        ensures same { is_disk_fault result ≡ false → self.new.history ≡ self.old.history → self.new.disk ≡ self.old.disk }
+
+        // Each image stood for the history before or after, or for the one before and the entry left over.
+        ensures leaves { IsTrue self.old.disk.honest → LeavesChange self.old.header self.old.history self.new.history (is_disk_fault result) self.old.disk self.new.disk }
+        ensures kept { Kept self.old.disk self.new.disk }
+
+        // The disk fails the change only where a call of it failed.
+        ensures faults { Counts self.old.disk.faults self.new.disk.faults (is_disk_fault result) }
+    {
+        let judged = match self.machine.judge(alloc, who, ask) {
+            Ok(judged) => judged,
+            Err(refusal) => return Err(ChangeFault::Refused(refusal)),
+        };
+        let Some(frame) = judged.frame() else {
+            return Ok(self.machine.admit(judged));
+        };
+        match self.journal.append(&mut self.disk, frame) {
+            Ok(()) => Ok(self.machine.admit(judged)),
+            Err(AppendFault::DiskFault) => {
+                self.machine.fault(who, true);
+                Err(ChangeFault::DiskFault)
+            }
+            Err(AppendFault::Full { .. }) => unreachable!(),
+        }
+    }
+}

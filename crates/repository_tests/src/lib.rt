@@ -1,0 +1,20 @@
+//! Tests of the repository's crates, as tables by subject. What is expected is worked out by hand, or is a SHA-256 (FIPS
+//! 180-4) that another program computed. Helpers have no contract, so that a test's proof doesn't carry what they call.
+#![tactic(auto)]
+
+#[cfg(test)]
+mod bookmarks;
+#[cfg(test)]
+mod examples;
+#[cfg(test)]
+mod landings;
+#[cfg(test)]
+mod log;
+#[cfg(test)]
+mod stacks;
+#[cfg(test)]
+mod store;
+#[cfg(test)]
+mod trees;
+#[cfg(test)]
+mod uploads;

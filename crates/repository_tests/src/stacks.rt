@@ -1,0 +1,122 @@
+//! Stacks on another head, and the paths that they touch.
+use crate::examples::{ABC, Edit, Example, first, id, path};
+use bonsai::{Changeset, Commit};
+use object_id::Id;
+use path_conflict::{Clash, least_clash};
+use rebase_stack::{rebase, touched};
+use repo_path::RepoPath;
+use std::alloc::Global;
+use std::test::Fail;
+
+fn commit_on(
+    alloc: Global,
+    author: u8,
+    parent: Id,
+    message: usize,
+    edits: &[Edit],
+) -> Result<Commit, Fail> {
+    let parents = [parent];
+    Example {
+        author,
+        parents: &parents,
+        message,
+        edits,
+    }
+    .commit(alloc)
+}
+
+fn ids(alloc: Global, commits: &[Commit]) -> Result<Vec<Id>, Fail> {
+    let mut ids = Vec::with_capacity(alloc, commits.len())?;
+    for commit in commits {
+        ids.push(commit.id())?;
+    }
+    Ok(ids)
+}
+
+// The ids of a stack, rewritten onto the head of 32 bytes 07.
+fn on_sevens(alloc: Global, stack: &[&Changeset]) -> Result<Vec<Id>, Fail> {
+    let commits = rebase(alloc, stack, Id::from_bytes([7; 32]))?;
+    ids(alloc, commits.as_slice())
+}
+
+fn rewritten(alloc: Global) -> Result<Vec<Id>, Fail> {
+    let ones = Id::from_bytes([1; 32]);
+    let one = commit_on(alloc, b'a', ones, 3, &[("a/b", None), ("b", ABC)])?;
+    let two = commit_on(alloc, b'b', one.id(), 0, &[("a/b", ABC), ("a.b", None)])?;
+    on_sevens(alloc, &[one.changeset(), two.changeset()])
+}
+
+#[test]
+fn a_stack_on_another_head(rt: HostRuntime) -> Result<(), Fail> {
+    let ids = rewritten(rt.alloc())?;
+    let wanted = [
+        id("7cdc85380857451c036dda0bab29bede97e843deb502b600c83d76f37d265728")?,
+        id("a438f8dc96c8b20b759c970f1c17789cc16818ff30471d847d38ddb6072dd5e3")?,
+    ];
+    assert_eq!(rt; ids.as_slice(), wanted.as_slice());
+    Ok(())
+}
+
+// The paths that two changesets touch, each behind a blank.
+fn touched_texts(alloc: Global) -> Result<String, Fail> {
+    let one = Example {
+        edits: &[("a/b", None), ("b", ABC)],
+        ..first()
+    }
+    .commit(alloc)?;
+    let two = Example {
+        edits: &[("a/b", ABC), ("a.b", None)],
+        ..first()
+    }
+    .commit(alloc)?;
+    let mut texts = String::new(alloc);
+    for path in &touched(alloc, &[one.changeset(), two.changeset()])? {
+        texts.push(' ')?;
+        texts.push_str(path.as_str())?;
+    }
+    Ok(texts)
+}
+
+#[test]
+fn touched_paths_rise(rt: HostRuntime) -> Result<(), Fail> {
+    let texts = touched_texts(rt.alloc())?;
+    assert_eq!(rt; texts.as_str(), " a/b a.b b");
+    Ok(())
+}
+
+fn paths(alloc: Global, texts: &[&str]) -> Result<Vec<RepoPath>, Fail> {
+    let mut paths = Vec::with_capacity(alloc, texts.len())?;
+    for text in texts {
+        paths.push(path(alloc, text)?)?;
+    }
+    Ok(paths)
+}
+
+// The places of the least clash.
+fn places(alloc: Global, left: &[&str], right: &[&str]) -> Result<Option<(usize, usize)>, Fail> {
+    let left = paths(alloc, left)?;
+    let right = paths(alloc, right)?;
+    let lefts: Vec<&RepoPath> = left.iter().collect(alloc)?;
+    let rights: Vec<&RepoPath> = right.iter().collect(alloc)?;
+    let found = least_clash(lefts.as_slice(), rights.as_slice());
+    Ok(found.map(|Clash { left, right }| (left, right)))
+}
+
+#[test]
+fn least_clashes(rt: HostRuntime) -> Result<(), Fail> {
+    let table: [(&[&str], &[&str], Option<(usize, usize)>); 8] = [
+        (&["a/b", "c"], &["a", "a/a", "c/d"], Some((0, 0))),
+        (&["b"], &["a", "a/b", "b/x", "b/y"], Some((0, 2))),
+        (&["a.b"], &["a", "a/b"], None),
+        (&[], &["a"], None),
+        (&["a"], &[], None),
+        (&["lib/x"], &["lib"], Some((0, 0))),
+        (&["y"], &["y"], Some((0, 0))),
+        (&["a/b", "a/c"], &["a/d"], None),
+    ];
+    for (left, right, wanted) in table {
+        let found = places(rt.alloc(), left, right)?;
+        assert_eq!(rt; found, wanted, "{left:?} {right:?}");
+    }
+    Ok(())
+}

@@ -1,0 +1,38 @@
+//! The routes by their names.
+ghost use Rattle.std.specs.Prelude.{◌≡◌};
+
+use crate::method::Method;
+
+/// Which route a path has.
+#[derive(Clone, Copy, Debug, PartialEq, Eq)]
+pub enum RouteName {
+    /// Contents, to store one.
+    Contents,
+    /// Changesets, to store one.
+    Changesets,
+    /// A changeset.
+    Changeset,
+    /// A bookmark, to tell where it stands.
+    Head,
+    /// A bookmark with two heads, to move it from the one to the other.
+    Move,
+    /// A bookmark with a draft, to land it there.
+    Land,
+    /// A page of the log.
+    Log,
+}
+
+impl RouteName {
+    ghost use Rattle.session_model.specs.Methods.{method_of};
+
+    /// The one method that it has.
+    pub fn method(self) -> Method
+        ensures { result ≡ method_of self }
+    {
+        match self {
+            RouteName::Contents | RouteName::Changesets | RouteName::Move => Method::Put,
+            RouteName::Changeset | RouteName::Head | RouteName::Log => Method::Get,
+            RouteName::Land => Method::Post,
+        }
+    }
+}
