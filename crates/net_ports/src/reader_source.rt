@@ -37,7 +37,7 @@ impl<R: Read> Source for ReaderSource<R> {
 }
 
 // Reads once, and again where it was interrupted.
-fn read_uninterrupted<R: Read>(reader: &mut R, buf: &mut [u8]) -> Option<usize>
+pub(crate) fn read_uninterrupted<R: Read>(reader: &mut R, buf: &mut [u8]) -> Option<usize>
     ensures { IfSome result (λ count. count ≤ length buf.old) }
 {
     for _ in 0..u64::MAX {

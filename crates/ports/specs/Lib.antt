@@ -3,3 +3,4 @@ pub mod Streams
 pub mod Memory
 pub mod Openers
 pub mod Shelves
+pub mod Accepts

@@ -2,10 +2,12 @@
 //! Over memory an object tells what it has; a real one tells only its failures.
 #![tactic(auto)]
 
+pub mod accept;
 pub mod clock;
 pub mod failed;
 pub mod gate;
 pub mod link;
+pub mod mem_accept;
 pub mod mem_link;
 pub mod mem_opener;
 pub mod mem_sink;
@@ -15,10 +17,12 @@ pub mod pair;
 pub mod sink;
 pub mod source;
 
+pub use accept::Accept;
 pub use clock::Clock;
 pub use failed::Failed;
 pub use gate::{Gate, NoGate};
 pub use link::Link;
+pub use mem_accept::MemAccept;
 pub use mem_link::MemLink;
 pub use mem_opener::{MemOpener, Slot};
 pub use mem_sink::MemSink;
