@@ -1,20 +1,19 @@
 -- New changesets become known one by one, and have their numbers.
-use Rattle.std.proofs.Common.{◌≡◌, ℕ, ◌+◌, ◌<◌, ◌≤◌, zero, suc, Bool, true, false, cond, not, ◌||◌, List, [], ◌∷◌, ◌++◌, map, length, refl, sym, ap, subst, ◌∙◌, arith, get_or, length-append}
-use Rattle.std.specs.Prelude.{filter, bytes_eq, Option, None, Some, Contains}
-use Rattle.std.specs.List.{AllByRecursion, list_any}
-use mathlib.Core.Bool.{true≢false}
+use Rattle.std.proofs.Common.{◌≡◌, ℕ, ◌<◌, zero, suc, Bool, true, false, cond, List, [], ◌∷◌, ◌++◌, map, length, refl, sym, ap, subst, ◌∙◌, arith, get_or, length-append}
+use Rattle.std.specs.Prelude.{bytes_eq, Some, Contains}
+use Rattle.std.specs.List.{AllByRecursion}
 use Rattle.std.proofs.lemmas.List.{append_assoc, append-nil, map-append}
 use Rattle.std.proofs.lemmas.List.Quantifiers.{position-Some}
 use Rattle.std.proofs.lemmas.Slice.Eq.{bytes_eq-Decides}
 use Rattle.byte_fields.specs.Bytes.{Id}
 use Rattle.byte_fields.proofs.Lists.{weaker, each_of, all_push, both_parts}
 use Rattle.changeset_model.specs.Changeset.{Changeset, id_of}
-use Rattle.history_model.specs.History.{Entry, Known, Landing, Land, Change, with_id, each_id_once, changesets_in, is_known, known}
+use Rattle.history_model.specs.History.{Known, with_id, is_known}
 use Rattle.history_model.specs.Pushrebase.{rewrite, on_parent}
-use Rattle.reply_model.proofs.Parents.{same_id, known_last, known_left, brought, brought-push}
+use Rattle.reply_model.proofs.Parents.{known_last}
 use Rattle.changeset_store.specs.Store.{changeset_at, known_at, number_in}
 use Rattle.changeset_store.proofs.Places.{changeset_at-append, changeset_at-last, known_at-changeset}
-use Rattle.changeset_store.specs.Grown.{IsAlone, AreAlone, with_known, adding_one, adding, CanAddOne, CanAdd}
+use Rattle.changeset_store.specs.Grown.{IsAlone, AreAlone, with_known, adding_one, adding, CanAdd}
 
 -- ---- one
 

@@ -1,23 +1,22 @@
 -- No other changeset is known by an id, and what that says of collisions.
-use Rattle.std.proofs.Common.{◌≡◌, ℕ, ◌+◌, ◌<◌, ◌≤◌, suc, Bool, true, false, cond, not, ◌||◌, List, [], ◌∷◌, ◌++◌, map, length, ◌-◌, take, drop, drop-cons, add-one, get_or, refl, sym, ap, subst, ◌∙◌, arith}
-use Rattle.std.specs.Prelude.{◌&&◌, filter, find, bytes_eq, Option, None, Some, option_map, slice_get}
-use Rattle.std.specs.List.{AllByRecursion, list_any, last_or}
+use Rattle.std.proofs.Common.{◌≡◌, ℕ, ◌+◌, ◌<◌, ◌≤◌, Bool, true, false, cond, not, ◌||◌, List, [], ◌∷◌, ◌++◌, map, length, take, drop, drop-cons, add-one, get_or, refl, sym, ap, subst, ◌∙◌}
+use Rattle.std.specs.Prelude.{◌&&◌, filter, find, bytes_eq, Option, None, Some, option_map}
+use Rattle.std.specs.List.{AllByRecursion}
 use Rattle.std.specs.Borrow.{Bor}
 use mathlib.Core.Bool.{true≢false}
 use Rattle.std.proofs.Math.Seq.{take-suc}
-use Rattle.std.proofs.lemmas.List.{append_assoc, append-nil, map-append, drop_all}
+use Rattle.std.proofs.lemmas.List.{append_assoc, map-append, drop_all}
 use Rattle.std.proofs.lemmas.List.Folds.{list_any-append}
 use Rattle.std.proofs.lemmas.Slice.Eq.{bytes_eq-Decides}
-use Rattle.byte_fields.specs.Bytes.{Id, last_of}
-use Rattle.byte_fields.proofs.Lists.{weaker, all_push, both_parts}
+use Rattle.byte_fields.specs.Bytes.{Id}
+use Rattle.byte_fields.proofs.Lists.{weaker}
 use Rattle.changeset_model.specs.Changeset.{Changeset, id_of, spelling, is_changeset}
 use Rattle.changeset_model.proofs.Spelling.{one_spelling}
 use Rattle.bonsai.specs.Equal.{changeset_eq, changeset_eq-Decides}
-use Rattle.history_model.specs.History.{Known, with_id, each_id_once, is_known, changeset_of}
-use Rattle.history_model.specs.Pushrebase.{rewrite, on_parent}
+use Rattle.history_model.specs.History.{Known, with_id, each_id_once, changeset_of}
 use Rattle.reply_model.specs.Reply.{collides, first_collision}
-use Rattle.reply_model.proofs.Parents.{same_id, known_last, or_left}
-use Rattle.changeset_store.specs.Grown.{IsAlone, AreAlone, with_known, adding_one, adding, CanAddOne, CanAdd}
+use Rattle.reply_model.proofs.Parents.{same_id, or_left}
+use Rattle.changeset_store.specs.Grown.{IsAlone, AreAlone, with_known}
 
 -- ---- one changeset for each id
 

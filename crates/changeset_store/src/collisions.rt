@@ -3,10 +3,12 @@ ghost use Rattle.std.specs.Prelude.{◌≡◌, [], true, false, bytes_eq, IfNone
 ghost use Rattle.changeset_model.specs.Changeset.{spelling};
 ghost use Rattle.reply_model.specs.Reply.{collides, first_collision};
 ghost use Rattle.changeset_store.specs.Grown.{with_known, IsAlone, AreAlone};
+ghost use Rattle.changeset_store.specs.Shared.{values};
 
 use crate::store::ChangesetStore;
 use bonsai::{Changeset, Commit};
 use object_id::Id;
+use std::sync::Arc;
 
 impl ChangesetStore {
     /// Whether another changeset than this one is known by its id.
@@ -21,9 +23,9 @@ impl ChangesetStore {
     }
 
     /// The id of the first of these that is, by its id, another changeset than one known or one before it.
-    pub fn first_collision(&self, new: &[Commit]) -> Option<Id>
-        ensures found { result ≡ first_collision self.now.known new.now }
-        ensures alone { IfNone result (AreAlone self.now.known new.now) }
+    pub fn first_collision(&self, new: &[Arc<Commit>]) -> Option<Id>
+        ensures found { result ≡ first_collision self.now.known (values new.now) }
+        ensures alone { IfNone result (AreAlone self.now.known (values new.now)) }
     {
         'new: for (i, commit) in new.iter().enumerate() {
             if self.is_other_with(&new[..i], commit) {
@@ -34,17 +36,17 @@ impl ChangesetStore {
     }
 
     // Whether another changeset than this one has its id, among those known and some others.
-    fn is_other_with(&self, before: &[Commit], commit: &Commit) -> bool
-        ensures found { result ≡ collides (with_known self.now.known before.now) commit.now }
-        ensures alone { result ≡ false → IsAlone (with_known self.now.known before.now) commit.now }
+    fn is_other_with(&self, before: &[Arc<Commit>], commit: &Commit) -> bool
+        ensures found { result ≡ collides (with_known self.now.known (values before.now)) commit.now }
+        ensures alone { result ≡ false → IsAlone (with_known self.now.known (values before.now)) commit.now }
     {
         self.is_other(commit) || is_other_among(before, commit)
     }
 }
 
-fn is_other_among(before: &[Commit], commit: &Commit) -> bool
-    ensures found { result ≡ collides (with_known [] before.now) commit.now }
-    ensures alone { result ≡ false → IsAlone (with_known [] before.now) commit.now }
+fn is_other_among(before: &[Arc<Commit>], commit: &Commit) -> bool
+    ensures found { result ≡ collides (with_known [] (values before.now)) commit.now }
+    ensures alone { result ≡ false → IsAlone (with_known [] (values before.now)) commit.now }
 {
     'before: for earlier in before {
         if earlier.id() != commit.id() {

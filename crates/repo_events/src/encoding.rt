@@ -4,9 +4,9 @@ ghost use Rattle.std.specs.List.{concat};
 ghost use Rattle.std.specs.Int.{w8, w32};
 ghost use Rattle.byte_fields.specs.Bytes.{sized};
 ghost use Rattle.changeset_model.specs.Changeset.{spelling};
-ghost use Rattle.history_model.specs.History.{changesets_in};
-ghost use Rattle.history_model.specs.Journal.{framed, optional_id, payload};
-ghost use Rattle.repo_events.specs.Entries.{commits_length, body_of};
+ghost use Rattle.history_model.specs.History.{Land, changesets_in};
+ghost use Rattle.history_model.specs.Journal.{framed, optional_id, payload, payload_len};
+ghost use Rattle.repo_events.specs.Entries.{commits_length, landing_of, body_of};
 
 use crate::body::{Body, Landing, Move};
 use crate::limits::FRAME;
@@ -28,6 +28,20 @@ pub fn encode_entry(alloc: Global, body: &Body, content: &[u8]) -> Result<Vec<u8
     let mut frame = Vec::with_capacity(alloc, length as usize + FRAME)?;
     frame.extend_from_slice(&length.to_be_bytes())?;
     put_payload(&mut frame, body, content)?;
+    frame.push(0)?;
+    Ok(frame)
+}
+
+/// The same of a landing.
+pub fn encode_landing(alloc: Global, landing: &Landing) -> Result<Vec<u8>, AllocError>
+    requires short { payload_len (Land (landing_of landing.now)) < 2 ^ 32 }
+    requires counted { length landing.now.new.items < 2 ^ 16 }
+    ensures { IfOk result (λ frame. frame.items ≡ framed (payload (Land (landing_of landing.now)) [])) }
+{
+    let length = landing.payload_length() as u32;
+    let mut frame = Vec::with_capacity(alloc, length as usize + FRAME)?;
+    frame.extend_from_slice(&length.to_be_bytes())?;
+    put_landing(&mut frame, landing)?;
     frame.push(0)?;
     Ok(frame)
 }

@@ -12,6 +12,6 @@ pub mod payload_fault;
 
 pub use body::{Body, Landing, Move};
 pub use decoding::decode_payload;
-pub use encoding::encode_entry;
+pub use encoding::{encode_entry, encode_landing};
 pub use limits::{FRAME, MOST_PAYLOAD, MOST_STACK};
 pub use payload_fault::PayloadFault;

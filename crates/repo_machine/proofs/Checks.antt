@@ -1,15 +1,14 @@
 -- What the checks of an upload find.
-use Rattle.std.proofs.Common.{◌≡◌, ℕ, ◌≤◌, ◌<◌, ◌+◌, lt-ltb, Bool, true, false, cond, not, List, ◌∷◌, drop, map, length, drop-cons, add-one, get_or, inl, inr, refl, sym, ap, subst, ◌∙◌, arith}
-use Rattle.std.specs.Prelude.{Option, None, Some, Result, Ok, Err, bytes_eq, IsErrAnd, ◌==◌, nat_lt, find, option_map}
-use Rattle.std.specs.Option.{option_or, option_map_or}
+use Rattle.std.proofs.Common.{◌≡◌, ℕ, ◌≤◌, ◌<◌, ◌+◌, lt-ltb, Bool, true, false, cond, not, List, ◌∷◌, drop, length, drop-cons, add-one, get_or, inl, inr, refl, sym, ap, ◌∙◌, arith}
+use Rattle.std.specs.Prelude.{Option, None, Some, Result, Ok, Err, IsErrAnd, ◌==◌, nat_lt, find, option_map}
+use Rattle.std.specs.Option.{option_or}
 use Rattle.std.proofs.lemmas.Bool.{eq-eqb}
-use Rattle.std.proofs.lemmas.List.{length-map, drop_all}
+use Rattle.std.proofs.lemmas.List.{drop_all}
 use Rattle.std.proofs.lemmas.Bool.Decides.{Decides-eqb}
 use Rattle.byte_fields.specs.Bytes.{Id}
 use Rattle.changeset_model.specs.Path.{Path}
-use Rattle.changeset_model.specs.Changeset.{Changeset, spelling}
-use Rattle.history_model.specs.History.{Entry, Known, is_known, changeset_of}
-use Rattle.history_model.specs.Journal.{Header}
+use Rattle.changeset_model.specs.Changeset.{Changeset}
+use Rattle.history_model.specs.History.{Known, is_known}
 use Rattle.bonsai.specs.declared.change.Change as changes
 use Rattle.bonsai.specs.declared.change.Change.TheVariants as change
 use Rattle.file_kind.specs.declared.kind.FileKind as kinds
@@ -17,7 +16,6 @@ use Rattle.file_kind.specs.Kinds.{kind_view}
 use Rattle.bonsai.specs.View.{change_view, edit_view, edits_view}
 use Rattle.bonsai.specs.declared.edit.Edit as edits
 use Rattle.reply_model.specs.Reply as reply
-use Rattle.reply_model.specs.After.{Answer, Asks, Replies}
 use Rattle.repo_calls.specs.declared.refusal.Refusal.{Refusal}
 use Rattle.repo_calls.specs.declared.refusal.Refusal.TheVariants as refusals
 use Rattle.repo_calls.specs.Calls.{refused}

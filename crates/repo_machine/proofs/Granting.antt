@@ -1,13 +1,13 @@
 -- What is judged, with what is made of it.
-use Rattle.std.proofs.Common.{◌≡◌, ℕ, true, List, [], refl, sym, ap, subst, ◌∙◌}
-use Rattle.std.specs.Prelude.{Option, None, Some, Result, Ok, Err, IfOk, IfErr}
+use Rattle.std.proofs.Common.{◌≡◌, ℕ, true, List, [], refl, sym, subst, ◌∙◌}
+use Rattle.std.specs.Prelude.{None, Result, Ok, Err, IfOk, IfErr}
 use Rattle.history_model.specs.History.{Body, Entry}
 use Rattle.history_model.specs.Journal.{Header}
 use Rattle.reply_model.specs.Reply.{Ask, is_ask, Granted, judge, entered, unchanged}
 use Rattle.reply_model.specs.Legal.{IsLegal}
 use Rattle.repo_calls.specs.declared.refusal.Refusal.{Refusal}
 use Rattle.repo_machine.specs.Held.{Room, HasRoom}
-use Rattle.repo_machine.specs.Judged.{JudgedChange, Frames, IsJudged}
+use Rattle.repo_machine.specs.Judged.{JudgedChange, Frames}
 use Rattle.repo_machine.specs.Entering.{IsNew, IsPrepared, Prevents, Enters, Judges}
 use Rattle.repo_machine.specs.Landings.{IsRefusal}
 use Rattle.repo_machine.proofs.Judging.{entered_made, prevented}

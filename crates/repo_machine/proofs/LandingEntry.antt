@@ -1,32 +1,26 @@
 -- A landing is entered.
-use Rattle.std.proofs.Common.{◌≡◌, ℕ, ◌+◌, ◌<◌, ◌≤◌, Bool, true, false, List, [], ◌∷◌, ◌++◌, map, length, inl, inr, refl, sym, ap, subst, ◌∙◌, arith}
-use Rattle.std.specs.Prelude.{Option, None, Some, Result, Ok, Err, ◌&&◌}
+use Rattle.std.proofs.Common.{◌≡◌, ℕ, ◌<◌, Bool, true, false, List, [], ◌∷◌, ◌++◌, map, length, refl, sym, ap, subst, ◌∙◌, arith}
+use Rattle.std.specs.Prelude.{◌&&◌}
 use Rattle.std.specs.List.{AllByRecursion}
 use Rattle.std.specs.Borrow.{Bor}
 use Rattle.std.proofs.lemmas.List.{append_assoc, append-nil}
 use Rattle.byte_fields.specs.Bytes.{Id}
 use Rattle.changeset_model.specs.Changeset.{Changeset, id_of}
 use Rattle.history_model.specs.History as model
-use Rattle.history_model.specs.Pushrebase.{fork, on_parent, rewrite}
+use Rattle.history_model.specs.Pushrebase.{on_parent, rewrite}
 use Rattle.history_model.specs.Journal.{Header}
-use Rattle.history_model.specs.Repository.{Repository}
 use Rattle.reply_model.specs.Reply as reply
 use Rattle.reply_model.specs.Reply.{LandDraft, judge, enter_landing}
-use Rattle.reply_model.specs.After.{Answer, Asks, Refuses, Replies, entry_by}
+use Rattle.reply_model.specs.After.{entry_by}
 use Rattle.changeset_store.specs.Store.{changeset_at}
-use Rattle.changeset_store.specs.Fork.{IsFork, fork_between}
 use Rattle.repo_machine.specs.declared.records.LandRecord.{LandRecord}
 use Rattle.repo_machine.specs.declared.records.Record.TheVariants.{Land}
 use Rattle.repo_machine.specs.declared.records.Entry.{Entry}
-use Rattle.repo_machine.specs.declared.landings.Planned.{Planned}
-use Rattle.repo_calls.specs.declared.refusal.Refusal.{Refusal}
-use Rattle.repo_calls.specs.Calls.{refused}
-use Rattle.repo_machine.specs.Records.{landing_of, history_of, IsWithin}
-use Rattle.repo_machine.specs.Landings.{IsRefusal, Checked, payload_checked, collisions_checked, IsPlanned, IsLandable}
+use Rattle.repo_machine.specs.Records.{history_of, IsWithin}
+use Rattle.repo_machine.specs.Landings.{IsLandable}
 use Rattle.changeset_store.specs.Grown.{AreAlone, adding_one, adding, CanAdd}
 use Rattle.repo_machine.proofs.Within.{history_pushed, within_pushed}
 use Rattle.changeset_store.proofs.Added.{adds_some, can_add}
-use Rattle.repo_machine.proofs.LandingSteps.{payload_refused, collision_refused, judged_landing}
 
 -- ---- what is entered
 
@@ -36,42 +30,6 @@ length-rewrite (c ∷ cs) head = let rest = length-rewrite cs (id_of (on_parent 
 
 pub rewritten : (given items : List (Bor Changeset)) (stack : List Changeset) (head : Id) (new : List Changeset) → new ≡ rewrite (map (λ c. c.now) given) head → given ≡ items → map (λ c. c.now) items ≡ stack → new ≡ rewrite stack head
 rewritten given items stack head new is same are = is ∙ (λ i. rewrite (map (λ (c : Bor Changeset). c.now) (same i)) head) ∙ ap (λ cs. rewrite cs head) are
-
-module _ (header : Header) (h : List model.Entry) (name : List ℕ) (draft : Id) (planned : Planned) (p : IsPlanned header h name draft planned) (l : model.Landing) (names : l.name ≡ name) (olds : l.old ≡ planned.old) (drafts : l.draft ≡ draft) (new : l.new ≡ rewrite (fork_between (model.known h) planned.fork).stack planned.old) where
-  abbrev stack : List Changeset
-  stack = (fork_between (model.known h) planned.fork).stack
-
-  long : length l.new ≡ length stack
-  long = ap length new ∙ length-rewrite stack planned.old
-
-  pub few : length l.new ≤ 100
-  few = let same = long in let few = p.few in omega arith
-
-  judged : judge header h (LandDraft name draft) ≡ enter_landing header h l.name l.old l.draft l.new
-  judged = p.judged ∙ (λ i. enter_landing header h (sym names i) (sym olds i) (sym drafts i) (sym new i))
-
-  pub payload_refused_as : (e : Refusal) → IsRefusal (payload_checked l) e → IsRefusal (judge header h (LandDraft name draft)) e
-  payload_refused_as e refusal = payload_refused header h (LandDraft name draft) l.name l.old l.draft l.new judged e refusal
-
-  module _ (short : payload_checked l ≡ Ok tt) where
-    pub collision_refused_as : (e : Refusal) → IsRefusal (collisions_checked (model.known h) l.new) e → IsRefusal (judge header h (LandDraft name draft)) e
-    collision_refused_as e refusal = collision_refused header h (LandDraft name draft) l.name l.old l.draft l.new judged short e refusal
-
-    pub landable : collisions_checked (model.known h) l.new ≡ Ok tt → AreAlone (model.known h) l.new → IsLandable header h name draft l
-    landable apart alone = record {
-      names = names;
-      drafts = drafts;
-      head_is = p.head_is ∙ ap Some (sym olds);
-      old_known = ap (model.is_known (model.known h)) olds ∙ p.old_known;
-      fork_is = fork_between (model.known h) planned.fork;
-      forks = ap (λ old. fork (model.known h) old draft) olds ∙ p.forks;
-      rewritten = new ∙ ap (rewrite stack) (sym olds);
-      some = (let same = long in let some = p.some in omega arith);
-      few = few;
-      apart = p.apart;
-      alone = alone;
-      judged = judged_landing header h (LandDraft name draft) l.name l.old l.draft l.new judged short apart;
-    }
 
 -- ---- the entry
 

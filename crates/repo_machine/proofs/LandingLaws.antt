@@ -1,11 +1,11 @@
 -- The trees after a landing.
 use Rattle.std.proofs.Common.{◌≡◌, ℕ, suc, ◌+◌, Bool, true, false, cond, not, ◌||◌, List, [], ◌∷◌, ◌++◌, map, length, drop, reverse, refl, sym, ap, subst, ◌∙◌, arith, add-one}
 use Rattle.std.specs.Prelude.{Option, None, Some, option_map, unwrap_or, Contains, bytes_eq}
-use Rattle.std.specs.List.{AllByRecursion, after_first, position_or_len, list_any, last_or}
+use Rattle.std.specs.List.{after_first, position_or_len, list_any, last_or}
 use Rattle.std.specs.Option.{option_map_or}
 use mathlib.Core.Bool.{true≢false}
 use mathlib.Core.List.{reverse-cons}
-use Rattle.std.proofs.lemmas.List.{append_assoc, append-nil, map-append, reverse-append}
+use Rattle.std.proofs.lemmas.List.{append_assoc, map-append, reverse-append}
 use Rattle.std.proofs.lemmas.Slice.Eq.{bytes_eq-Decides}
 use Rattle.byte_fields.specs.Bytes.{Id, last_of, last_that}
 use Rattle.changeset_model.specs.Path.{Path}
@@ -13,7 +13,7 @@ use Rattle.changeset_model.specs.Changeset.{Changeset, id_of, touched_paths}
 use Rattle.history_model.specs.History.{Entry, Known, Landing, Land, with_id, is_known, known}
 use Rattle.history_model.specs.Chain.{first_parent, line_among, line, chain, changesets}
 use Rattle.history_model.specs.Tree.{decides, tree}
-use Rattle.history_model.specs.Pushrebase.{Fork, fork, fork_at, clash, rewrite}
+use Rattle.history_model.specs.Pushrebase.{Fork, fork, fork_at}
 use Rattle.history_model.specs.Journal.{Header}
 use Rattle.history_model.proofs.Trees.{tree-landed}
 use Rattle.history_model.proofs.Touched.{unchanged_since_root}

@@ -1,6 +1,6 @@
 -- The paths of a stack and of a range, as the code reads them.
-use Rattle.std.proofs.Common.{◌≡◌, ℕ, zero, suc, ◌<◌, List, [], ◌∷◌, map, length, refl, sym, ap, subst, ◌∙◌, arith}
-use Rattle.std.specs.Prelude.{Option, None, Some, Ok, slice_index_or}
+use Rattle.std.proofs.Common.{◌≡◌, ℕ, zero, suc, ◌<◌, List, [], ◌∷◌, map, length, refl, sym, ap, ◌∙◌, arith}
+use Rattle.std.specs.Prelude.{None, Some, Ok, slice_index_or}
 use Rattle.std.specs.Borrow.{Bor}
 use Rattle.changeset_model.specs.Path.{Path}
 use Rattle.changeset_model.specs.Changeset.{Changeset, touched_paths}
@@ -9,7 +9,6 @@ use Rattle.reply_model.specs.Reply as reply
 use Rattle.path_conflict.specs.Places.{paths_of, pair_at}
 use Rattle.path_conflict.specs.declared.least.Clash.{Clash}
 use Rattle.repo_calls.specs.declared.refusal.Refusal.TheVariants as refusals
-use Rattle.repo_calls.specs.Calls.{refused}
 use Rattle.repo_machine.specs.Landings.{IsRefusal, paths_checked}
 use Rattle.repo_machine.proofs.LandingSteps.{refused_some, refused_none}
 

@@ -1,14 +1,12 @@
 -- What is planned, over the indexes.
-use Rattle.std.proofs.Common.{◌≡◌, ℕ, ◌<◌, ◌≤◌, Bool, true, false, not, List, [], ◌∷◌, map, length, refl, sym, ap, subst, ◌∙◌, arith}
-use Rattle.std.specs.Prelude.{Option, None, Some, Result, Ok, Err, IfSome, IfErr, IsErrAnd, ok_or}
-use Rattle.std.specs.Borrow.{Bor}
-use mathlib.Core.Bool.{true≢false}
+use Rattle.std.proofs.Common.{◌≡◌, ℕ, Bool, true, false, not, List, refl, sym, ap, subst, ◌∙◌}
+use Rattle.std.specs.Prelude.{Option, None, Some, Ok, IfSome, ok_or}
 use Rattle.byte_fields.specs.Bytes.{Id}
-use Rattle.changeset_model.specs.Changeset.{Changeset, id_of}
-use Rattle.history_model.specs.History as model
-use Rattle.history_model.specs.History.{Entry, Known, Land, is_down, known, is_known}
+use Rattle.changeset_model.specs.Path.{Path}
+use Rattle.changeset_model.specs.Changeset.{Changeset, touched_paths}
+use Rattle.history_model.specs.History.{Entry, Known, is_down, known, is_known}
 use Rattle.history_model.specs.Bookmark.{head}
-use Rattle.history_model.specs.Pushrebase.{Fork, fork, rewrite}
+use Rattle.history_model.specs.Pushrebase.{Fork, fork}
 use Rattle.history_model.specs.Journal.{Header}
 use Rattle.history_model.specs.Repository.{Repository}
 use Rattle.reply_model.specs.Reply as reply
@@ -18,12 +16,12 @@ use Rattle.changeset_store.specs.declared.fork.Fork as store
 use Rattle.changeset_store.specs.Fork.{IsFork, fork_between}
 use Rattle.repo_calls.specs.declared.refusal.Refusal.{Refusal}
 use Rattle.repo_calls.specs.declared.refusal.Refusal.TheVariants as refusals
-use Rattle.repo_machine.specs.declared.landings.Planned.{Planned}
+use Rattle.repo_machine.specs.Plans.{IsPlan}
 use Rattle.repo_machine.specs.Indexes.{AreIndexes}
-use Rattle.repo_machine.specs.Landings.{IsRefusal, forking, lengths_checked, paths_checked, payload_checked, collisions_checked, IsPlanned, IsLandable}
+use Rattle.repo_machine.specs.Landings.{IsRefusal, forking, lengths_checked, paths_checked}
 use Rattle.changeset_store.proofs.KnownOnce.{is_known-once}
 use Rattle.repo_machine.proofs.Uploading.{known_as}
-use Rattle.repo_machine.proofs.LandingSteps.{is_short, none_refused, no_bookmark, fork_refused, lengths_refused, paths_refused, judged_planned, payload_refused, collision_refused, judged_landing}
+use Rattle.repo_machine.proofs.LandingSteps.{is_short, none_refused, no_bookmark, fork_refused, lengths_refused, paths_refused}
 
 fork_some_by : (there : Bool) (draft : Id) (found : Option Fork) (f : Fork) → (refuse_if (not there) (reply.NoChangeset draft) >>= λ _. ok_or found reply.NoRoot) ≡ Ok f → found ≡ Some f
 fork_some_by true draft None f e = absurd cc
@@ -32,6 +30,13 @@ fork_some_by false draft found f e = absurd cc
 
 fork_some : (ks : List Known) (old draft : Id) (f : Fork) → forking ks old draft ≡ Ok f → fork ks old draft ≡ Some f
 fork_some ks old draft f e = fork_some_by (is_known ks draft) draft (fork ks old draft) f e
+
+known_by : (there : Bool) (draft : Id) (found : Option Fork) (f : Fork) → (refuse_if (not there) (reply.NoChangeset draft) >>= λ _. ok_or found reply.NoRoot) ≡ Ok f → there ≡ true
+known_by true draft found f e = refl
+known_by false draft found f e = absurd cc
+
+fork_known : (ks : List Known) (old draft : Id) (f : Fork) → forking ks old draft ≡ Ok f → is_known ks draft ≡ true
+fork_known ks old draft f e = known_by (is_known ks draft) draft (fork ks old draft) f e
 
 from_some : (ks : List Known) (o : Option Id) (x : Id) → o ≡ Some x → IfSome o (λ x. is_known ks x ≡ true) → is_known ks x ≡ true
 from_some ks o x e h = subst (λ o. IfSome o (λ x. is_known ks x ≡ true)) e h
@@ -66,17 +71,22 @@ module _ {header : Header} {h : List Entry} {ks : List Known} {heads : List ℕ 
           paths_refused_as e refusal =
               paths_refused r.header r.history name draft up old at (fork_between (known r.history) f) forks_as short_as e (subst (λ ks. IsRefusal (paths_checked (fork_between ks f)) e) (known_as k r is) refusal)
 
-          pub planned : paths_checked (fork_between ks f) ≡ Ok tt → IsPlanned r.header r.history name draft (record { old = old; fork = f })
-          planned apart =
+          pub planned : (name' : List ℕ) → name' ≡ name → (stack : List Changeset) → stack ≡ (fork_between ks f).stack → (touched : List Path) → touched ≡ touched_paths (fork_between ks f).stack → paths_checked (fork_between ks f) ≡ Ok tt → IsPlan r.history name draft (record { name = name'; draft = draft; old = old; stack = stack; touched = touched })
+          planned name' named stack stack_is touched touched_is apart =
               let apart_as = subst (λ ks. paths_checked (fork_between ks f) ≡ Ok tt) (known_as k r is) apart in
               let lengths = is_short (fork_between (known r.history) f) short_as in
               record {
-                is_fork = subst (λ ks. IsFork ks f) (known_as k r is) is_fork;
+                names = named;
+                drafts = refl;
                 head_is = at;
                 old_known = subst (λ ks. is_known ks old ≡ true) (known_as k r is) head_known;
+                draft_known = fork_known (known r.history) old draft (fork_between (known r.history) f) forks_as;
+                fork_is = fork_between (known r.history) f;
                 forks = fork_some (known r.history) old draft (fork_between (known r.history) f) forks_as;
+                stack_is = stack_is ∙ ap (λ ks. (fork_between ks f).stack) (known_as k r is);
+                near = lengths.near;
                 some = lengths.some;
                 few = lengths.few;
                 apart = none_refused _ _ apart_as;
-                judged = judged_planned r.header r.history name draft up old at (fork_between (known r.history) f) forks_as short_as apart_as;
+                touched_is = touched_is ∙ ap touched_paths (sym stack_is);
               }

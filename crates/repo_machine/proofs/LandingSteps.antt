@@ -1,16 +1,15 @@
 -- What the steps of a landing give, and what is judged by them.
-use Rattle.std.proofs.Common.{◌≡◌, ℕ, ◌+◌, ◌<◌, ◌≤◌, lt-ltb, le-ltb, Bool, true, false, cond, List, [], ◌∷◌, length, map, inl, inr, refl, sym, ap, subst, ◌∙◌, arith}
+use Rattle.std.proofs.Common.{◌≡◌, ℕ, ◌<◌, ◌≤◌, lt-ltb, le-ltb, Bool, true, false, List, length, map, inl, inr, refl, sym, ap, ◌∙◌, arith}
 use Rattle.std.specs.Prelude.{Option, None, Some, Result, Ok, Err, not, nat_lt, ◌==◌, ok_or}
 use Rattle.std.proofs.lemmas.Bool.{eq-eqb}
 use Rattle.std.proofs.lemmas.Bool.Decides.{Decides-eqb, nat_tests}
 use mathlib.Core.Bool.{true≢false}
 use Rattle.byte_fields.specs.Bytes.{Id}
-use Rattle.changeset_model.specs.Path.{Path}
-use Rattle.changeset_model.specs.Changeset.{Changeset, id_of, touched_paths}
+use Rattle.changeset_model.specs.Changeset.{Changeset, id_of}
 use Rattle.history_model.specs.History as model
 use Rattle.history_model.specs.History.{Entry, Known, Land, is_down, known, is_known}
 use Rattle.history_model.specs.Bookmark.{head}
-use Rattle.history_model.specs.Pushrebase.{Fork, fork, clash, rewrite}
+use Rattle.history_model.specs.Pushrebase.{Fork, fork, rewrite}
 use Rattle.history_model.specs.Journal.{Header, payload_len, most_payload}
 use Rattle.reply_model.specs.Reply as reply
 use Rattle.reply_model.specs.Reply.{◌>>=◌, refuse_if, refuse_some, most_range, most_stack, first_collision, LandDraft, Judged, judge, entered, enter_landing, land}
@@ -18,7 +17,7 @@ use Rattle.reply_model.specs.After.{Refuses}
 use Rattle.repo_calls.specs.Calls.{refused}
 use Rattle.repo_calls.specs.declared.refusal.Refusal.{Refusal}
 use Rattle.repo_calls.specs.declared.refusal.Refusal.TheVariants as refusals
-use Rattle.repo_machine.specs.Landings.{IsRefusal, Steps, Checked, forking, lengths_checked, paths_checked, payload_checked, collisions_checked}
+use Rattle.repo_machine.specs.Landings.{IsRefusal, Checked, forking, lengths_checked, paths_checked, payload_checked, collisions_checked}
 use Rattle.repo_machine.proofs.Judging.{judged_up}
 
 -- ---- lengths
@@ -59,14 +58,15 @@ module _ (f : Fork) (distance : ℕ) (is : distance ≡ length f.range) where
     fine_lengths some few = near_are ∙ (λ i. lengths_by false distance (not_zero count some i) (le-ltb most_stack count few i) count)
 
 -- what passes is short, and something
-passed_by : (far none many : Bool) (distance count : ℕ) → lengths_by far distance none many count ≡ Ok tt → (none ≡ false) × (many ≡ false)
+passed_by : (far none many : Bool) (distance count : ℕ) → lengths_by far distance none many count ≡ Ok tt → (far ≡ false) × (none ≡ false) × (many ≡ false)
 unfolding lengths_by
 passed_by true none many distance count e = absurd cc
 passed_by false true many distance count e = absurd cc
 passed_by false false true distance count e = absurd cc
-passed_by false false false distance count e = (refl, refl)
+passed_by false false false distance count e = (refl, refl, refl)
 
 pub record IsShort (f : Fork) : Type 0 where
+  pub near : length f.range ≤ most_range
   pub some : 0 < length f.stack
   pub few : length f.stack ≤ most_stack
 
@@ -76,14 +76,14 @@ some_by n e = by n e
     by : (n : ℕ) → (n == 0) ≡ false → 0 < n
     by n e = let apart : n ≡ 0 → ⊥ = λ z. true≢false (sym ((Decides-eqb n 0).1 z) ∙ e) in omega (arith, apart)
 
-few_by : (n : ℕ) → nat_lt most_stack n ≡ false → n ≤ most_stack
-few_by n e = grind (arith, nat_tests)
+most_by : (most n : ℕ) → nat_lt most n ≡ false → n ≤ most
+most_by most n e = grind (arith, nat_tests)
 
 pub is_short : (f : Fork) → lengths_checked f ≡ Ok tt → IsShort f
 unfolding lengths_by
 is_short f e =
     let both = passed_by (nat_lt most_range (length f.range)) (length f.stack == 0) (nat_lt most_stack (length f.stack)) (length f.range) (length f.stack) e in
-    record { some = some_by (length f.stack) both.0; few = few_by (length f.stack) both.1 }
+    record { near = most_by most_range (length f.range) both.0; some = some_by (length f.stack) both.1; few = most_by most_stack (length f.stack) both.2 }
 
 -- ---- the fork
 

@@ -1,6 +1,6 @@
 -- What is found passes the test.
 use Rattle.std.proofs.Common.{◌≡◌, Bool, true, false, cond, List, [], ◌∷◌, reverse, refl, sym, ap, ◌∙◌}
-use Rattle.std.specs.Prelude.{Option, None, Some, find, unwrap_or}
+use Rattle.std.specs.Prelude.{Option, Some, find, unwrap_or}
 use Rattle.byte_fields.specs.Bytes.{last_that}
 
 same_Some : {X : Type 0} (x y : X) → Some x ≡ Some y → x ≡ y

@@ -14,7 +14,13 @@ pub mod KnownLanding
 pub mod LandingPlans
 pub mod LandingLaws
 pub mod LandingEntry
+pub mod Planning
 pub mod LastThat
 pub mod Kept
 pub mod Granting
 pub mod Lists
+pub mod Heads
+pub mod CountedEntries
+pub mod Cleared
+pub mod ClearedEntries
+pub mod Unseating

@@ -16,7 +16,7 @@ use Rattle.repo_machine.specs.declared.records.Record.TheVariants.{Content, Chan
 use Rattle.repo_machine.specs.declared.records.Entry.{Entry}
 use Rattle.repo_calls.specs.declared.log.LogEntry.{LogEntry}
 use Rattle.repo_calls.specs.Calls.{line_seen, lines_seen}
-use Rattle.repo_machine.specs.Records.{body_of, entry_of, history_of, RecordWithin, IsWithin, is_record_kept, is_kept, kept_from}
+use Rattle.repo_machine.specs.Records.{body_of, history_of, RecordWithin, IsWithin, is_record_kept, is_kept, kept_from}
 use Rattle.repo_machine.specs.Lines.{record_line, entry_at, line_at, KeptWithin, IsKeptAt}
 
 -- ---- a page

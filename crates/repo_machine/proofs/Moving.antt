@@ -1,6 +1,6 @@
 -- What is judged of a move, by the heads as they are looked up.
 use Rattle.std.proofs.Common.{◌≡◌, ℕ, Bool, true, false, List, refl, sym, ap, ◌∙◌}
-use Rattle.std.specs.Prelude.{Option, None, Some, not, find, bytes_eq}
+use Rattle.std.specs.Prelude.{Option, None, not, find, bytes_eq}
 use Rattle.std.specs.Option.{option_eq, option_to_list}
 use Rattle.byte_fields.specs.Bytes.{Id}
 use Rattle.history_model.specs.History.{Book, Entry, is_down, known, is_known}

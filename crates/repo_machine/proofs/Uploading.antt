@@ -1,11 +1,11 @@
 -- What is judged of an upload, by its checks.
-use Rattle.std.proofs.Common.{◌≡◌, ℕ, ◌≤◌, ◌<◌, ◌^◌, Bool, true, false, cond, not, inl, inr, List, [], ◌∷◌, length, refl, sym, ap, subst, ◌∙◌, arith}
-use Rattle.std.specs.Prelude.{Option, None, Some, Result, Ok, Err, nat_lt, find, option_map, filter_map, IsErrAnd}
+use Rattle.std.proofs.Common.{◌≡◌, ℕ, ◌≤◌, Bool, true, false, cond, not, inl, inr, List, [], ◌∷◌, length, refl, sym, ap, subst, ◌∙◌}
+use Rattle.std.specs.Prelude.{Option, None, Some, Result, Ok, Err, nat_lt, find, option_map, filter_map}
 use Rattle.std.specs.List.{AllByRecursion}
 use Rattle.std.specs.Option.{option_or}
 use Rattle.byte_fields.specs.Bytes.{Id, first_some, IsBytes}
 use Rattle.changeset_model.specs.Path.{Path}
-use Rattle.changeset_model.specs.Changeset.{Changeset, FileChange, Set, Delete, id_of, sets_of, file_of, spelling, most_encoded, Spells}
+use Rattle.changeset_model.specs.Changeset.{Changeset, FileChange, Set, Delete, id_of, sets_of, file_of, spelling, most_encoded}
 use Rattle.changeset_model.specs.Decoding.{decoded}
 use Rattle.changeset_model.specs.Decoding as decoding
 use Rattle.changeset_model.proofs.Accepting.{accepted_exactly}
@@ -19,7 +19,6 @@ use Rattle.reply_model.specs.Reply.{Ask, PutChangeset, ChangesetPut, Refusal, Ju
 use Rattle.reply_model.specs.After.{Answer, Asks, Replies}
 use Rattle.repo_calls.specs.declared.refusal.Refusal as refusal
 use Rattle.repo_calls.specs.declared.refusal.Refusal.TheVariants as refusals
-use Rattle.repo_calls.specs.Calls.{refused}
 use Rattle.repo_machine.specs.Landings.{IsRefusal}
 use Rattle.repo_machine.specs.Faults.{fault_refusal}
 use Rattle.repo_machine.specs.Indexes.{AreIndexes}

@@ -2,11 +2,10 @@
 --     IsRefusal wanted e      the machine's refusal is the one that the definitions have, or want of memory
 --     Steps view wanted result      what a step gives is what it gives in the definitions, or memory ran out
 --     forking, lengths_checked, paths_checked, payload_checked, collisions_checked      the steps of `land`
---     IsPlanned header h name draft planned      the draft may be landed so, if the new changesets may be entered
 --     IsLandable header h name draft landing      the landing is to be entered, if there is room;  IsLanded header h name draft judged      it is judged to be
 --     IsLanding before after old draft ids      the trees after a landing
-use Rattle.std.specs.Prelude.{◌≡◌, ◌≤◌, ◌<◌, ◌==◌, ◌⊎◌, ℕ, Bool, true, not, nat_lt, cond, if◌then◌else◌, List, [], ◌∷◌, ◌++◌, length, map, Contains, Option, None, Some, ok_or, Result, Ok, Err}
-use Rattle.std.specs.List.{AllByRecursion, list_any}
+use Rattle.std.specs.Prelude.{◌≡◌, ◌≤◌, ◌<◌, ◌==◌, ◌⊎◌, ℕ, true, not, nat_lt, cond, List, length, map, Contains, None, Some, ok_or, Result, Ok, Err}
+use Rattle.std.specs.List.{list_any}
 use Rattle.byte_fields.specs.Bytes.{Id, last_of}
 use Rattle.changeset_model.specs.Path.{Path}
 use Rattle.changeset_model.specs.Changeset.{Changeset, id_of, touched_paths}
@@ -19,13 +18,11 @@ use Rattle.history_model.specs.Pushrebase.{fork, clash, rewrite}
 use Rattle.history_model.specs.Pushrebase as pushrebase
 use Rattle.history_model.specs.Journal.{Header, payload_len, most_payload}
 use Rattle.reply_model.specs.Reply as reply
-use Rattle.reply_model.specs.Reply.{◌>>=◌, refuse_if, refuse_some, most_range, most_stack, first_collision, LandDraft, is_ask, judge, entered, enter_landing}
+use Rattle.reply_model.specs.Reply.{◌>>=◌, refuse_if, refuse_some, most_range, most_stack, first_collision, LandDraft, judge, entered}
 use Rattle.reply_model.specs.After.{Refuses}
 use Rattle.changeset_store.specs.Grown.{AreAlone}
-use Rattle.changeset_store.specs.Fork.{IsFork, fork_between}
 use Rattle.repo_calls.specs.declared.refusal.Refusal.{Refusal}
 use Rattle.repo_calls.specs.declared.refusal.Refusal.TheVariants.{Memory}
-use Rattle.repo_machine.specs.declared.landings.Planned.{Planned}
 use Rattle.repo_calls.specs.Calls.{refused}
 use Rattle.repo_machine.specs.Judged.{JudgedChange}
 
@@ -60,16 +57,6 @@ payload_checked landing = refuse_if (nat_lt most_payload (payload_len (Land land
 
 abbrev pub collisions_checked : List Known → List Changeset → Checked
 collisions_checked ks new = refuse_some (first_collision ks new) reply.Collision
-
-pub record IsPlanned (header : Header) (h : List Entry) (name : List ℕ) (draft : Id) (planned : Planned) : Type 0 where
-  pub is_fork : IsFork (known h) planned.fork
-  pub head_is : head h name ≡ Some planned.old
-  pub old_known : is_known (known h) planned.old ≡ true
-  pub forks : fork (known h) planned.old draft ≡ Some (fork_between (known h) planned.fork)
-  pub some : 0 < length (fork_between (known h) planned.fork).stack
-  pub few : length (fork_between (known h) planned.fork).stack ≤ most_stack
-  pub apart : clash (touched_paths (fork_between (known h) planned.fork).stack) (touched_paths (fork_between (known h) planned.fork).range) ≡ None
-  pub judged : judge header h (LandDraft name draft) ≡ enter_landing header h name planned.old draft (rewrite (fork_between (known h) planned.fork).stack planned.old)
 
 -- ---- a landing
 

@@ -9,3 +9,7 @@ pub mod Plain
 pub mod Checking
 pub mod Faults
 pub mod Lines
+pub mod Plans
+pub mod Recorded
+pub mod Counting
+pub mod Seats

@@ -2,7 +2,7 @@
 --     record_line ks record      where these changesets are the known ones. A fault has no line
 --     entry_at es n, line_at ks es n      the entry at a place, and what is told of it
 --     KeptWithin count record, IsKeptAt count es n      it is stored, and each changeset that it names has a number below this
-use Rattle.std.specs.Prelude.{ℕ, ◌<◌, ◌≡◌, Bool, false, List, [], map, length, get_or}
+use Rattle.std.specs.Prelude.{ℕ, ◌<◌, false, List, [], map, length, get_or}
 use Rattle.std.specs.List.{AllByRecursion}
 use Rattle.changeset_model.specs.Changeset.{id_of}
 use Rattle.history_model.specs.History.{Known}

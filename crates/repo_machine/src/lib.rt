@@ -1,23 +1,32 @@
 //! The repository of one thread: a history with its indexes, and the reply to each call at it.
-//! A call costs what its own work costs; no call goes through the history.
+//! A call costs what its own work costs; no call but `counts` and `clear_seats` goes through the history.
 #![tactic(auto)]
 
 pub mod bookmarks;
 pub mod contents;
+pub mod counts;
 pub mod entering;
+pub mod exchange;
 pub mod faults;
 pub mod judge;
 pub mod judged;
 pub mod landings;
+pub mod laws;
 pub mod log;
 pub mod machine;
 pub mod place;
 pub mod plain;
+pub mod plan;
 mod preparing;
 pub mod reads;
+pub mod rebased;
 mod records;
+pub mod seats;
 pub mod uploads;
 
+pub use counts::Counts;
 pub use judged::Judged;
 pub use machine::Machine;
 pub use place::Place;
+pub use plan::Plan;
+pub use rebased::Rebased;

@@ -7,17 +7,17 @@ ghost use Rattle.changeset_store.specs.Shared.{values};
 ghost use Rattle.history_model.specs.History.{changesets_in};
 ghost use Rattle.history_model.specs.Journal.{IsContentOf, payload_len};
 ghost use Rattle.repo_calls.specs.Calls.{granted_seen};
-ghost use Rattle.repo_events.specs.Entries.{body_of};
+ghost use Rattle.repo_events.specs.Entries.{body_of, landing_of};
 ghost use Rattle.repo_machine.specs.Entering.{IsPrepared, Prevents};
 ghost use Rattle.repo_machine.specs.Held.{HasRoom};
-ghost use Rattle.repo_machine.specs.Made.{made_of, IsMadeReady};
+ghost use Rattle.repo_machine.specs.Made.{made_of, landing_made, HasNumbers, IsMadeReady};
 
 use crate::judged::{Judged, LandMade, Made};
 use crate::machine::Machine;
 use bonsai::Commit;
 use object_id::Id;
 use repo_calls::{Granted, Refusal};
-use repo_events::{Body, encode_entry};
+use repo_events::{Body, Landing, encode_entry};
 use repo_path::BookName;
 use std::alloc::{AllocError, Global};
 use std::collections::BTreeMap;
@@ -60,17 +60,44 @@ impl Machine {
         ensures history { self.new.history ≡ self.old.history }
         ensures room { OnOk result (HasRoom self.new.room (Some (made_of made.now))) }
     {
-        self.entries.try_reserve(2)?;
-        self.kept.try_reserve(1)?;
+        self.make_room_for_entry()?;
         match made {
             Made::Content { id: _, length: _ } => self.contents.try_reserve(1),
             Made::Change(_) => self.changesets.reserve(1),
             Made::Book(movement) => place_name(&mut self.heads, alloc, &movement.name),
             Made::Land(landing) => {
-                self.changesets.reserve(landing.new.len() as u32)?;
-                place_name(&mut self.heads, alloc, &landing.name)
+                self.make_room_for_landing(alloc, &landing.name, landing.new.len() as u32)
             }
         }
+    }
+
+    // Makes room for an entry that is stored, and for one fault after it.
+    pub(crate) fn make_room_for_entry(&mut self) -> Result<(), AllocError>
+        ensures header { self.new.header ≡ self.old.header }
+        ensures history { self.new.history ≡ self.old.history }
+        ensures entries { OnOk result (2 ≤ self.new.room.entries) }
+        ensures stored { OnOk result (1 ≤ self.new.room.stored) }
+    {
+        self.entries.try_reserve(2)?;
+        self.kept.try_reserve(1)
+    }
+
+    // Makes room for what a landing of so many changesets brings.
+    pub(crate) fn make_room_for_landing(
+        &mut self,
+        alloc: Global,
+        name: &BookName,
+        count: u32,
+    ) -> Result<(), AllocError>
+        ensures header { self.new.header ≡ self.old.header }
+        ensures history { self.new.history ≡ self.old.history }
+        ensures entries { self.new.room.entries ≡ self.old.room.entries }
+        ensures stored { self.new.room.stored ≡ self.old.room.stored }
+        ensures changesets { OnOk result (count ≤ self.new.room.changesets) }
+        ensures placed { OnOk result (Contains self.new.room.names name.now) }
+    {
+        self.changesets.reserve(count)?;
+        place_name(&mut self.heads, alloc, name)
     }
 }
 
@@ -99,13 +126,21 @@ fn made_from(alloc: Global, body: Body) -> Result<Made, AllocError>
         Body::Content { id, length } => Made::Content { id, length },
         Body::Change(commit) => Made::Change(Arc::new(alloc, commit)?),
         Body::Book(movement) => Made::Book(movement),
-        Body::Land(landing) => Made::Land(LandMade {
-            name: landing.name,
-            old: landing.old,
-            draft: landing.draft,
-            numbers: Vec::with_capacity(alloc, landing.new.len())?,
-            new: shared(alloc, landing.new)?,
-        }),
+        Body::Land(landing) => Made::Land(land_made(alloc, landing)?),
+    })
+}
+
+// A landing with its changesets shared, and with memory for their numbers.
+pub(crate) fn land_made(alloc: Global, landing: Landing) -> Result<LandMade, AllocError>
+    ensures made { IfOk result (λ made. landing_made made ≡ landing_of landing) }
+    ensures ready { IfOk result HasNumbers }
+{
+    Ok(LandMade {
+        name: landing.name,
+        old: landing.old,
+        draft: landing.draft,
+        numbers: Vec::with_capacity(alloc, landing.new.len())?,
+        new: shared(alloc, landing.new)?,
     })
 }
 

@@ -5,11 +5,21 @@
 #[cfg(test)]
 mod bookmarks;
 #[cfg(test)]
+mod counts;
+#[cfg(test)]
 mod examples;
+#[cfg(test)]
+mod faults;
 #[cfg(test)]
 mod landings;
 #[cfg(test)]
 mod log;
+#[cfg(test)]
+mod places;
+#[cfg(test)]
+mod plans;
+#[cfg(test)]
+mod replays;
 #[cfg(test)]
 mod stacks;
 #[cfg(test)]

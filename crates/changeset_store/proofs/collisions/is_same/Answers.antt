@@ -1,4 +1,3 @@
-use Rattle.std.proofs.Common.{sym}
 use Rattle.changeset_store.proofs.Alone.{same_encoding, one_if_same}
 use Rattle.changeset_store.proofs.collisions.is_same.Goals as goal
 

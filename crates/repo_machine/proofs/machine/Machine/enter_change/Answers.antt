@@ -1,8 +1,7 @@
 use Rattle.std.proofs.Common.{refl, sym, ap, ◌∙◌, ◌++◌, ◌∷◌, [], arith}
 use Rattle.std.specs.Arc.{arc_value}
 use Rattle.byte_fields.proofs.Lists.{option_or-None}
-use Rattle.changeset_model.specs.Changeset.{id_of}
-use Rattle.history_model.specs.History.{Change, with_id, known, is_known, content_len}
+use Rattle.history_model.specs.History.{Change, with_id, content_len}
 use Rattle.reply_model.specs.After.{entry_by}
 use Rattle.repo_machine.specs.Held.{repository}
 use Rattle.repo_machine.specs.Records.{history_of}

@@ -1,6 +1,6 @@
 use Rattle.std.proofs.Common.{◌+◌, refl, sym, ap, ◌∙◌, arith}
 use Rattle.std.specs.Prelude.{cond, bytes_eq, Some}
-use Rattle.history_model.specs.History.{Content, content_len}
+use Rattle.history_model.specs.History.{Content}
 use Rattle.repo_machine.specs.Held.{repository}
 use Rattle.repo_machine.specs.Records.{history_of}
 use Rattle.repo_machine.proofs.Within.{history_pushed_same, within_pushed_same}

@@ -1,5 +1,4 @@
-use Rattle.std.proofs.Common.{cond, refl, sym, ap, ◌∙◌, arith}
-use Rattle.std.specs.Prelude.{bytes_eq}
+use Rattle.std.proofs.Common.{refl, sym, ap, ◌∙◌, arith}
 use Rattle.byte_fields.proofs.Lists.{option_or-None}
 use Rattle.history_model.specs.History.{Book, content_len}
 use Rattle.reply_model.specs.After.{entry_by}

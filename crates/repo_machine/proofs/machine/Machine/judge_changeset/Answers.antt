@@ -1,4 +1,4 @@
-use Rattle.std.proofs.Common.{◌≡◌, true, sym, ap, subst, ◌∙◌, arith}
+use Rattle.std.proofs.Common.{◌≡◌, true, sym, subst, arith}
 use Rattle.std.specs.Prelude.{Ok}
 use Rattle.byte_fields.specs.Bytes.{are_bytes}
 use Rattle.changeset_model.specs.Decoding.{decoded}

@@ -1,4 +1,4 @@
-use Rattle.std.proofs.Common.{◌≡◌, List, ap, sym, subst, map, take, drop, length, ◌∙◌, arith}
+use Rattle.std.proofs.Common.{ap, sym, subst, map, take, drop, length, ◌∙◌, arith}
 use Rattle.std.specs.List.{AllByRecursion}
 use Rattle.repo_machine.specs.Lines.{line_at, IsKeptAt}
 use Rattle.repo_machine.specs.Held.{repository}

@@ -1,8 +1,8 @@
-use Rattle.std.proofs.Common.{◌++◌, refl, sym, ap, subst, ◌∙◌}
+use Rattle.std.proofs.Common.{◌++◌, refl, ap, subst, ◌∙◌}
 use Rattle.std.specs.Prelude.{None}
 use Rattle.reply_model.specs.Reply.{SetBookmark}
 use Rattle.reply_model.specs.After.{Asks, Grants, Replies, entries_of}
-use Rattle.repo_calls.specs.Calls.{granted_seen, bookmark_answer}
+use Rattle.repo_calls.specs.Calls.{bookmark_answer}
 use Rattle.repo_machine.proofs.Judging.{answers_refusal, replies_admitted}
 use Rattle.repo_machine.proofs.machine.Machine.set_bookmark.Goals as goal
 

@@ -1,0 +1,111 @@
+-- Plans of landings, which outlast the history at which they were made.
+--     PlannedLanding, RebasedLanding      what a plan tells, and what it tells once its stack is on the planned head
+--     IsPlan h name draft plan      at h the draft is to be landed on the bookmark so, if no disk failed and the new changesets may be entered
+--     rebased_of plan      its stack on its head;  landing_in r      the landing that it makes
+--     WasPlanned h r      it comes from a plan that was one at a history with which h begins
+--     PassesPlan e      a refusal that may still come after a plan, want of memory not among them
+--     RefusesAs wanted e      the machine's refusal is the one that the definitions have
+use Rattle.std.specs.Prelude.{◌≡◌, ◌≤◌, ◌<◌, ℕ, true, List, length, None, Some, Result, Err, refl}
+use mathlib.Core.List.{IsPrefix}
+use Rattle.std.specs.Coded.{Coded, code_by, coded×, coded_list, coded_ℕ}
+use Rattle.byte_fields.specs.Bytes.{Id}
+use Rattle.changeset_model.specs.Path.{Path}
+use Rattle.changeset_model.specs.Changeset.{Changeset, touched_paths}
+use Rattle.changeset_model.specs.Codes.{coded_id, coded_path, coded_changesets}
+use Rattle.history_model.specs.History as model
+use Rattle.history_model.specs.History.{Entry, known, is_known}
+use Rattle.history_model.specs.Bookmark.{head}
+use Rattle.history_model.specs.Pushrebase.{Fork, fork, clash, rewrite}
+use Rattle.reply_model.specs.Reply as reply
+use Rattle.reply_model.specs.Reply.{most_range, most_stack}
+use Rattle.reply_model.specs.After.{Refuses}
+use Rattle.repo_calls.specs.declared.refusal.Refusal.{Refusal}
+use Rattle.repo_calls.specs.declared.refusal.Refusal.TheVariants as refusals
+use Rattle.repo_calls.specs.Calls.{refused}
+
+pub record PlannedLanding : Type 0 where
+  pub name : List ℕ
+  pub draft : Id
+  -- the bookmark's head
+  pub old : Id
+  -- what follows the root in the draft's chain
+  pub stack : List Changeset
+  pub touched : List Path
+
+pub record RebasedLanding : Type 0 where
+  pub name : List ℕ
+  pub draft : Id
+  pub old : Id
+  pub new : List Changeset
+  pub touched : List Path
+
+pub record IsPlan (h : List Entry) (name : List ℕ) (draft : Id) (plan : PlannedLanding) : Type 0 where
+  pub names : plan.name ≡ name
+  pub drafts : plan.draft ≡ draft
+  pub head_is : head h name ≡ Some plan.old
+  pub old_known : is_known (known h) plan.old ≡ true
+  pub draft_known : is_known (known h) draft ≡ true
+  pub fork_is : Fork
+  pub forks : fork (known h) plan.old draft ≡ Some fork_is
+  pub stack_is : plan.stack ≡ fork_is.stack
+  pub near : length fork_is.range ≤ most_range
+  pub some : 0 < length fork_is.stack
+  pub few : length fork_is.stack ≤ most_stack
+  pub apart : clash (touched_paths fork_is.stack) (touched_paths fork_is.range) ≡ None
+  pub touched_is : plan.touched ≡ touched_paths plan.stack
+
+abbrev pub rebased_of : PlannedLanding → RebasedLanding
+rebased_of plan = record { name = plan.name; draft = plan.draft; old = plan.old; new = rewrite plan.stack plan.old; touched = plan.touched }
+
+abbrev pub landing_in : RebasedLanding → model.Landing
+landing_in r = record { name = r.name; old = r.old; draft = r.draft; new = r.new }
+
+pub record WasPlanned (h : List Entry) (r : RebasedLanding) : Type 0 where
+  pub then : List Entry
+  pub begins : IsPrefix then h
+  pub plan : PlannedLanding
+  pub planned : IsPlan then r.name r.draft plan
+  pub rebased_is : r ≡ rebased_of plan
+
+abbrev pub PassesPlan : Refusal → Type 0
+PassesPlan refusals.Down = Unit {0}
+PassesPlan (refusals.TooLong length) = ⊥
+PassesPlan (refusals.BadEncoding at) = ⊥
+PassesPlan (refusals.SelfConflict short long) = ⊥
+PassesPlan refusals.Merge = ⊥
+PassesPlan (refusals.NoParent id) = ⊥
+PassesPlan (refusals.NoContent path id) = ⊥
+PassesPlan (refusals.WrongSize path wanted found) = ⊥
+PassesPlan (refusals.Collision id) = Unit {0}
+PassesPlan (refusals.NoChangeset id) = ⊥
+PassesPlan (refusals.Moved found) = ⊥
+PassesPlan refusals.NoBookmark = ⊥
+PassesPlan refusals.NoRoot = ⊥
+PassesPlan (refusals.TooFarBehind distance) = ⊥
+PassesPlan refusals.AlreadyIn = ⊥
+PassesPlan (refusals.StackTooLong count) = ⊥
+PassesPlan (refusals.Clash left right) = ⊥
+PassesPlan (refusals.TooLarge length) = Unit {0}
+PassesPlan (refusals.Full size length) = Unit {0}
+PassesPlan refusals.Memory = ⊥
+
+pub record RefusesAs {Y : Type 0} (wanted : Result Y reply.Refusal) (e : Refusal) : Type 0 where
+  pub refusal : reply.Refusal
+  pub is_refused : wanted ≡ Err refusal
+  pub same : refused e ≡ Refuses refusal
+  pub passes : PassesPlan e
+
+-- ---- as pairs
+
+abbrev pub coded_paths : Coded (List Path)
+coded_paths = coded_list coded_path
+
+abbrev pub coded_planned : Coded PlannedLanding
+coded_planned =
+    code_by (List ℕ × (Id × (Id × (List Changeset × List Path)))) (coded× (coded_list coded_ℕ) (coded× coded_id (coded× coded_id (coded× coded_changesets coded_paths))))
+    (λ p. (p.name, (p.draft, (p.old, (p.stack, p.touched))))) (λ t. record { name = t.0; draft = t.1.0; old = t.1.1.0; stack = t.1.1.1.0; touched = t.1.1.1.1 }) (λ _. refl)
+
+abbrev pub coded_rebased : Coded RebasedLanding
+coded_rebased =
+    code_by (List ℕ × (Id × (Id × (List Changeset × List Path)))) (coded× (coded_list coded_ℕ) (coded× coded_id (coded× coded_id (coded× coded_changesets coded_paths))))
+    (λ p. (p.name, (p.draft, (p.old, (p.new, p.touched))))) (λ t. record { name = t.0; draft = t.1.0; old = t.1.1.0; new = t.1.1.1.0; touched = t.1.1.1.1 }) (λ _. refl)

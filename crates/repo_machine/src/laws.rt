@@ -1,0 +1,27 @@
+//! Laws of plans, each the contract of a function that does nothing.
+ghost use Rattle.std.specs.Prelude.{◌≡◌, ℕ, false, Some, List};
+ghost use mathlib.Core.List.{IsPrefix};
+ghost use Rattle.byte_fields.specs.Bytes.{Id};
+ghost use Rattle.history_model.specs.Bookmark.{head};
+ghost use Rattle.history_model.specs.History.{Entry, is_down};
+ghost use Rattle.history_model.specs.Journal.{Header};
+ghost use Rattle.history_model.specs.Pushrebase.{rewrite};
+ghost use Rattle.reply_model.specs.Reply.{LandDraft, judge, enter_landing};
+ghost use Rattle.repo_machine.specs.Plans.{PlannedLanding, RebasedLanding, IsPlan, WasPlanned};
+
+/// A plan is one at each longer history at which the bookmark has the planned head: it has the same fork there, so the
+/// same stack and the same range.
+pub fn plan_stays_at_its_head()
+    ensures { (g h : List Entry) (name : List ℕ) (draft : Id) (plan : PlannedLanding) → IsPrefix g h → IsPlan g name draft plan → head h name ≡ Some plan.old → IsPlan h name draft plan }
+{}
+
+/// Where no disk failed, to land a planned draft is to enter its stack on the planned head.
+pub fn plan_is_what_is_judged()
+    ensures { (header : Header) (h : List Entry) (name : List ℕ) (draft : Id) (plan : PlannedLanding) → IsPlan h name draft plan → is_down h ≡ false →
+        judge header h (LandDraft name draft) ≡ enter_landing header h name plan.old draft (rewrite plan.stack plan.old) }
+{}
+
+/// What was planned stays planned as the history grows.
+pub fn planned_as_it_grows()
+    ensures { (g h : List Entry) (r : RebasedLanding) → IsPrefix g h → WasPlanned g r → WasPlanned h r }
+{}
