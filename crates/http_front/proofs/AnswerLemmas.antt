@@ -1,138 +1,163 @@
--- The answer to a request, from what the machine replied.
-use Rattle.std.proofs.Common.{◌≡◌, ◌⊎◌, ℕ, Bool, List, refl, sym, ap, subst, ◌∙◌, inl, inr}
-use Rattle.std.specs.Prelude.{◌++◌, Option, None, Some, ok_or, Result, Ok, Err}
-use Rattle.std.proofs.lemmas.List.{append-nil}
-use Rattle.byte_fields.specs.Bytes.{Id}
-use Rattle.changeset_model.specs.Changeset.{Changeset, spelling}
-use Rattle.history_model.specs.History.{Entry, known, changeset_of}
+-- The answer to a request, from what the seat replied.
+use Rattle.std.proofs.Common.{◌≡◌, ◌≤◌, ◌-◌, ◌⊎◌, ℕ, Bool, List, [], ◌∷◌, length, Option, Some, None, Ok, Err, arith, refl, sym, ap, subst, ◌∙◌, inl, inr}
+use Rattle.std.proofs.lemmas.List.{length-map}
+use Rattle.history_model.specs.History.{Entry}
 use Rattle.history_model.specs.Journal.{Header}
 use Rattle.reply_model.specs.Reply as reply
-use Rattle.reply_model.specs.Reply.{Ask, Question, Absent, Sees}
-use Rattle.reply_model.specs.After.{Answer, Call, Asks, Looks, Refuses, Shows, Lacks, Memory, Replies, nothing, entries_of}
+use Rattle.reply_model.specs.Log.{LogLine, line_of, lines_of}
+use Rattle.reply_model.specs.After.{Answer, Asks, Looks, Shows, Memory}
+use Rattle.repo_calls.specs.declared.log.LogEntry.{LogEntry}
 use Rattle.repo_calls.specs.declared.refusal.Refusal as calls
 use Rattle.repo_calls.specs.declared.refusal.Refusal.TheVariants as refusals
-use Rattle.repo_calls.specs.Calls.{refused}
+use Rattle.repo_calls.specs.Calls.{refused, line_seen, lines_seen}
+use Rattle.seat_calls.specs.declared.calls.AskFault.{AskFault}
+use Rattle.seat_calls.specs.declared.calls.Question.{Question}
+use Rattle.seat_calls.specs.declared.calls.Question.TheVariants as questions
+use Rattle.seat_calls.specs.declared.calls.Seen.{Seen}
+use Rattle.seat_calls.specs.declared.calls.Seen.TheVariants as seen
+use Rattle.seat_calls.specs.Asking.{fault_answer, question_seen, IsAnswer}
+use Rattle.seat_calls.specs.Replying.{MakesNothing, Shown, IsReplying}
+use Rattle.session_model.specs.declared.status.Status.TheVariants.{Fine}
 use Rattle.session_model.specs.Responses.{Response, text_of}
-use Rattle.session_model.specs.Bodies.{memory}
+use Rattle.session_model.specs.Bodies.{json, log_body, memory}
 use Rattle.http_model.specs.Stream.{Request, is_head_only}
 use Rattle.session_model.specs.Asking as model
-use Rattle.session_model.specs.Asking.{Asked, asked, change_response, read_response, seen, absent}
-use Rattle.session_model.specs.Session.{Answers, AnswersAsked, AnswersAlone}
+use Rattle.session_model.specs.Asking.{Asked, asked, change_response, read_response}
+use Rattle.session_model.specs.Session.{Relation, Answers, AnswersAsked}
 use Rattle.routes.specs.declared.route_refusal.RouteRefusal.{RouteRefusal}
 use Rattle.routes.specs.declared.route_refusal.RouteRefusal.TheVariants as route_refusals
 use Rattle.routes.specs.Failed.{failed, unless_memory}
 use Rattle.repo_text.specs.Refusing.{response_to}
 use Rattle.repo_text.proofs.Answered.{change_response-refused}
-use Rattle.http_front.specs.Answered.{AnswersAs, AnswersFor}
-use Rattle.http_front.specs.Reading.{spelled_or_absent, changeset_shown, log_shown}
+use Rattle.http_front.specs.Answered.{Replied, AnswersFor}
+use Rattle.http_front.specs.Reading.{seen_response, Suits}
 
--- ---- a refusal leaves the history as it was
+-- a refusal makes nothing
+makes_nothing : (refusal : calls.Refusal) → MakesNothing (refused refusal)
+makes_nothing refusals.Down = tt
+makes_nothing (refusals.TooLong n) = tt
+makes_nothing (refusals.BadEncoding at) = tt
+makes_nothing (refusals.SelfConflict short long) = tt
+makes_nothing refusals.Merge = tt
+makes_nothing (refusals.NoParent x) = tt
+makes_nothing (refusals.NoContent p x) = tt
+makes_nothing (refusals.WrongSize p wanted found) = tt
+makes_nothing (refusals.Collision x) = tt
+makes_nothing (refusals.NoChangeset x) = tt
+makes_nothing (refusals.Moved found) = tt
+makes_nothing refusals.NoBookmark = tt
+makes_nothing refusals.NoRoot = tt
+makes_nothing (refusals.TooFarBehind n) = tt
+makes_nothing refusals.AlreadyIn = tt
+makes_nothing (refusals.StackTooLong n) = tt
+makes_nothing (refusals.Clash left right) = tt
+makes_nothing (refusals.TooLarge n) = tt
+makes_nothing (refusals.Full size n) = tt
+makes_nothing refusals.Memory = tt
 
-refused_keeps : (header : Header) (h : List Entry) (who : ℕ) (ask : Ask) (refusal : reply.Refusal) (after : List Entry) → Replies header h who (Asks ask) (Refuses refusal) after → after ≡ h
-refused_keeps header h who ask refusal after r = r.new_is ∙ ap (λ m. h ++ entries_of who m) r.answers.0 ∙ append-nil h
+lines-shorten : (entries : List Entry) → length (lines_of entries) ≤ length entries
+lines-shorten [] = omega arith
+lines-shorten (e ∷ entries) = shorter e entries (line_of e.body) refl (lines-shorten entries)
+  where
+    shorter : (e : Entry) (entries : List Entry) (o : Option LogLine) → line_of e.body ≡ o → length (lines_of entries) ≤ length entries → length (lines_of (e ∷ entries)) ≤ length (e ∷ entries)
+    shorter e entries None is less = rw is (omega arith)
+    shorter e entries (Some line) is less = rw is (omega arith)
 
-memory_keeps : (header : Header) (h : List Entry) (who : ℕ) (ask : Ask) (after : List Entry) → Replies header h who (Asks ask) Memory after → after ≡ h
-memory_keeps header h who ask after r = r.new_is ∙ ap (λ m. h ++ entries_of who m) r.answers ∙ append-nil h
+page_suits : (lines : List LogEntry) (entries : List Entry) (most : ℕ) → lines_seen lines ≡ lines_of entries → length entries ≤ most → length lines ≤ most
+page_suits lines entries most same few =
+    let short = lines-shorten entries in
+    let all : length lines ≡ length (lines_of entries) = sym (length-map lines line_seen) ∙ ap length same in
+    omega arith
 
-pub same_history : (header : Header) (h : List Entry) (who : ℕ) (ask : Ask) (refusal : calls.Refusal) (after : List Entry) → Replies header h who (Asks ask) (refused refusal) after → after ≡ h
-same_history header h who ask refusals.Down after r = refused_keeps header h who ask reply.Down after r
-same_history header h who ask (refusals.TooLong n) after r = refused_keeps header h who ask (reply.TooLong n) after r
-same_history header h who ask (refusals.BadEncoding at) after r = refused_keeps header h who ask (reply.BadEncoding at) after r
-same_history header h who ask (refusals.SelfConflict short long) after r = refused_keeps header h who ask (reply.SelfConflict short long) after r
-same_history header h who ask refusals.Merge after r = refused_keeps header h who ask reply.Merge after r
-same_history header h who ask (refusals.NoParent x) after r = refused_keeps header h who ask (reply.NoParent x) after r
-same_history header h who ask (refusals.NoContent p x) after r = refused_keeps header h who ask (reply.NoContent p x) after r
-same_history header h who ask (refusals.WrongSize p wanted found) after r = refused_keeps header h who ask (reply.WrongSize p wanted found) after r
-same_history header h who ask (refusals.Collision x) after r = refused_keeps header h who ask (reply.Collision x) after r
-same_history header h who ask (refusals.NoChangeset x) after r = refused_keeps header h who ask (reply.NoChangeset x) after r
-same_history header h who ask (refusals.Moved found) after r = refused_keeps header h who ask (reply.Moved found) after r
-same_history header h who ask refusals.NoBookmark after r = refused_keeps header h who ask reply.NoBookmark after r
-same_history header h who ask refusals.NoRoot after r = refused_keeps header h who ask reply.NoRoot after r
-same_history header h who ask (refusals.TooFarBehind n) after r = refused_keeps header h who ask (reply.TooFarBehind n) after r
-same_history header h who ask refusals.AlreadyIn after r = refused_keeps header h who ask reply.AlreadyIn after r
-same_history header h who ask (refusals.StackTooLong n) after r = refused_keeps header h who ask (reply.StackTooLong n) after r
-same_history header h who ask (refusals.Clash left right) after r = refused_keeps header h who ask (reply.Clash left right) after r
-same_history header h who ask (refusals.TooLarge n) after r = refused_keeps header h who ask (reply.TooLarge n) after r
-same_history header h who ask (refusals.Full size n) after r = refused_keeps header h who ask (reply.Full size n) after r
-same_history header h who ask refusals.Memory after r = memory_keeps header h who ask after r
+-- what is seen is what was asked for
+suits : (question : Question) (s : Seen) (answer : Answer) → IsAnswer (Ok s) answer → ((x : reply.Seen) → answer ≡ Shows x → Shown (question_seen question) x) → Suits question s
+suits (questions.Head name) (seen.Head head) answer is shown = shown (reply.SeenHead head) is
+suits (questions.Head name) (seen.Bytes bytes) answer is shown = shown (reply.SeenBytes bytes.items) is
+suits (questions.Head name) (seen.Log page) answer is shown = shown (reply.SeenLog is.0 page.total) is.1
+suits (questions.Content id) (seen.Head head) answer is shown = shown (reply.SeenHead head) is
+suits (questions.Content id) (seen.Bytes bytes) answer is shown = shown (reply.SeenBytes bytes.items) is
+suits (questions.Content id) (seen.Log page) answer is shown = shown (reply.SeenLog is.0 page.total) is.1
+suits (questions.Changeset id) (seen.Head head) answer is shown = shown (reply.SeenHead head) is
+suits (questions.Changeset id) (seen.Bytes bytes) answer is shown = shown (reply.SeenBytes bytes.items) is
+suits (questions.Changeset id) (seen.Log page) answer is shown = shown (reply.SeenLog is.0 page.total) is.1
+suits (questions.Log from) (seen.Head head) answer is shown = shown (reply.SeenHead head) is
+suits (questions.Log from) (seen.Bytes bytes) answer is shown = shown (reply.SeenBytes bytes.items) is
+suits (questions.Log from) (seen.Log page) answer is shown = page_suits page.entries.items is.0 (page.total - from) is.2 (shown (reply.SeenLog is.0 page.total) is.1)
 
--- a change that is refused is answered by its refusal, or by want of memory
-pub refusal_answers : (header : Header) (h : List Entry) (who : ℕ) (ask : Ask) (refusal : calls.Refusal) (close head_only : Bool) (text : List ℕ) (after : List Entry)
-    → Replies header h who (Asks ask) (refused refusal) after
-    → ((text ≡ text_of (response_to refusal) close head_only) ⊎ (text ≡ text_of memory close head_only))
-    → AnswersAs header who h (Asks ask) (change_response ask) close head_only text after
-refusal_answers header h who ask refusal close head_only text after replies (inl e) =
-    inl (record { answer = refused refusal; replies = replies; text = e ∙ ap (λ r. text_of r close head_only) (sym (change_response-refused ask refusal)) })
-refusal_answers header h who ask refusal close head_only text after replies (inr e) = inr (record { same = same_history header h who ask refusal after replies; text = e })
+response_is : (question : Question) (s : Seen) (answer : Answer) → IsAnswer (Ok s) answer → Suits question s → read_response (question_seen question) answer ≡ seen_response question s
+response_is (questions.Head name) (seen.Head head) answer is suits = ap (read_response (question_seen (questions.Head name))) is
+response_is (questions.Head name) (seen.Bytes bytes) answer is suits = absurd suits
+response_is (questions.Head name) (seen.Log page) answer is suits = absurd suits
+response_is (questions.Content id) (seen.Head head) answer is suits = ap (read_response (question_seen (questions.Content id))) is
+response_is (questions.Content id) (seen.Bytes bytes) answer is suits = ap (read_response (question_seen (questions.Content id))) is
+response_is (questions.Content id) (seen.Log page) answer is suits = absurd suits
+response_is (questions.Changeset id) (seen.Head head) answer is suits = ap (read_response (question_seen (questions.Changeset id))) is
+response_is (questions.Changeset id) (seen.Bytes bytes) answer is suits = ap (read_response (question_seen (questions.Changeset id))) is
+response_is (questions.Changeset id) (seen.Log page) answer is suits = absurd suits
+response_is (questions.Log from) (seen.Head head) answer is suits = ap (read_response (question_seen (questions.Log from))) is
+response_is (questions.Log from) (seen.Bytes bytes) answer is suits = absurd suits
+response_is (questions.Log from) (seen.Log page) answer is suits = ap (read_response (question_seen (questions.Log from))) is.1 ∙ ap (λ lines. json Fine (log_body from lines page.total)) (sym is.2)
 
--- ---- reads
+shows_nothing : (s : Seen) (answer : Answer) → IsAnswer (Ok s) answer → MakesNothing answer
+shows_nothing (seen.Head head) answer is = subst MakesNothing (sym is) tt
+shows_nothing (seen.Bytes bytes) answer is = subst MakesNothing (sym is) tt
+shows_nothing (seen.Log page) answer is = subst MakesNothing (sym is.1) tt
 
-pub shows : (header : Header) (h : List Entry) (who : ℕ) (question : Question) (s : reply.Seen) (close head_only : Bool) (text : List ℕ)
-    → Sees h question (Ok s) → text ≡ text_of (seen question s) close head_only → AnswersAs header who h (Looks question) (read_response question) close head_only text h
-shows header h who question s close head_only text sees e =
-    inl (record { answer = Shows s; replies = record { made = nothing; answers = (refl, sees); new_is = sym (append-nil h) }; text = e })
+module _ (replies : Relation) (lawful : IsReplying replies) (header : Header) (h : List Entry) (who : ℕ) (after : List Entry) where
+  -- a change that is refused is answered by its refusal, or by want of memory
+  pub refusal_answers : (ask : reply.Ask) (refusal : calls.Refusal) (close head_only : Bool) (text : List ℕ)
+      → replies header h who (Asks ask) (refused refusal) after
+      → ((text ≡ text_of (response_to refusal) close head_only) ⊎ (text ≡ text_of memory close head_only))
+      → Replied replies header who h (Asks ask) (change_response ask) close head_only text after
+  refusal_answers ask refusal close head_only text answered (inl e) =
+      record { answer = refused refusal; answered = answered; text = e ∙ ap (λ r. text_of r close head_only) (sym (change_response-refused ask refusal)) }
+  refusal_answers ask refusal close head_only text answered (inr e) =
+      record { answer = Memory; answered = lawful.memory header h who (Asks ask) (refused refusal) after (makes_nothing refusal) answered; text = e }
 
-pub lacks : (header : Header) (h : List Entry) (who : ℕ) (question : Question) (a : Absent) (close head_only : Bool) (text : List ℕ)
-    → Sees h question (Err a) → text ≡ text_of (absent a) close head_only → AnswersAs header who h (Looks question) (read_response question) close head_only text h
-lacks header h who question a close head_only text sees e =
-    inl (record { answer = Lacks a; replies = record { made = nothing; answers = (refl, sees); new_is = sym (append-nil h) }; text = e })
+  -- what is seen is what was asked for
+  pub seen_suits : (question : Question) (s : Seen) (answer : Answer) → IsAnswer (Ok s) answer → replies header h who (Looks (question_seen question)) answer after → Suits question s
+  seen_suits question s answer is answered =
+      suits question s answer is (λ x e. lawful.shown header h who (question_seen question) x after (subst (λ a. replies header h who (Looks (question_seen question)) a after) e answered))
 
-pub wants_memory : (header : Header) (h : List Entry) (who : ℕ) (call : Call) (respond : Answer → Response) (close head_only : Bool) (text : List ℕ)
-    → text ≡ text_of memory close head_only → AnswersAs header who h call respond close head_only text h
-wants_memory header h who call respond close head_only text e = inr (record { same = refl; text = e })
+  -- a read that sees something is answered by that, or by want of memory
+  pub seen_answers : (question : Question) (s : Seen) (answer : Answer) (close head_only : Bool) (text : List ℕ)
+      → IsAnswer (Ok s) answer → replies header h who (Looks (question_seen question)) answer after
+      → ((text ≡ text_of (seen_response question s) close head_only) ⊎ (text ≡ text_of memory close head_only))
+      → Replied replies header who h (Looks (question_seen question)) (read_response (question_seen question)) close head_only text after
+  seen_answers question s answer close head_only text is answered (inl e) =
+      let same = response_is question s answer is (seen_suits question s answer is answered) in
+      record { answer = answer; answered = answered; text = e ∙ ap (λ r. text_of r close head_only) (sym same) }
+  seen_answers question s answer close head_only text is answered (inr e) =
+      record { answer = Memory; answered = lawful.memory header h who (Looks (question_seen question)) answer after (shows_nothing s answer is) answered; text = e }
 
-abbrev shown : Id → Option Changeset → Result reply.Seen Absent
-shown x o = reply.◌>>=◌ (ok_or o (reply.AbsentChangeset x)) (λ c. Ok (reply.SeenBytes (spelling c)))
+module _ (replies : Relation) (header : Header) (h : List Entry) (who : ℕ) where
+  -- a read that sees nothing is answered by why
+  pub fault_answers : (question : Question) (fault : AskFault) (answer : Answer) (close head_only : Bool) (text : List ℕ) (after : List Entry)
+      → IsAnswer (Err fault) answer → replies header h who (Looks (question_seen question)) answer after
+      → ((q : reply.Question) → text ≡ text_of (read_response q (fault_answer fault)) close head_only)
+      → Replied replies header who h (Looks (question_seen question)) (read_response (question_seen question)) close head_only text after
+  fault_answers question fault answer close head_only text after is answered e =
+      record { answer = answer; answered = answered; text = e (question_seen question) ∙ ap (λ a. text_of (read_response (question_seen question) a) close head_only) (sym is) }
 
-changeset_by : (header : Header) (h : List Entry) (who : ℕ) (x : Id) (close head_only : Bool) (text : List ℕ) (o : Option Changeset)
-    → changeset_of (known h) x ≡ o → text ≡ text_of (spelled_or_absent x o) close head_only → AnswersAs header who h (Looks (reply.ChangesetOf x)) (read_response (reply.ChangesetOf x)) close head_only text h
-changeset_by header h who x close head_only text (Some c) e t =
-    shows header h who (reply.ChangesetOf x) (reply.SeenBytes (spelling c)) close head_only text (ap (shown x) (sym e)) t
-changeset_by header h who x close head_only text None e t =
-    lacks header h who (reply.ChangesetOf x) (reply.AbsentChangeset x) close head_only text (ap (shown x) (sym e)) t
+  answered_for : (q : Request) (a : Asked) (text : List ℕ) (after : List Entry) → AnswersFor replies header who h a q.close (is_head_only q) text after → AnswersAsked replies header who h a q text after
+  answered_for q (model.Changes ask) text after r = record { answer = r.answer; answered = r.answered; text = r.text }
+  answered_for q (model.Looks question) text after r = record { answer = r.answer; answered = r.answered; text = r.text }
+  answered_for q (model.Fails r) text after never = absurd never
 
--- a changeset is shown as it is spelled, or told to be absent
-pub changeset_answers : (header : Header) (h : List Entry) (who : ℕ) (x : Id) (close head_only : Bool) (text : List ℕ)
-    → text ≡ text_of (changeset_shown h x) close head_only → AnswersAs header who h (Looks (reply.ChangesetOf x)) (read_response (reply.ChangesetOf x)) close head_only text h
-changeset_answers header h who x close head_only text t = changeset_by header h who x close head_only text (changeset_of (known h) x) refl t
+  -- a request is answered by what it asks for
+  pub asked_answers : (q : Request) (a : Asked) (text : List ℕ) (after : List Entry) → asked q ≡ a → AnswersFor replies header who h a q.close (is_head_only q) text after → Answers replies header who h q text after
+  asked_answers q a text after asks answers = inl (subst (λ b. AnswersAsked replies header who h b q text after) (sym asks) (answered_for q a text after answers))
 
-pub log_answers : (header : Header) (h : List Entry) (who n : ℕ) (close head_only : Bool) (text : List ℕ)
-    → text ≡ text_of (log_shown h n) close head_only → AnswersAs header who h (Looks (reply.LogFrom n)) (read_response (reply.LogFrom n)) close head_only text h
-log_answers header h who n close head_only text t = shows header h who (reply.LogFrom n) (reply.seen_log h n) close head_only text refl t
+  fails_by : (q : Request) (r : Response) (text : List ℕ) → asked q ≡ model.Fails r → text ≡ text_of r q.close (is_head_only q) → Answers replies header who h q text h
+  fails_by q r text asks e = inl (subst (λ b. AnswersAsked replies header who h b q text h) (sym asks) (record { same = refl; text = e }))
 
--- ---- requests
-
-answered_for : (header : Header) (h : List Entry) (who : ℕ) (q : Request) (a : Asked) (text : List ℕ) (after : List Entry)
-    → AnswersFor header who h a q.close (is_head_only q) text after → AnswersAsked header who h a q text after ⊎ AnswersAlone h q memory text after
-answered_for header h who q (model.Changes ask) text after (inl r) = inl (record { answer = r.answer; replies = r.replies; text = r.text })
-answered_for header h who q (model.Changes ask) text after (inr m) = inr (record { same = m.same; text = m.text })
-answered_for header h who q (model.Looks question) text after (inl r) = inl (record { answer = r.answer; replies = r.replies; text = r.text })
-answered_for header h who q (model.Looks question) text after (inr m) = inr (record { same = m.same; text = m.text })
-answered_for header h who q (model.Fails r) text after never = absurd never
-
--- a request is answered by what it asks for
-pub asked_answers : (header : Header) (h : List Entry) (who : ℕ) (q : Request) (a : Asked) (text : List ℕ) (after : List Entry)
-    → asked q ≡ a → AnswersFor header who h a q.close (is_head_only q) text after → Answers header who h q text after
-asked_answers header h who q a text after asks answers =
-    subst (λ b. AnswersAsked header who h b q text after ⊎ AnswersAlone h q memory text after) (sym asks) (answered_for header h who q a text after answers)
-
-route_refusal_asked : (header : Header) (h : List Entry) (who : ℕ) (q : Request) (r : Response) (text : List ℕ)
-    → asked q ≡ model.Fails r → ((text ≡ text_of r q.close (is_head_only q)) ⊎ (text ≡ text_of memory q.close (is_head_only q))) → Answers header who h q text h
-route_refusal_asked header h who q r text asks (inl e) = inl (subst (λ b. AnswersAsked header who h b q text h) (sym asks) (record { same = refl; text = e }))
-route_refusal_asked header h who q r text asks (inr e) = inr (record { same = refl; text = e })
-
-without_memory : (header : Header) (h : List Entry) (who : ℕ) (q : Request) (text : List ℕ)
-    → ((text ≡ text_of memory q.close (is_head_only q)) ⊎ (text ≡ text_of memory q.close (is_head_only q))) → Answers header who h q text h
-without_memory header h who q text (inl e) = inr (record { same = refl; text = e })
-without_memory header h who q text (inr e) = inr (record { same = refl; text = e })
-
--- a request that asks for nothing is answered by why
-pub route_refusal_answers : (header : Header) (h : List Entry) (who : ℕ) (q : Request) (refusal : RouteRefusal) (text : List ℕ)
-    → unless_memory refusal (asked q ≡ model.Fails (failed refusal)) → ((text ≡ text_of (failed refusal) q.close (is_head_only q)) ⊎ (text ≡ text_of memory q.close (is_head_only q))) → Answers header who h q text h
-route_refusal_answers header h who q route_refusals.BadTarget text asks e = route_refusal_asked header h who q (failed route_refusals.BadTarget) text asks e
-route_refusal_answers header h who q route_refusals.NoRoute text asks e = route_refusal_asked header h who q (failed route_refusals.NoRoute) text asks e
-route_refusal_answers header h who q (route_refusals.Method m) text asks e = route_refusal_asked header h who q (failed (route_refusals.Method m)) text asks e
-route_refusal_answers header h who q (route_refusals.BadName at) text asks e = route_refusal_asked header h who q (failed (route_refusals.BadName at)) text asks e
-route_refusal_answers header h who q (route_refusals.BadId at) text asks e = route_refusal_asked header h who q (failed (route_refusals.BadId at)) text asks e
-route_refusal_answers header h who q route_refusals.BadNumber text asks e = route_refusal_asked header h who q (failed route_refusals.BadNumber) text asks e
-route_refusal_answers header h who q route_refusals.Memory text asks e = without_memory header h who q text e
+  -- a request that asks for nothing is answered by why
+  pub route_refusal_answers : (q : Request) (refusal : RouteRefusal) (text : List ℕ)
+      → unless_memory refusal (asked q ≡ model.Fails (failed refusal)) → text ≡ text_of (failed refusal) q.close (is_head_only q) → Answers replies header who h q text h
+  route_refusal_answers q route_refusals.BadTarget text asks e = fails_by q (failed route_refusals.BadTarget) text asks e
+  route_refusal_answers q route_refusals.NoRoute text asks e = fails_by q (failed route_refusals.NoRoute) text asks e
+  route_refusal_answers q (route_refusals.Method m) text asks e = fails_by q (failed (route_refusals.Method m)) text asks e
+  route_refusal_answers q (route_refusals.BadName at) text asks e = fails_by q (failed (route_refusals.BadName at)) text asks e
+  route_refusal_answers q (route_refusals.BadId at) text asks e = fails_by q (failed (route_refusals.BadId at)) text asks e
+  route_refusal_answers q route_refusals.BadNumber text asks e = fails_by q (failed route_refusals.BadNumber) text asks e
+  route_refusal_answers q route_refusals.Memory text asks e = inr (record { same = refl; text = e })

@@ -1,4 +1,3 @@
 pub mod AnswerLemmas
-pub mod FaultLemmas
 pub mod Steps
 pub mod Turning

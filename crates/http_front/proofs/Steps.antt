@@ -11,7 +11,7 @@ use Rattle.http_model.specs.Refusals.{status_of}
 use Rattle.http_model.specs.Stream.{Request, Whole, Partial, Refuses, Begins, skip_blank}
 use Rattle.http_model.specs.Session as http
 use Rattle.ports.specs.Streams.{Puts, PutsFront, Takes}
-use Rattle.session_model.specs.Session.{Answers, Serves, closing, closing_memory}
+use Rattle.session_model.specs.Session.{Relation, Answers, Serves, closing, closing_memory}
 use Rattle.http_front.specs.declared.ended.Ended.{Ended}
 use Rattle.http_front.specs.declared.ended.Ended.TheVariants as ended
 use Rattle.http_front.specs.Turns.{SentLast, Whole_text, Cut_text}
@@ -52,16 +52,16 @@ drained buffer (Some bytes) after t = subst IsDrained (sym t.left) (t.ends.0 ref
 
 -- ---- requests
 
-serves_more : (header : Header) (who : ℕ) (h g k : List Entry) (requests : List Request) (texts : List (List ℕ)) (q : Request) (text : List ℕ) → Serves header who h requests texts g → Answers header who g q text k → Serves header who h (requests ++ q ∷ []) (texts ++ text ∷ []) k
-serves_more header who h g k [] [] q text s a = (k, subst (λ x. Answers header who x q text k) s a, refl)
-serves_more header who h g k (p ∷ ps) (t ∷ ts) q text s a = (s.0, s.1, serves_more header who s.0 g k ps ts q text s.2 a)
-serves_more header who h g k [] (t ∷ ts) q text s a = absurd s
-serves_more header who h g k (p ∷ ps) [] q text s a = absurd s
+serves_more : (replies : Relation) (header : Header) (who : ℕ) (h g k : List Entry) (requests : List Request) (texts : List (List ℕ)) (q : Request) (text : List ℕ) → Serves replies header who h requests texts g → Answers replies header who g q text k → Serves replies header who h (requests ++ q ∷ []) (texts ++ text ∷ []) k
+serves_more replies header who h g k [] [] q text s a = (k, subst (λ x. Answers replies header who x q text k) s a, refl)
+serves_more replies header who h g k (p ∷ ps) (t ∷ ts) q text s a = (s.0, s.1, serves_more replies header who s.0 g k ps ts q text s.2 a)
+serves_more replies header who h g k [] (t ∷ ts) q text s a = absurd s
+serves_more replies header who h g k (p ∷ ps) [] q text s a = absurd s
 
 -- ---- the session
 
-pub begun : (from : Start) → Going from from.history from.rest from.written [] http.most_read
-begun from = record {
+pub begun : (replies : Relation) (from : Start) → Going replies from from.history from.rest from.written [] http.most_read
+begun replies from = record {
   read = [];
   requests = [];
   texts = [];
@@ -81,28 +81,28 @@ begun from = record {
     unwritten (Some bytes) = ap (λ l. Some l) (sym (append-nil bytes))
 
 -- with what a session works at its start
-pub begun_with : (from : Start) (held : List ℕ) (budget : ℕ) → held ≡ [] → budget ≡ http.most_read → Going from from.history from.rest from.written held budget
-begun_with from held budget e f =
-    subst (λ n. Going from from.history from.rest from.written held n) (sym f) (subst (λ l. Going from from.history from.rest from.written l http.most_read) (sym e) (begun from))
+pub begun_with : (replies : Relation) (from : Start) (held : List ℕ) (budget : ℕ) → held ≡ [] → budget ≡ http.most_read → Going replies from from.history from.rest from.written held budget
+begun_with replies from held budget e f =
+    subst (λ n. Going replies from from.history from.rest from.written held n) (sym f) (subst (λ l. Going replies from from.history from.rest from.written l http.most_read) (sym e) (begun replies from))
 
 -- there is no memory to begin
-pub without_memory : (from : Start) (end : Ended) (after : Option (List ℕ)) → SentLast end ended.Memory closing_memory from.written after → Finished from from.history from.rest after end
+pub without_memory : (replies : Relation) (from : Start) (end : Ended) (after : Option (List ℕ)) → SentLast end ended.Memory closing_memory from.written after → Finished replies from from.history from.rest after end
 unfolding begun
-without_memory from end after (Whole_text e puts) =
-    subst (Finished from from.history from.rest after) (sym e) (record {
+without_memory replies from end after (Whole_text e puts) =
+    subst (Finished replies from from.history from.rest after) (sym e) (record {
       read = [];
       out = closing_memory;
-      consumes = (begun from).consumes;
+      consumes = (begun replies from).consumes;
       emits = puts;
       ends = record { read_nothing = refl; same = refl; out_is = refl };
       drained = tt;
     })
-without_memory from end after (Cut_text e puts) =
+without_memory replies from end after (Cut_text e puts) =
     let part = a_front closing_memory from.written after puts in
-    subst (Finished from from.history from.rest after) (sym e) (record {
+    subst (Finished replies from from.history from.rest after) (sym e) (record {
       read = [];
       out = part.0;
-      consumes = (begun from).consumes;
+      consumes = (begun replies from).consumes;
       emits = part.2;
       ends = record {
         requests = [];
@@ -117,7 +117,7 @@ without_memory from end after (Cut_text e puts) =
       drained = tt;
     })
 
-module _ (from : Start) (g : List Entry) (rest written : Option (List ℕ)) (held : List ℕ) (budget : ℕ) (now : Going from g rest written held budget) where
+module _ (replies : Relation) (from : Start) (g : List Entry) (rest written : Option (List ℕ)) (held : List ℕ) (budget : ℕ) (now : Going replies from g rest written held budget) where
   -- no more was read than may be
   few : length now.read ≤ http.most_read
   few = let all = now.may_read in omega arith
@@ -130,20 +130,20 @@ module _ (from : Start) (g : List Entry) (rest written : Option (List ℕ)) (hel
   cut_texts text front after puts = puts_then (concat now.texts) front from.written written after now.emits puts
 
   -- a request is answered, and the session goes on
-  pub answered : (q : Request) (text left : List ℕ) (k : List Entry) (after : Option (List ℕ)) → Begins held (Whole q left) → q.close ≡ false → Answers from.header from.who g q text k → Puts text written after → Going from k rest after left budget
+  pub answered : (q : Request) (text left : List ℕ) (k : List Entry) (after : Option (List ℕ)) → Begins held (Whole q left) → q.close ≡ false → Answers replies from.header from.who g q text k → Puts text written after → Going replies from k rest after left budget
   answered q text left k after begins open_still answers puts = record {
     read = now.read;
     requests = now.requests ++ q ∷ [];
     texts = now.texts ++ text ∷ [];
     takes = takes_one now.read now.requests held q left now.takes begins open_still;
-    serves = serves_more from.header from.who from.history g k now.requests now.texts q text now.serves answers;
+    serves = serves_more replies from.header from.who from.history g k now.requests now.texts q text now.serves answers;
     consumes = now.consumes;
     emits = all_texts text after puts;
     may_read = now.may_read;
   }
 
   -- a request is answered that asks for the session's end
-  pub closes : (q : Request) (text left : List ℕ) (k : List Entry) (after : Option (List ℕ)) → Begins held (Whole q left) → q.close ≡ true → Answers from.header from.who g q text k → Puts text written after → Finished from k rest after ended.Closed
+  pub closes : (q : Request) (text left : List ℕ) (k : List Entry) (after : Option (List ℕ)) → Begins held (Whole q left) → q.close ≡ true → Answers replies from.header from.who g q text k → Puts text written after → Finished replies from k rest after ended.Closed
   closes q text left k after begins close answers puts = record {
     read = now.read;
     out = concat (now.texts ++ text ∷ []);
@@ -153,7 +153,7 @@ module _ (from : Start) (g : List Entry) (rest written : Option (List ℕ)) (hel
       requests = now.requests ++ q ∷ [];
       told = ends_closed now.read now.requests held q left now.takes begins close few;
       texts = now.texts ++ text ∷ [];
-      serves = serves_more from.header from.who from.history g k now.requests now.texts q text now.serves answers;
+      serves = serves_more replies from.header from.who from.history g k now.requests now.texts q text now.serves answers;
       last = [];
       closes = refl;
       out_is = ap concat (sym (append-nil (now.texts ++ text ∷ [])));
@@ -162,7 +162,7 @@ module _ (from : Start) (g : List Entry) (rest written : Option (List ℕ)) (hel
   }
 
   -- the link fails under an answer
-  pub cut_answer : (q : Request) (text left : List ℕ) (k : List Entry) (after : Option (List ℕ)) → Begins held (Whole q left) → Answers from.header from.who g q text k → PutsFront text written after → Finished from k rest after ended.LinkFault
+  pub cut_answer : (q : Request) (text left : List ℕ) (k : List Entry) (after : Option (List ℕ)) → Begins held (Whole q left) → Answers replies from.header from.who g q text k → PutsFront text written after → Finished replies from k rest after ended.LinkFault
   cut_answer q text left k after begins answers puts =
       let part = a_front text written after puts in
       record {
@@ -175,7 +175,7 @@ module _ (from : Start) (g : List Entry) (rest written : Option (List ℕ)) (hel
           took = inr (now.requests, q, left, refl, (held, now.takes, begins));
           few = few;
           texts = now.texts ++ text ∷ [];
-          serves = serves_more from.header from.who from.history g k now.requests now.texts q text now.serves answers;
+          serves = serves_more replies from.header from.who from.history g k now.requests now.texts q text now.serves answers;
           last = [];
           closes = inl refl;
           cut = inr (now.texts, text, part.0, append-nil (now.texts ++ text ∷ []), part.1, refl);
@@ -184,7 +184,7 @@ module _ (from : Start) (g : List Entry) (rest written : Option (List ℕ)) (hel
       }
 
   -- no message can begin here, and that was written
-  pub refuses : (refusal : HeadRefusal) (status : ℕ) (after : Option (List ℕ)) → Begins held (Refuses refusal) → status ≡ status_of refusal → Puts (closing refusal) written after → Finished from g rest after (ended.Refused status)
+  pub refuses : (refusal : HeadRefusal) (status : ℕ) (after : Option (List ℕ)) → Begins held (Refuses refusal) → status ≡ status_of refusal → Puts (closing refusal) written after → Finished replies from g rest after (ended.Refused status)
   refuses refusal status after begins e puts = record {
     read = now.read;
     out = concat (now.texts ++ closing refusal ∷ []);
@@ -203,7 +203,7 @@ module _ (from : Start) (g : List Entry) (rest written : Option (List ℕ)) (hel
   }
 
   -- the link fails under the closing text
-  pub cut_refusal : (refusal : HeadRefusal) (after : Option (List ℕ)) → Begins held (Refuses refusal) → PutsFront (closing refusal) written after → Finished from g rest after ended.LinkFault
+  pub cut_refusal : (refusal : HeadRefusal) (after : Option (List ℕ)) → Begins held (Refuses refusal) → PutsFront (closing refusal) written after → Finished replies from g rest after ended.LinkFault
   cut_refusal refusal after begins puts =
       let part = a_front (closing refusal) written after puts in
       record {
@@ -225,7 +225,7 @@ module _ (from : Start) (g : List Entry) (rest written : Option (List ℕ)) (hel
       }
 
   -- the link fails under a read
-  pub cut_read : Finished from g rest written ended.LinkFault
+  pub cut_read : Finished replies from g rest written ended.LinkFault
   cut_read = record {
     read = now.read;
     out = concat now.texts;
@@ -245,7 +245,7 @@ module _ (from : Start) (g : List Entry) (rest written : Option (List ℕ)) (hel
   }
 
   -- more bytes come
-  pub reads : (buffer : List ℕ) (n : ℕ) (after : Option (List ℕ)) → Takes buffer n rest after → n ≤ length buffer → n ≤ budget → Going from g after written (skip_blank held ++ take n buffer) (budget - n)
+  pub reads : (buffer : List ℕ) (n : ℕ) (after : Option (List ℕ)) → Takes buffer n rest after → n ≤ length buffer → n ≤ budget → Going replies from g after written (skip_blank held ++ take n buffer) (budget - n)
   reads buffer n after takes room few = record {
     read = now.read ++ take n buffer;
     requests = now.requests;
@@ -261,7 +261,7 @@ module _ (from : Start) (g : List Entry) (rest written : Option (List ℕ)) (hel
   texts_out = ap concat (sym (append-nil now.texts))
 
   -- all that may be read was read
-  pub spends : (p : ℕ) → Begins held (Partial p) → budget ≡ 0 → Finished from g rest written ended.Spent
+  pub spends : (p : ℕ) → Begins held (Partial p) → budget ≡ 0 → Finished replies from g rest written ended.Spent
   spends p begins none = record {
     read = now.read;
     out = concat now.texts;
@@ -287,7 +287,7 @@ module _ (from : Start) (g : List Entry) (rest written : Option (List ℕ)) (hel
     few_read = let all = now.may_read in omega arith
 
     -- the input ends at a message's end
-    pub ends_whole : Begins held (Partial 0) → Finished from g after written ended.Whole
+    pub ends_whole : Begins held (Partial 0) → Finished replies from g after written ended.Whole
     ends_whole begins = record {
       read = now.read;
       out = concat now.texts;
@@ -306,7 +306,7 @@ module _ (from : Start) (g : List Entry) (rest written : Option (List ℕ)) (hel
     }
 
     -- the input ends inside a message
-    pub ends_inside : (p : ℕ) → Begins held (Partial p) → 0 < p → Finished from g after written (ended.Cut p)
+    pub ends_inside : (p : ℕ) → Begins held (Partial p) → 0 < p → Finished replies from g after written (ended.Cut p)
     ends_inside p begins within = record {
       read = now.read;
       out = concat now.texts;

@@ -13,7 +13,7 @@ use Rattle.http_model.proofs.Blank.{skip_shortens}
 use Rattle.http_model.proofs.Streams.{head_end_two}
 use Rattle.session_model.specs.Responses.{text_of}
 use Rattle.session_model.specs.Bodies.{memory}
-use Rattle.session_model.specs.Session.{Answers, closing}
+use Rattle.session_model.specs.Session.{Relation, Answers, closing}
 use Rattle.http_front.specs.declared.ended.Ended.{Ended}
 use Rattle.http_front.specs.declared.ended.Ended.TheVariants as ended
 use Rattle.http_front.specs.Serving.{Going, Finished, Goes, TurnGoes}
@@ -22,18 +22,18 @@ use Rattle.http_front.proofs.Steps.{answered, closes, cut_answer, refuses, cut_r
 
 -- ---- what a turn does
 
-pub message_goes : (header : Header) (who : ℕ) (front next : List Entry) (rest written kept : Option (List ℕ)) (held left : List ℕ) (budget : ℕ) (q : Request) (text : List ℕ) (result : Option Ended)
-    → Begins held (Whole q left) → Answers header who front q text next → Sent result q.close text written kept → TurnGoes header who front next rest rest written kept held budget left budget result
-message_goes header who front next rest written kept held left budget q text result begins answers sent from eh ew now =
+pub message_goes : (replies : Relation) (header : Header) (who : ℕ) (front next : List Entry) (rest written kept : Option (List ℕ)) (held left : List ℕ) (budget : ℕ) (q : Request) (text : List ℕ) (result : Option Ended)
+    → Begins held (Whole q left) → Answers replies header who front q text next → Sent result q.close text written kept → TurnGoes replies header who front next rest rest written kept held budget left budget result
+message_goes replies header who front next rest written kept held left budget q text result begins answers sent from eh ew now =
     by result sent
   where
-    answers_from : Answers from.header from.who front q text next
-    answers_from = subst (λ w. Answers from.header w front q text next) (sym ew) (subst (λ h. Answers h who front q text next) (sym eh) answers)
+    answers_from : Answers replies from.header from.who front q text next
+    answers_from = subst (λ w. Answers replies from.header w front q text next) (sym ew) (subst (λ h. Answers replies h who front q text next) (sym eh) answers)
 
-    by : (r : Option Ended) → Sent r q.close text written kept → Goes from next rest kept left budget r
-    by None s = answered from front rest written held budget now q text left next kept begins s.0 answers_from s.1
-    by (Some ended.Closed) s = closes from front rest written held budget now q text left next kept begins s.0 answers_from s.1
-    by (Some ended.LinkFault) s = cut_answer from front rest written held budget now q text left next kept begins answers_from s
+    by : (r : Option Ended) → Sent r q.close text written kept → Goes replies from next rest kept left budget r
+    by None s = answered replies from front rest written held budget now q text left next kept begins s.0 answers_from s.1
+    by (Some ended.Closed) s = closes replies from front rest written held budget now q text left next kept begins s.0 answers_from s.1
+    by (Some ended.LinkFault) s = cut_answer replies from front rest written held budget now q text left next kept begins answers_from s
     by (Some ended.Whole) s = absurd s
     by (Some (ended.Cut n)) s = absurd s
     by (Some (ended.Refused n)) s = absurd s
@@ -44,38 +44,38 @@ message_goes header who front next rest written kept held left budget q text res
 abbrev pub IsUnread : List ℕ → List ℕ → Bool → Bool → Type 0
 IsUnread held left close head_only = (q : Request) × Begins held (Whole q left) × (close ≡ q.close) × (head_only ≡ is_head_only q)
 
-pub memory_goes : (header : Header) (who : ℕ) (front : List Entry) (rest written kept : Option (List ℕ)) (held left : List ℕ) (budget : ℕ) (text : List ℕ) (result : Option Ended) (close head_only : Bool)
-    → IsUnread held left close head_only → text ≡ text_of memory close head_only → Sent result close text written kept → TurnGoes header who front front rest rest written kept held budget left budget result
-memory_goes header who front rest written kept held left budget text result close head_only unread e sent =
-    message_goes header who front front rest written kept held left budget unread.0 text result unread.1
+pub memory_goes : (replies : Relation) (header : Header) (who : ℕ) (front : List Entry) (rest written kept : Option (List ℕ)) (held left : List ℕ) (budget : ℕ) (text : List ℕ) (result : Option Ended) (close head_only : Bool)
+    → IsUnread held left close head_only → text ≡ text_of memory close head_only → Sent result close text written kept → TurnGoes replies header who front front rest rest written kept held budget left budget result
+memory_goes replies header who front rest written kept held left budget text result close head_only unread e sent =
+    message_goes replies header who front front rest written kept held left budget unread.0 text result unread.1
     (inr (record { same = refl; text = e ∙ (λ i. text_of memory (unread.2 i) (unread.3 i)) }))
     (subst (λ b. Sent result b text written kept) unread.2 sent)
 
-pub refusal_goes : (header : Header) (who : ℕ) (front : List Entry) (rest written kept : Option (List ℕ)) (held more : List ℕ) (budget may_read : ℕ) (refusal : HeadRefusal) (end : Ended)
-    → Begins held (Refuses refusal) → SentLast end (ended.Refused (status_of refusal)) (closing refusal) written kept → TurnGoes header who front front rest rest written kept held budget more may_read (Some end)
-refusal_goes header who front rest written kept held more budget may_read refusal end begins (Whole_text e puts) from eh ew now =
-    subst (Finished from front rest kept) (sym e) (refuses from front rest written held budget now refusal (status_of refusal) kept begins refl puts)
-refusal_goes header who front rest written kept held more budget may_read refusal end begins (Cut_text e puts) from eh ew now =
-    subst (Finished from front rest kept) (sym e) (cut_refusal from front rest written held budget now refusal kept begins puts)
+pub refusal_goes : (replies : Relation) (header : Header) (who : ℕ) (front : List Entry) (rest written kept : Option (List ℕ)) (held more : List ℕ) (budget may_read : ℕ) (refusal : HeadRefusal) (end : Ended)
+    → Begins held (Refuses refusal) → SentLast end (ended.Refused (status_of refusal)) (closing refusal) written kept → TurnGoes replies header who front front rest rest written kept held budget more may_read (Some end)
+refusal_goes replies header who front rest written kept held more budget may_read refusal end begins (Whole_text e puts) from eh ew now =
+    subst (Finished replies from front rest kept) (sym e) (refuses replies from front rest written held budget now refusal (status_of refusal) kept begins refl puts)
+refusal_goes replies header who front rest written kept held more budget may_read refusal end begins (Cut_text e puts) from eh ew now =
+    subst (Finished replies from front rest kept) (sym e) (cut_refusal replies from front rest written held budget now refusal kept begins puts)
 
-pub more_goes : (header : Header) (who : ℕ) (front : List Entry) (rest after written : Option (List ℕ)) (held kept more : List ℕ) (budget left : ℕ) (result : Option Ended)
-    → Begins held (Partial (length kept)) → kept ≡ skip_blank held → ReadMore result kept budget rest more left after → TurnGoes header who front front rest after written written held budget more left result
-more_goes header who front rest after written held kept more budget left None begins same fed from eh ew now =
+pub more_goes : (replies : Relation) (header : Header) (who : ℕ) (front : List Entry) (rest after written : Option (List ℕ)) (held kept more : List ℕ) (budget left : ℕ) (result : Option Ended)
+    → Begins held (Partial (length kept)) → kept ≡ skip_blank held → ReadMore result kept budget rest more left after → TurnGoes replies header who front front rest after written written held budget more left result
+more_goes replies header who front rest after written held kept more budget left None begins same fed from eh ew now =
     let buffer = fed.buffer in
-    let on : Going from front after written (skip_blank held ++ take fed.count buffer) (budget - fed.count) = reads from front rest written held budget now buffer fed.count after fed.takes fed.room fed.few in
+    let on : Going replies from front after written (skip_blank held ++ take fed.count buffer) (budget - fed.count) = reads replies from front rest written held budget now buffer fed.count after fed.takes fed.room fed.few in
     let bytes : skip_blank held ++ take fed.count buffer ≡ more = ap (λ l. l ++ take fed.count buffer) (sym same) ∙ sym fed.held_is in
-    subst (λ n. Going from front after written more n) (sym fed.left_is) (subst (λ l. Going from front after written l (budget - fed.count)) bytes on)
-more_goes header who front rest after written held kept more budget left (Some ended.Whole) begins same end from eh ew now =
-    ends_whole from front rest written held budget now end.1.buffer after end.1.takes end.1.may_read (subst (λ n. Begins held (Partial n)) end.0 begins)
-more_goes header who front rest after written held kept more budget left (Some (ended.Cut n)) begins same end from eh ew now =
-    ends_inside from front rest written held budget now end.2.buffer after end.2.takes end.2.may_read n (subst (λ n. Begins held (Partial n)) (sym end.0) begins) end.1
-more_goes header who front rest after written held kept more budget left (Some ended.Spent) begins same end from eh ew now =
-    subst (λ r. Finished from front r written ended.Spent) (sym end.1) (spends from front rest written held budget now (length kept) begins end.0)
-more_goes header who front rest after written held kept more budget left (Some ended.LinkFault) begins same end from eh ew now =
-    subst (λ r. Finished from front r written ended.LinkFault) (sym end) (cut_read from front rest written held budget now)
-more_goes header who front rest after written held kept more budget left (Some ended.Closed) begins same end from eh ew now = absurd end
-more_goes header who front rest after written held kept more budget left (Some (ended.Refused n)) begins same end from eh ew now = absurd end
-more_goes header who front rest after written held kept more budget left (Some ended.Memory) begins same end from eh ew now = absurd end
+    subst (λ n. Going replies from front after written more n) (sym fed.left_is) (subst (λ l. Going replies from front after written l (budget - fed.count)) bytes on)
+more_goes replies header who front rest after written held kept more budget left (Some ended.Whole) begins same end from eh ew now =
+    ends_whole replies from front rest written held budget now end.1.buffer after end.1.takes end.1.may_read (subst (λ n. Begins held (Partial n)) end.0 begins)
+more_goes replies header who front rest after written held kept more budget left (Some (ended.Cut n)) begins same end from eh ew now =
+    ends_inside replies from front rest written held budget now end.2.buffer after end.2.takes end.2.may_read n (subst (λ n. Begins held (Partial n)) (sym end.0) begins) end.1
+more_goes replies header who front rest after written held kept more budget left (Some ended.Spent) begins same end from eh ew now =
+    subst (λ r. Finished replies from front r written ended.Spent) (sym end.1) (spends replies from front rest written held budget now (length kept) begins end.0)
+more_goes replies header who front rest after written held kept more budget left (Some ended.LinkFault) begins same end from eh ew now =
+    subst (λ r. Finished replies from front r written ended.LinkFault) (sym end) (cut_read replies from front rest written held budget now)
+more_goes replies header who front rest after written held kept more budget left (Some ended.Closed) begins same end from eh ew now = absurd end
+more_goes replies header who front rest after written held kept more budget left (Some (ended.Refused n)) begins same end from eh ew now = absurd end
+more_goes replies header who front rest after written held kept more budget left (Some ended.Memory) begins same end from eh ew now = absurd end
 
 -- ---- that a turn comes nearer to the end
 

@@ -1,9 +1,9 @@
 -- A session while it goes on, and where it ended.
---     Start      what a session begins with: the repository, its seat, what the source has left and what the sink holds
---     Consumes before s after      a source that had `before` left has `after` left, and s was read
---     EndsAs header who h s out after end      the session came to this end
---     Going from h rest written held budget      after some requests: what is left to read, what was written, the bytes that are held, and how many more may be read
---     Finished from h rest written end      at the end
+--     Start      what a session begins with: the repository, its seat, what the link has left to read and what was written to it
+--     Consumes before s after      a link that had `before` left has `after` left, and s was read
+--     EndsAs replies header who h s out after end      the session came to this end
+--     Going replies from h rest written held budget      after some requests: what is left to read, what was written, the bytes that are held, and how many more may be read
+--     Finished replies from h rest written end      at the end
 --     TurnGoes ..      what one turn does to both
 use Rattle.std.specs.Prelude.{◌≡◌, ℕ, ◌+◌, List, [], ◌++◌, length, Option, None, Some, MatchOption}
 use Rattle.std.specs.List.{concat}
@@ -12,7 +12,7 @@ use Rattle.history_model.specs.Journal.{Header}
 use Rattle.http_model.specs.Stream.{Request}
 use Rattle.http_model.specs.Session as http
 use Rattle.ports.specs.Streams.{Puts}
-use Rattle.session_model.specs.Session.{Serves, Session, Broken, closing_memory}
+use Rattle.session_model.specs.Session.{Relation, Serves, Session, Broken, closing_memory}
 use Rattle.http_front.specs.declared.ended.Ended.{Ended}
 use Rattle.http_front.specs.declared.ended.Ended.TheVariants.{Whole, Closed, Cut, Refused, Spent, LinkFault, Memory}
 
@@ -50,38 +50,38 @@ pub record BeganWithoutMemory (h : List Entry) (s out : List ℕ) (after : List 
   pub same : after ≡ h
   pub out_is : out ≡ closing_memory
 
-abbrev pub EndsAs : Header → ℕ → List Entry → List ℕ → List ℕ → List Entry → Ended → Type 0
-EndsAs header who h s out after Whole = Session header who h s out after http.Ended
-EndsAs header who h s out after Closed = Session header who h s out after http.Closed
-EndsAs header who h s out after (Cut read) = Session header who h s out after (http.Cut read)
-EndsAs header who h s out after (Refused status) = Session header who h s out after (http.Refused status)
-EndsAs header who h s out after Spent = Session header who h s out after http.Spent
-EndsAs header who h s out after LinkFault = Broken header who h s out after
-EndsAs header who h s out after Memory = BeganWithoutMemory h s out after
+abbrev pub EndsAs : Relation → Header → ℕ → List Entry → List ℕ → List ℕ → List Entry → Ended → Type 0
+EndsAs replies header who h s out after Whole = Session replies header who h s out after http.Ended
+EndsAs replies header who h s out after Closed = Session replies header who h s out after http.Closed
+EndsAs replies header who h s out after (Cut read) = Session replies header who h s out after (http.Cut read)
+EndsAs replies header who h s out after (Refused status) = Session replies header who h s out after (http.Refused status)
+EndsAs replies header who h s out after Spent = Session replies header who h s out after http.Spent
+EndsAs replies header who h s out after LinkFault = Broken replies header who h s out after
+EndsAs replies header who h s out after Memory = BeganWithoutMemory h s out after
 
-pub record Going (from : Start) (h : List Entry) (rest written : Option (List ℕ)) (held : List ℕ) (budget : ℕ) : Type 0 where
+pub record Going (replies : Relation) (from : Start) (h : List Entry) (rest written : Option (List ℕ)) (held : List ℕ) (budget : ℕ) : Type 0 where
   pub read : List ℕ
   pub requests : List Request
   pub texts : List (List ℕ)
   pub takes : http.Takes read requests held
-  pub serves : Serves from.header from.who from.history requests texts h
+  pub serves : Serves replies from.header from.who from.history requests texts h
   pub consumes : Consumes from.rest read rest
   pub emits : Puts (concat texts) from.written written
   pub may_read : length read + budget ≡ http.most_read
 
-pub record Finished (from : Start) (h : List Entry) (rest written : Option (List ℕ)) (end : Ended) : Type 0 where
+pub record Finished (replies : Relation) (from : Start) (h : List Entry) (rest written : Option (List ℕ)) (end : Ended) : Type 0 where
   pub read : List ℕ
   pub out : List ℕ
   pub consumes : Consumes from.rest read rest
   pub emits : Puts out from.written written
-  pub ends : EndsAs from.header from.who from.history read out h end
+  pub ends : EndsAs replies from.header from.who from.history read out h end
   pub drained : Drains end rest
 
 -- a session after a turn: it goes on, or has ended
-abbrev pub Goes : Start → List Entry → Option (List ℕ) → Option (List ℕ) → List ℕ → ℕ → Option Ended → Type 0
-Goes from h left kept more may_read result = MatchOption result (Going from h left kept more may_read) (Finished from h left kept)
+abbrev pub Goes : Relation → Start → List Entry → Option (List ℕ) → Option (List ℕ) → List ℕ → ℕ → Option Ended → Type 0
+Goes replies from h left kept more may_read result = MatchOption result (Going replies from h left kept more may_read) (Finished replies from h left kept)
 
 -- what one turn does to a session that goes on
-abbrev pub TurnGoes : Header → ℕ → List Entry → List Entry → Option (List ℕ) → Option (List ℕ) → Option (List ℕ) → Option (List ℕ) → List ℕ → ℕ → List ℕ → ℕ → Option Ended → Type 0
-TurnGoes header who front next rest left written kept held budget more may_read result =
-    (from : Start) → from.header ≡ header → from.who ≡ who → Going from front rest written held budget → Goes from next left kept more may_read result
+abbrev pub TurnGoes : Relation → Header → ℕ → List Entry → List Entry → Option (List ℕ) → Option (List ℕ) → Option (List ℕ) → Option (List ℕ) → List ℕ → ℕ → List ℕ → ℕ → Option Ended → Type 0
+TurnGoes replies header who front next rest left written kept held budget more may_read result =
+    (from : Start) → from.header ≡ header → from.who ≡ who → Going replies from front rest written held budget → Goes replies from next left kept more may_read result

@@ -1,104 +1,78 @@
 //! The answers to changes.
 ghost use Rattle.std.specs.Prelude.{◌≡◌};
-ghost use Rattle.reply_model.specs.Legal.{IsLegal};
-ghost use Rattle.session_model.specs.Faults.{fault_count};
-ghost use Rattle.reply_model.specs.Reply.{PutContent, PutChangeset, SetBookmark, LandDraft};
 ghost use Rattle.reply_model.specs.After.{Asks};
-ghost use Rattle.session_model.specs.Asking.{change_response};
-ghost use Rattle.http_front.specs.Answered.{AnswersAs};
+ghost use Rattle.repo_calls.specs.Calls.{ask_seen, granted_seen};
+ghost use Rattle.seat_calls.specs.Replying.{Fits};
+ghost use Rattle.session_model.specs.Asking.{change_response, granted as granted_response};
+ghost use Rattle.session_model.specs.Responses.{text_of};
+ghost use Rattle.http_front.specs.Answered.{Replied};
 
 use crate::refusing::put_refusal;
 use crate::response_buffer::{ResponseBuffer, ResponseForm};
-use object_id::Id;
-use repo_machine::Machine;
-use repo_path::BookName;
+use repo_calls::{Ask, Granted};
+use repo_text::Body;
+use seat_calls::{ChangeFault, Seat};
+use session_model::Status;
 use std::alloc::Global;
 
-/// Stores a content for the seat `who`. The text of the response is in the buffer then.
-pub(crate) fn put_content(
+/// Makes a change. The text of the response is in the buffer then.
+pub(crate) fn change<T: Seat>(
     alloc: Global,
-    who: u64,
-    machine: &mut Machine,
+    seat: &mut T,
     buffer: &mut ResponseBuffer,
-    bytes: &[u8],
+    ask: &Ask<'_>,
     form: ResponseForm,
 )
-    ensures answers { AnswersAs machine.old.header who machine.old.history (Asks (PutContent bytes.now)) (change_response (PutContent bytes.now)) form.close form.head_only buffer.new machine.new.history }
-    ensures header { machine.new.header ≡ machine.old.header }
-    ensures faultless { fault_count machine.new.history ≡ fault_count machine.old.history }
-    ensures legal { IsLegal machine.new.header machine.new.history }
+    ensures answers { Replied T.replies (T.header seat.old) (T.number seat.old) (T.front seat.old) (Asks (ask_seen ask.now)) (change_response (ask_seen ask.now)) form.close form.head_only buffer.new (T.front seat.new) }
+    ensures header { T.header seat.new ≡ T.header seat.old }
+    ensures number { T.number seat.new ≡ T.number seat.old }
+    ensures opening { T.opening seat.new ≡ T.opening seat.old }
 {
-    match machine.put_content(alloc, who, bytes) {
-        Ok(id) => buffer.put_content(&id, bytes.len(), form),
-        Err(refusal) => put_refusal(alloc, buffer, &refusal, form),
+    match seat.change(alloc, ask) {
+        Ok(granted) => put_granted(buffer, ask, &granted, form),
+        Err(ChangeFault::Refused(refusal)) => put_refusal(alloc, buffer, &refusal, form),
+        Err(ChangeFault::DiskFault) => {
+            buffer.put_code(Status::InternalServerError, "disk-fault", None, form)
+        }
     }
 }
 
-/// Stores a changeset for the seat `who`. The text of the response is in the buffer then.
-pub(crate) fn put_changeset(
-    alloc: Global,
-    who: u64,
-    machine: &mut Machine,
-    buffer: &mut ResponseBuffer,
-    bytes: &[u8],
-    form: ResponseForm,
-)
-    ensures answers { AnswersAs machine.old.header who machine.old.history (Asks (PutChangeset bytes.now)) (change_response (PutChangeset bytes.now)) form.close form.head_only buffer.new machine.new.history }
-    ensures header { machine.new.header ≡ machine.old.header }
-    ensures faultless { fault_count machine.new.history ≡ fault_count machine.old.history }
-    ensures legal { IsLegal machine.new.header machine.new.history }
+// Puts the response to a change that is granted, which takes no memory.
+fn put_granted(buffer: &mut ResponseBuffer, ask: &Ask<'_>, granted: &Granted, form: ResponseForm)
+    requires { Fits (ask_seen ask.now) (granted_seen granted.now) }
+    ensures { buffer.new ≡ text_of (granted_response (ask_seen ask.now) (granted_seen granted.now)) form.close form.head_only }
 {
-    match machine.put_changeset(alloc, who, bytes) {
-        Ok(id) => buffer.put_changeset(&id, form),
-        Err(refusal) => put_refusal(alloc, buffer, &refusal, form),
-    }
-}
-
-/// Where a bookmark is to move from, and to where.
-#[derive(Clone, Copy, Debug)]
-pub(crate) struct BookmarkMove {
-    pub(crate) from: Option<Id>,
-    pub(crate) to: Option<Id>,
-}
-
-/// Moves a bookmark for the seat `who`. The text of the response is in the buffer then.
-pub(crate) fn set_bookmark(
-    alloc: Global,
-    who: u64,
-    machine: &mut Machine,
-    buffer: &mut ResponseBuffer,
-    name: &BookName,
-    movement: BookmarkMove,
-    form: ResponseForm,
-)
-    ensures answers { AnswersAs machine.old.header who machine.old.history (Asks (SetBookmark name.now movement.from movement.to)) (change_response (SetBookmark name.now movement.from movement.to)) form.close form.head_only buffer.new machine.new.history }
-    ensures header { machine.new.header ≡ machine.old.header }
-    ensures faultless { fault_count machine.new.history ≡ fault_count machine.old.history }
-    ensures legal { IsLegal machine.new.header machine.new.history }
-{
-    match machine.set_bookmark(alloc, who, name, movement.from, movement.to) {
-        Ok(()) => buffer.put_bookmark(movement.to, name, form),
-        Err(refusal) => put_refusal(alloc, buffer, &refusal, form),
-    }
-}
-
-/// Lands a draft on a bookmark for the seat `who`. The text of the response is in the buffer then.
-pub(crate) fn land(
-    alloc: Global,
-    who: u64,
-    machine: &mut Machine,
-    buffer: &mut ResponseBuffer,
-    name: &BookName,
-    draft: Id,
-    form: ResponseForm,
-)
-    ensures answers { AnswersAs machine.old.header who machine.old.history (Asks (LandDraft name.now draft)) (change_response (LandDraft name.now draft)) form.close form.head_only buffer.new machine.new.history }
-    ensures header { machine.new.header ≡ machine.old.header }
-    ensures faultless { fault_count machine.new.history ≡ fault_count machine.old.history }
-    ensures legal { IsLegal machine.new.header machine.new.history }
-{
-    match machine.land(alloc, who, name, draft) {
-        Ok(landed) => buffer.put_landed(&landed.old, landed.ids.as_slice(), form),
-        Err(refusal) => put_refusal(alloc, buffer, &refusal, form),
+    match granted {
+        Granted::Content(id) => {
+            let Ask::PutContent(bytes) = ask else {
+                unreachable!()
+            };
+            let size = bytes.len();
+            buffer.put_body(Status::Fine, &Body::Content { id: *id, size }, form)
+        }
+        Granted::Changeset(id) => {
+            let body = Body::CodedId {
+                code: "changeset",
+                id: *id,
+            };
+            buffer.put_body(Status::Fine, &body, form)
+        }
+        Granted::Bookmark => {
+            let Ask::SetBookmark { name, from: _, to } = ask else {
+                unreachable!()
+            };
+            let body = Body::Bookmark {
+                head: *to,
+                name: name.as_str(),
+            };
+            buffer.put_body(Status::Fine, &body, form)
+        }
+        Granted::Landing(landed) => {
+            let body = Body::Landed {
+                old: landed.old,
+                ids: landed.ids.as_slice(),
+            };
+            buffer.put_body(Status::Fine, &body, form)
+        }
     }
 }

@@ -6,15 +6,16 @@ ghost use Rattle.http_front.specs.Turns.{ReadMore, Sent};
 use crate::ended::Ended;
 use crate::response_buffer::ResponseBuffer;
 use http_wire::{Cutter, MOST_PIECE};
-use ports::{Failed, Sink, Source};
+use ports::{Failed, Link};
 
 /// Writes the text in the buffer. The session goes on where the link holds and the request doesn't ask for its end.
-pub(crate) fn send<K: Sink>(buffer: &ResponseBuffer, sink: &mut K, close: bool) -> Option<Ended>
-    ensures sent { Sent result close buffer.now (K.written sink.old) (K.written sink.new) }
-    ensures faults { K.faults sink.old ≤ K.faults sink.new }
-    ensures cause { result ≡ Some Ended.LinkFault → Rose (K.faults sink.old) (K.faults sink.new) }
+pub(crate) fn send<L: Link>(buffer: &ResponseBuffer, link: &mut L, close: bool) -> Option<Ended>
+    ensures sent { Sent result close buffer.now (L.written link.old) (L.written link.new) }
+    ensures input { L.rest link.new ≡ L.rest link.old }
+    ensures faults { L.faults link.old ≤ L.faults link.new }
+    ensures cause { result ≡ Some Ended.LinkFault → Rose (L.faults link.old) (L.faults link.new) }
 {
-    match sink.write(buffer.text()) {
+    match link.write(buffer.text()) {
         Err(Failed) => Some(Ended::LinkFault),
         Ok(()) if close => Some(Ended::Closed),
         Ok(()) => None,
@@ -22,25 +23,26 @@ pub(crate) fn send<K: Sink>(buffer: &ResponseBuffer, sink: &mut K, close: bool) 
 }
 
 /// Reads a piece and holds it, unless the input has ended or no more may be read.
-pub(crate) fn read_more<S: Source>(
-    source: &mut S,
+pub(crate) fn read_more<L: Link>(
+    link: &mut L,
     cutter: &mut Cutter,
     piece: &mut Vec<u8>,
     budget: &mut usize,
 ) -> Option<Ended>
     requires waiting { length cutter.old < 1064960 }
     requires piece { vec_len piece.old ≡ 65536 }
-    ensures read { ReadMore result cutter.old budget.old (S.rest source.old) cutter.new budget.new (S.rest source.new) }
+    ensures read { ReadMore result cutter.old budget.old (L.rest link.old) cutter.new budget.new (L.rest link.new) }
+    ensures output { L.written link.new ≡ L.written link.old }
     ensures piece { vec_len piece.new ≡ 65536 }
-    ensures faults { S.faults source.old ≤ S.faults source.new }
-    ensures cause { result ≡ Some Ended.LinkFault → Rose (S.faults source.old) (S.faults source.new) }
+    ensures faults { L.faults link.old ≤ L.faults link.new }
+    ensures cause { result ≡ Some Ended.LinkFault → Rose (L.faults link.old) (L.faults link.new) }
 {
     if *budget == 0 {
         return Some(Ended::Spent);
     }
     let most = MOST_PIECE.min(*budget);
     let space = &mut piece.as_mut_slice()[..most];
-    match source.read(space) {
+    match link.read(space) {
         Err(Failed) => Some(Ended::LinkFault),
         Ok(0) => Some(end_of(cutter)),
         Ok(count) => {

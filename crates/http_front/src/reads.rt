@@ -1,99 +1,128 @@
-//! The answers to reads, which leave the repository as it is.
-ghost use Rattle.std.specs.Prelude.{◌≡◌, ℕ, OnOk};
+//! The answers to reads.
+ghost use Rattle.std.specs.Prelude.{◌≡◌, ◌≤◌, ◌⊎◌, length, OnOk};
 ghost use Rattle.session_model.specs.Responses.{text_of};
-ghost use Rattle.reply_model.specs.Reply.{HeadOf, ChangesetOf, LogFrom};
+ghost use Rattle.session_model.specs.Bodies.{json, memory};
+ghost use Rattle.session_model.specs.Asking.{read_response, seen as response_to};
+ghost use Rattle.reply_model.specs.Reply as reply;
+ghost use Rattle.reply_model.specs.Reply.{HeadOf, SeenHead};
 ghost use Rattle.reply_model.specs.After.{Looks};
-ghost use Rattle.session_model.specs.Asking.{read_response};
-ghost use Rattle.http_front.specs.Answered.{AnswersAs};
-ghost use Rattle.http_front.specs.Reading.{changeset_shown, log_shown};
+ghost use Rattle.seat_calls.specs.Asking.{fault_answer, question_seen};
+ghost use Rattle.repo_text.specs.Short.{coded_id};
+ghost use Rattle.http_front.specs.Answered.{Replied};
+ghost use Rattle.http_front.specs.Reading.{seen_response, Suits};
 
-use crate::refusing::put_refused;
 use crate::response_buffer::{ResponseBuffer, ResponseForm};
-use bonsai::encode;
 use object_id::Id;
-use repo_machine::Machine;
 use repo_path::BookName;
-use repo_text::Media;
 use repo_text::log::log_body;
-use repo_text::refusals::no_changeset;
+use repo_text::{Body, Media};
+use seat_calls::{AskFault, Question, Seat, Seen};
 use session_model::Status;
 use std::alloc::{AllocError, Global};
 
-/// The head of a bookmark.
-pub(crate) fn head(
-    machine: &Machine,
+/// Answers a read. The text of the response is in the buffer then.
+pub(crate) fn look<T: Seat>(
+    alloc: Global,
+    seat: &mut T,
     buffer: &mut ResponseBuffer,
-    name: &BookName,
+    question: &Question<'_>,
     form: ResponseForm,
 )
-    ensures { (who : ℕ) → AnswersAs machine.now.header who machine.now.history (Looks (HeadOf name.now)) (read_response (HeadOf name.now)) form.close form.head_only buffer.new machine.now.history }
+    ensures answers { Replied T.replies (T.header seat.old) (T.number seat.old) (T.front seat.old) (Looks (question_seen question.now)) (read_response (question_seen question.now)) form.close form.head_only buffer.new (T.front seat.new) }
+    ensures header { T.header seat.new ≡ T.header seat.old }
+    ensures number { T.number seat.new ≡ T.number seat.old }
+    ensures opening { T.opening seat.new ≡ T.opening seat.old }
 {
-    match machine.head(name) {
-        Some(id) => buffer.put_bookmark(Some(id), name, form),
+    match seat.look(alloc, question) {
+        Ok(seen) => put_seen(alloc, buffer, question, &seen, form),
+        Err(fault) => put_fault(buffer, fault, form),
+    }
+}
+
+// Puts the response to a read that sees something, or that there was no memory to make it.
+fn put_seen(
+    alloc: Global,
+    buffer: &mut ResponseBuffer,
+    question: &Question<'_>,
+    seen: &Seen,
+    form: ResponseForm,
+)
+    requires { Suits question.now seen.now }
+    ensures { (buffer.new ≡ text_of (seen_response question.now seen.now) form.close form.head_only) ⊎ (buffer.new ≡ text_of memory form.close form.head_only) }
+{
+    if try_put_seen(alloc, buffer, question, seen, form).is_err() {
+        buffer.put_memory(form);
+    }
+}
+
+fn try_put_seen(
+    alloc: Global,
+    buffer: &mut ResponseBuffer,
+    question: &Question<'_>,
+    seen: &Seen,
+    form: ResponseForm,
+) -> Result<(), AllocError>
+    requires { Suits question.now seen.now }
+    ensures { OnOk result (buffer.new ≡ text_of (seen_response question.now seen.now) form.close form.head_only) }
+{
+    match seen {
+        Seen::Head(head) => {
+            let Question::Head(name) = question else {
+                unreachable!()
+            };
+            put_head(buffer, name, *head, form);
+            Ok(())
+        }
+        Seen::Bytes(bytes) => {
+            buffer.put_large(Status::Fine, Media::Octets, bytes.as_slice(), form)
+        }
+        Seen::Log(page) => {
+            let Question::Log(from) = question else {
+                unreachable!()
+            };
+            let body = log_body(alloc, *from, page.entries.as_slice(), page.total)?;
+            buffer.put_large(Status::Fine, Media::Json, body.as_bytes(), form)
+        }
+    }
+}
+
+// Puts where a bookmark stands, which takes no memory.
+fn put_head(buffer: &mut ResponseBuffer, name: &BookName, head: Option<Id>, form: ResponseForm)
+    ensures { buffer.new ≡ text_of (response_to (HeadOf name.now) (SeenHead head)) form.close form.head_only }
+{
+    match head {
+        Some(_) => {
+            let name = name.as_str();
+            buffer.put_body(Status::Fine, &Body::Bookmark { head, name }, form)
+        }
         None => buffer.put_code(Status::NotFound, "no-bookmark", None, form),
     }
 }
 
-fn try_changeset(
-    alloc: Global,
-    machine: &Machine,
-    buffer: &mut ResponseBuffer,
-    id: &Id,
-    form: ResponseForm,
-) -> Result<(), AllocError>
-    ensures { OnOk result (buffer.new ≡ text_of (changeset_shown machine.now.history id.now) form.close form.head_only) }
+// Puts the response to a read that sees nothing, whatever was asked for. It takes no memory.
+fn put_fault(buffer: &mut ResponseBuffer, fault: AskFault, form: ResponseForm)
+    ensures { (question : reply.Question) → buffer.new ≡ text_of (read_response question (fault_answer fault)) form.close form.head_only }
 {
-    match machine.changeset(id) {
-        Some(commit) => {
-            let bytes = encode(alloc, commit.changeset())?;
-            buffer.put_large(Status::Fine, Media::Octets, bytes.as_slice(), form)
+    match fault {
+        AskFault::NoContent { id } => put_absent(buffer, "no-content", id, form),
+        AskFault::NoChangeset { id } => put_absent(buffer, "no-changeset", id, form),
+        AskFault::ReadFault => buffer.put_code(
+            Status::InternalServerError,
+            "read-fault",
+            None,
+            form,
+        ),
+        AskFault::BadBytes { wanted, found } => {
+            let body = Body::BadBytes { wanted, found };
+            buffer.put_body(Status::InternalServerError, &body, form)
         }
-        None => put_refused(buffer, &no_changeset(alloc, id)?, form),
+        AskFault::Memory => buffer.put_memory(form),
     }
 }
 
-/// The spelling of a changeset.
-pub(crate) fn changeset(
-    alloc: Global,
-    machine: &Machine,
-    buffer: &mut ResponseBuffer,
-    id: &Id,
-    form: ResponseForm,
-)
-    ensures { (who : ℕ) → AnswersAs machine.now.header who machine.now.history (Looks (ChangesetOf id.now)) (read_response (ChangesetOf id.now)) form.close form.head_only buffer.new machine.now.history }
+fn put_absent(buffer: &mut ResponseBuffer, code: &str, id: Id, form: ResponseForm)
+    requires { length code.now ≤ 64 }
+    ensures { buffer.new ≡ text_of (json Status.NotFound (coded_id code.now id)) form.close form.head_only }
 {
-    match try_changeset(alloc, machine, buffer, id, form) {
-        Ok(()) => {}
-        Err(AllocError) => buffer.put_memory(form),
-    }
-}
-
-fn try_log(
-    alloc: Global,
-    machine: &Machine,
-    buffer: &mut ResponseBuffer,
-    from: u64,
-    form: ResponseForm,
-) -> Result<(), AllocError>
-    ensures { OnOk result (buffer.new ≡ text_of (log_shown machine.now.history from) form.close form.head_only) }
-{
-    let page = machine.log(alloc, from)?;
-    let body = log_body(alloc, from, &page)?;
-    buffer.put_large(Status::Fine, Media::Json, body.as_bytes(), form)
-}
-
-/// A page of the log.
-pub(crate) fn log(
-    alloc: Global,
-    machine: &Machine,
-    buffer: &mut ResponseBuffer,
-    from: u64,
-    form: ResponseForm,
-)
-    ensures { (who : ℕ) → AnswersAs machine.now.header who machine.now.history (Looks (LogFrom from)) (read_response (LogFrom from)) form.close form.head_only buffer.new machine.now.history }
-{
-    match try_log(alloc, machine, buffer, from, form) {
-        Ok(()) => {}
-        Err(AllocError) => buffer.put_memory(form),
-    }
+    buffer.put_body(Status::NotFound, &Body::CodedId { code, id }, form);
 }

@@ -3,13 +3,12 @@ ghost use Rattle.std.specs.Prelude.{◌≡◌, ◌⊎◌, OnOk};
 ghost use Rattle.session_model.specs.Responses.{text_of};
 ghost use Rattle.session_model.specs.Bodies.{memory};
 ghost use Rattle.repo_text.specs.Refusing.{response_to};
-ghost use Rattle.repo_text.specs.Shown.{response_of};
 ghost use Rattle.routes.specs.Failed.{failed};
 
 use crate::response_buffer::{ResponseBuffer, ResponseForm};
 use repo_calls::Refusal;
-use repo_text::refusals::{bad_id, bad_name, refused};
-use repo_text::{Media, Refused};
+use repo_text::Media;
+use repo_text::refusals::refused;
 use routes::RouteRefusal;
 use session_model::Status;
 use std::alloc::{AllocError, Global};
@@ -23,17 +22,6 @@ fn try_put_refusal(
     ensures { OnOk result (buffer.new ≡ text_of (response_to refusal.now) form.close form.head_only) }
 {
     let refused = refused(alloc, refusal)?;
-    put_refused(buffer, &refused, form)
-}
-
-/// Puts a response that owns its body.
-pub(crate) fn put_refused(
-    buffer: &mut ResponseBuffer,
-    refused: &Refused,
-    form: ResponseForm,
-) -> Result<(), AllocError>
-    ensures { OnOk result (buffer.new ≡ text_of (response_of refused.now) form.close form.head_only) }
-{
     buffer.put_large(refused.status, Media::Json, refused.body.as_bytes(), form)
 }
 
@@ -51,13 +39,13 @@ pub(crate) fn put_refusal(
     }
 }
 
-fn try_put_route_refusal(
-    alloc: Global,
+/// Puts the response to a request that asks for nothing. It takes no memory.
+pub(crate) fn put_route_refusal(
     buffer: &mut ResponseBuffer,
     refusal: RouteRefusal,
     form: ResponseForm,
-) -> Result<(), AllocError>
-    ensures { OnOk result (buffer.new ≡ text_of (failed refusal) form.close form.head_only) }
+)
+    ensures { buffer.new ≡ text_of (failed refusal) form.close form.head_only }
 {
     match refusal {
         RouteRefusal::BadTarget => buffer.put_code(Status::BadRequest, "bad-target", None, form),
@@ -65,24 +53,9 @@ fn try_put_route_refusal(
         RouteRefusal::Method(method) => {
             buffer.put_code(Status::MethodNotAllowed, "method", Some(method), form)
         }
-        RouteRefusal::BadName { at } => put_refused(buffer, &bad_name(alloc, at as usize)?, form)?,
-        RouteRefusal::BadId { at } => put_refused(buffer, &bad_id(alloc, at as usize)?, form)?,
+        RouteRefusal::BadName { at } => buffer.put_bad_parameter("bad-name", at, form),
+        RouteRefusal::BadId { at } => buffer.put_bad_parameter("bad-id", at, form),
         RouteRefusal::BadNumber => buffer.put_code(Status::BadRequest, "bad-number", None, form),
         RouteRefusal::Memory => buffer.put_memory(form),
-    }
-    Ok(())
-}
-
-/// Puts the response to a request that asks for nothing, or that there was no memory to make it.
-pub(crate) fn put_route_refusal(
-    alloc: Global,
-    buffer: &mut ResponseBuffer,
-    refusal: RouteRefusal,
-    form: ResponseForm,
-)
-    ensures { (buffer.new ≡ text_of (failed refusal) form.close form.head_only) ⊎ (buffer.new ≡ text_of memory form.close form.head_only) }
-{
-    if try_put_route_refusal(alloc, buffer, refusal, form).is_err() {
-        buffer.put_memory(form);
     }
 }

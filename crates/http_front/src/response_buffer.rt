@@ -1,15 +1,12 @@
 //! The text of one response, in a buffer that is taken when the session begins.
 ghost use Rattle.std.specs.Prelude.{◌≡◌, ◌+◌, ◌≤◌, [], length, None, OnOk, IfOk, vec_capacity};
 ghost use Rattle.session_model.specs.Responses.{text_of, Json};
-ghost use Rattle.session_model.specs.Bodies.{json, coded, content_body, changeset_body, bookmark_body, landed_body, memory};
+ghost use Rattle.session_model.specs.Bodies.{coded, json, memory};
+ghost use Rattle.session_model.specs.Parameters.{bad_at};
 ghost use Rattle.repo_text.specs.Seen.{media_of, allow_of};
+ghost use Rattle.repo_text.specs.Short.{body_text, IsShort};
 
-use object_id::Id;
-use repo_path::BookName;
-use repo_text::bodies::{
-    MOST_CHANGE_BODY, MOST_LANDED, put_bookmark_body, put_changeset_body, put_code_body,
-    put_content_body, put_landed_body,
-};
+use repo_text::bodies::{Body, MOST_BODY, MOST_CODE, put_body, put_code_body, put_place_body};
 use repo_text::response::{HEAD_ROOM, Media, Response, put_response};
 use session_model::{Method, Status};
 use std::alloc::{AllocError, Global};
@@ -42,13 +39,13 @@ impl Model for ResponseBuffer {
 }
 
 impl ResponseBuffer {
-    /// Takes the room at once: that of the longest response to a change that is granted.
+    /// Takes the room at once: that of the longest body whose length has a bound.
     pub fn new(alloc: Global) -> Result<ResponseBuffer, AllocError>
         ensures { IfOk result (λ r. r ≡ []) }
     {
         Ok(ResponseBuffer {
-            body: Vec::with_capacity(alloc, MOST_CHANGE_BODY)?,
-            text: Vec::with_capacity(alloc, HEAD_ROOM + MOST_CHANGE_BODY)?,
+            body: Vec::with_capacity(alloc, MOST_BODY)?,
+            text: Vec::with_capacity(alloc, HEAD_ROOM + MOST_BODY)?,
         })
     }
 
@@ -59,6 +56,16 @@ impl ResponseBuffer {
         self.text.as_slice()
     }
 
+    /// Puts a response whose body tells of ids. It takes no memory.
+    pub fn put_body(&mut self, status: Status, body: &Body<'_>, form: ResponseForm)
+        requires { IsShort body.now }
+        ensures { self.new ≡ text_of (json status (body_text body.now)) form.close form.head_only }
+    {
+        self.body.clear();
+        put_body(&mut self.body, body);
+        put_json(&mut self.text, status, None, self.body.as_slice(), form);
+    }
+
     /// Puts a response whose body is its code alone. It takes no memory.
     pub fn put_code(
         &mut self,
@@ -67,7 +74,7 @@ impl ResponseBuffer {
         allow: Option<Method>,
         form: ResponseForm,
     )
-        requires { length code.now ≤ 64 }
+        requires { length code.now ≤ MOST_CODE }
         ensures { self.new ≡ text_of (record { status = status; media = Json; allow = allow_of allow; body = coded code.now [] }) form.close form.head_only }
     {
         self.body.clear();
@@ -75,72 +82,27 @@ impl ResponseBuffer {
         put_json(&mut self.text, status, allow, self.body.as_slice(), form);
     }
 
+    /// Puts the response to a parameter whose first fault is at this byte. It takes no memory.
+    pub fn put_bad_parameter(&mut self, code: &str, at: u64, form: ResponseForm)
+        requires { length code.now ≤ MOST_CODE }
+        ensures { self.new ≡ text_of (bad_at code.now at) form.close form.head_only }
+    {
+        self.body.clear();
+        put_place_body(&mut self.body, code, at);
+        put_json(
+            &mut self.text,
+            Status::BadRequest,
+            None,
+            self.body.as_slice(),
+            form,
+        );
+    }
+
     /// Puts the response where memory ran out. It takes none.
     pub fn put_memory(&mut self, form: ResponseForm)
         ensures { self.new ≡ text_of memory form.close form.head_only }
     {
         self.put_code(Status::ServiceUnavailable, "memory", None, form);
-    }
-
-    /// Puts the response to a content that was stored. It takes no memory.
-    pub fn put_content(&mut self, id: &Id, size: usize, form: ResponseForm)
-        ensures { self.new ≡ text_of (json Status.Fine (content_body id.now size)) form.close form.head_only }
-    {
-        self.body.clear();
-        put_content_body(&mut self.body, id, size);
-        put_json(
-            &mut self.text,
-            Status::Fine,
-            None,
-            self.body.as_slice(),
-            form,
-        );
-    }
-
-    /// Puts the response to a changeset that was stored. It takes no memory.
-    pub fn put_changeset(&mut self, id: &Id, form: ResponseForm)
-        ensures { self.new ≡ text_of (json Status.Fine (changeset_body id.now)) form.close form.head_only }
-    {
-        self.body.clear();
-        put_changeset_body(&mut self.body, id);
-        put_json(
-            &mut self.text,
-            Status::Fine,
-            None,
-            self.body.as_slice(),
-            form,
-        );
-    }
-
-    /// Puts the response that tells where a bookmark stands. It takes no memory.
-    pub fn put_bookmark(&mut self, head: Option<Id>, name: &BookName, form: ResponseForm)
-        ensures { self.new ≡ text_of (json Status.Fine (bookmark_body head name.now)) form.close form.head_only }
-    {
-        self.body.clear();
-        put_bookmark_body(&mut self.body, head, name);
-        put_json(
-            &mut self.text,
-            Status::Fine,
-            None,
-            self.body.as_slice(),
-            form,
-        );
-    }
-
-    /// Puts the response to a landing. It takes no memory.
-    pub fn put_landed(&mut self, old: &Id, ids: &[Id], form: ResponseForm)
-        requires { length ids.now ≤ MOST_LANDED }
-        ensures { self.new ≡ text_of (json Status.Fine (landed_body old.now ids.now)) form.close form.head_only }
-    {
-        self.body.clear();
-        put_landed_body(&mut self.body, old, ids);
-        put_json(
-            &mut self.text,
-            Status::Fine,
-            None,
-            self.body.as_slice(),
-            form,
-        );
     }
 
     /// Puts a response with this body, for which it takes more room where it has to.

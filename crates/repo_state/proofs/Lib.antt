@@ -7,3 +7,4 @@ pub mod Changes
 pub mod Answered
 pub mod Storing
 pub mod Looking
+pub mod Heads

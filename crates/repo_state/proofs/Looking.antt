@@ -12,9 +12,10 @@ use Rattle.reply_model.specs.After.{Looks, Replies}
 use Rattle.turn_history.specs.Opening.{Opening}
 use Rattle.repo_machine.specs.declared.place.Place.{Place}
 use Rattle.repo_machine.specs.Indexes.{StandsAt}
-use Rattle.repo_state.specs.declared.calls.AskFault.{AskFault}
-use Rattle.repo_state.specs.declared.calls.AskFault.TheVariants.{BadBytes}
-use Rattle.repo_state.specs.Asking.{bytes_answer, fault_answer, is_bad_bytes, TellsDigest}
+use Rattle.seat_calls.specs.declared.calls.AskFault.{AskFault}
+use Rattle.seat_calls.specs.declared.calls.AskFault.TheVariants.{BadBytes}
+use Rattle.seat_calls.specs.Asking.{bytes_answer, fault_answer, is_bad_bytes}
+use Rattle.repo_state.specs.Asking.{TellsDigest}
 use Rattle.repo_state.proofs.Answered.{bytes_replies, bad_bytes_replies}
 use Rattle.repo_state.proofs.Contents.{honest_content}
 use Rattle.ports.specs.Faults.{Counts}

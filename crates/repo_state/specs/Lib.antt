@@ -1,3 +1,4 @@
 pub mod Images
 pub mod State
 pub mod Asking
+pub mod Exchanging

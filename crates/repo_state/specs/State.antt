@@ -1,5 +1,5 @@
 -- What contracts see of a repository in a file, and what is always so of it.
---     State      header and history, what is told of the disk, and what it was opened with
+--     State      header and history, the room that was made, what is told of the disk, and what it was opened with
 --     IsQuiet opening      the disk fails no call on a file within the capacity;  HasNoFault h      nothing failed
 --     faults_in h      how many faults the history has
 --     IsSound opening h m      what is so of the history and the disk of a repository that was opened so
@@ -14,12 +14,14 @@ use Rattle.history_model.specs.Journal.{Header, size}
 use Rattle.reply_model.specs.Legal.{IsLegal}
 use Rattle.repo_journal.specs.View.{JournalView}
 use Rattle.repo_journal.specs.declared.opening.Opening as journal
+use Rattle.repo_machine.specs.Held.{Room}
 use Rattle.turn_history.specs.Opening.{Opening}
 use Rattle.repo_state.specs.Images.{Leaves}
 
 pub record State : Type 0 where
   pub header : Header
   pub history : List Entry
+  pub room : Room
   pub disk : Meaning
   pub opening : Opening
 

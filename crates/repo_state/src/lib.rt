@@ -1,11 +1,16 @@
 //! A repository in a file: machine, journal and disk, kept together through each change and each fault.
 #![tactic(auto)]
 
-pub mod calls;
+pub mod counts;
+pub mod exchange;
+pub mod exchanged;
 mod fill;
 pub mod look;
+pub mod plan;
+mod seat;
+pub mod seats;
 pub mod state;
 pub mod store;
 
-pub use calls::{AskFault, ChangeFault, Question, Seen};
+pub use exchanged::Exchanged;
 pub use state::RepoState;

@@ -5,15 +5,16 @@ ghost use Rattle.disk_model.specs.Images.{IsImage};
 ghost use Rattle.disk_model.specs.Calls.{Kept, LeavesOnly, Looked};
 ghost use Rattle.reply_model.specs.After.{Answer, Answers, Looks, Replies, nothing};
 ghost use Rattle.reply_model.specs.Reply.{ChangesetOf, ContentOf, LogFrom};
-ghost use Rattle.repo_state.specs.Asking.{bytes_answer, is_bad_bytes, is_early, is_read_fault, IsAnswer, question_seen, reads_file, TellsDigest};
+ghost use Rattle.seat_calls.specs.Asking.{bytes_answer, is_bad_bytes, is_early, is_read_fault, IsAnswer, question_seen, reads_file};
+ghost use Rattle.repo_state.specs.Asking.{TellsDigest};
 ghost use Rattle.repo_state.specs.State.{IsSound};
 
-use crate::calls::{AskFault, Question, Seen};
 use crate::fill::{check, fill};
 use crate::state::RepoState;
 use blob_disk::Disk;
 use bonsai::encode;
 use object_id::Id;
+use seat_calls::{AskFault, Question, Seen};
 use std::alloc::Global;
 
 impl<D: Disk> RepoState<D> {

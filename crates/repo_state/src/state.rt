@@ -30,6 +30,7 @@ impl<D: Disk> Model for RepoState<D> {
     ghost view = { λ s. record {
       header = s.machine.header;
       history = s.machine.history;
+      room = s.machine.room;
       disk = D.meaning s.disk;
       opening = opening_of s.machine.header s.journal.opening (D.meaning s.first.value);
     } };
@@ -76,7 +77,9 @@ impl<D: Disk> RepoState<D> {
 
     /// How many entries the history has, with its faults.
     pub fn history_length(&self) -> u64
-        ensures { result ≡ length self.now.history }
+        ensures length { result ≡ length self.now.history }
+        ensures header { self.now.header ≡ self.now.opening.header }
+        ensures sound { IsSound self.now.opening self.now.history self.now.disk }
     {
         self.machine.history_length()
     }

@@ -4,15 +4,15 @@ ghost use Rattle.ports.specs.Faults.{Counts};
 ghost use Rattle.disk_model.specs.Calls.{Kept};
 ghost use Rattle.reply_model.specs.After.{Asks, Replies};
 ghost use Rattle.repo_calls.specs.Calls.{ask_seen};
-ghost use Rattle.repo_state.specs.Asking.{stored_answer, is_disk_fault};
+ghost use Rattle.seat_calls.specs.Asking.{stored_answer, is_disk_fault};
 ghost use Rattle.repo_state.specs.Images.{LeavesChange};
 ghost use Rattle.repo_state.specs.State.{IsSound};
 
-use crate::calls::ChangeFault;
 use crate::state::RepoState;
 use blob_disk::Disk;
 use repo_calls::{Ask, Granted};
 use repo_journal::AppendFault;
+use seat_calls::ChangeFault;
 use std::alloc::Global;
 
 impl<D: Disk> RepoState<D> {

@@ -3,3 +3,4 @@ pub mod Spelling
 pub mod Shown
 pub mod Refusing
 pub mod Plain
+pub mod Short

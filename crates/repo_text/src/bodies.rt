@@ -1,18 +1,36 @@
-//! The bodies of successful changes and of codes, written into room that was reserved. They take no memory.
+//! The short bodies, written into room that was reserved. They take no memory.
 ghost use Rattle.std.specs.Prelude.{◌≡◌, ◌+◌, ◌*◌, ◌≤◌, ◌++◌, [], length, vec_len, vec_capacity, codes, flat_map, map, ◌∷◌};
 ghost use Rattle.std.specs.List.{join_with_byte};
-ghost use Rattle.session_model.specs.Bodies.{coded, content_body, changeset_body, bookmark_body, landed_body, id_text, ids_text, maybe_id_text, name_text};
+ghost use Rattle.session_model.specs.Bodies.{coded, content_body, bookmark_body, landed_body, id_text, ids_text, maybe_id_text, name_text};
+ghost use Rattle.repo_text.specs.Short.{body_text, coded_id, coded_place, bad_bytes, IsShort};
 
 use crate::response::put;
 use itoa::Buffer;
 use object_id::Id;
-use repo_path::BookName;
+use repo_path::LONGEST_NAME;
 
-/// Room for the body that answers any successful change, in bytes.
-pub const MOST_CHANGE_BODY: usize = 8192;
+/// Room for any of these bodies, in bytes.
+pub const MOST_BODY: usize = 8192;
+
+/// The most bytes of a code.
+pub const MOST_CODE: usize = 64;
 
 /// The most ids of a landing's body.
 pub const MOST_LANDED: usize = 100;
+
+/// A body of JSON that tells of ids, at most `MOST_BODY` bytes: its code and the other members.
+#[derive(Clone, Copy, Debug)]
+pub enum Body<'a> {
+    CodedId { code: &'a str, id: Id },
+    /// A content that was stored, and its length in bytes.
+    Content { id: Id, size: usize },
+    /// Where a bookmark stands, `None` where it is deleted.
+    Bookmark { head: Option<Id>, name: &'a str },
+    /// A landing: the head before, and the ids of the new changesets, of which the last is the head.
+    Landed { old: Id, ids: &'a [Id] },
+    /// The bytes of a content have another id.
+    BadBytes { wanted: Id, found: Id },
+}
 
 fn put_id(out: &mut Vec<u8>, id: &Id)
     requires { vec_len out.old + 66 ≤ vec_capacity out.old }
@@ -89,8 +107,36 @@ pub fn put_code_body(out: &mut Vec<u8>, code: &str)
     put(out, b"\"}");
 }
 
-/// Adds the body that answers a content which was stored, at most 192 bytes.
-pub fn put_content_body(out: &mut Vec<u8>, id: &Id, size: usize)
+fn put_coded_id(out: &mut Vec<u8>, code: &str, id: &Id)
+    requires { vec_len out.old + length code.now + 83 ≤ vec_capacity out.old }
+    ensures items { out.new.items ≡ out.old.items ++ coded_id code.now id.now }
+    ensures short { vec_len out.new ≤ vec_len out.old + length code.now + 83 }
+    ensures room { vec_capacity out.old ≤ vec_capacity out.new }
+{
+    put(out, b"{\"code\":\"");
+    put(out, code.as_bytes());
+    put(out, b"\",\"id\":");
+    put_id(out, id);
+    put(out, b"}");
+}
+
+/// Adds a body of a code and a place in bytes: at most 64 bytes more than the code has.
+pub fn put_place_body(out: &mut Vec<u8>, code: &str, at: u64)
+    requires { vec_len out.old + length code.now + 64 ≤ vec_capacity out.old }
+    ensures items { out.new.items ≡ out.old.items ++ coded_place code.now at }
+    ensures short { vec_len out.new ≤ vec_len out.old + length code.now + 64 }
+    ensures room { vec_capacity out.old ≤ vec_capacity out.new }
+{
+    let mut digits = Buffer::new();
+    put(out, b"{\"code\":\"");
+    put(out, code.as_bytes());
+    put(out, b"\",\"place\":");
+    put(out, digits.format(at).as_bytes());
+    put(out, b"}");
+}
+
+// What answers a content that was stored.
+fn put_content(out: &mut Vec<u8>, id: &Id, size: usize)
     requires { vec_len out.old + 192 ≤ vec_capacity out.old }
     ensures items { out.new.items ≡ out.old.items ++ content_body id.now size }
     ensures short { vec_len out.new ≤ vec_len out.old + 192 }
@@ -104,21 +150,10 @@ pub fn put_content_body(out: &mut Vec<u8>, id: &Id, size: usize)
     put(out, b"}");
 }
 
-/// Adds the body that answers a changeset which was stored, at most 192 bytes.
-pub fn put_changeset_body(out: &mut Vec<u8>, id: &Id)
-    requires { vec_len out.old + 192 ≤ vec_capacity out.old }
-    ensures items { out.new.items ≡ out.old.items ++ changeset_body id.now }
-    ensures short { vec_len out.new ≤ vec_len out.old + 192 }
-    ensures room { vec_capacity out.old ≤ vec_capacity out.new }
-{
-    put(out, b"{\"code\":\"changeset\",\"id\":");
-    put_id(out, id);
-    put(out, b"}");
-}
-
-/// Adds the body that tells where a bookmark stands, `None` where it is deleted: at most 256 bytes.
-pub fn put_bookmark_body(out: &mut Vec<u8>, head: Option<Id>, name: &BookName)
-    requires { vec_len out.old + 256 ≤ vec_capacity out.old }
+// What tells where a bookmark stands.
+fn put_bookmark(out: &mut Vec<u8>, head: Option<Id>, name: &str)
+    requires short { length name.now ≤ LONGEST_NAME }
+    requires room { vec_len out.old + 256 ≤ vec_capacity out.old }
     ensures items { out.new.items ≡ out.old.items ++ bookmark_body head name.now }
     ensures short { vec_len out.new ≤ vec_len out.old + 256 }
     ensures room { vec_capacity out.old ≤ vec_capacity out.new }
@@ -126,17 +161,16 @@ pub fn put_bookmark_body(out: &mut Vec<u8>, head: Option<Id>, name: &BookName)
     put(out, b"{\"code\":\"bookmark\",\"head\":");
     put_maybe_id(out, head);
     put(out, b",\"name\":\"");
-    put(out, name.as_str().as_bytes());
+    put(out, name.as_bytes());
     put(out, b"\"}");
 }
 
-/// Adds the body that answers a landing of at most 100 changesets, of which the last is the head: at most
-/// `MOST_CHANGE_BODY` bytes.
-pub fn put_landed_body(out: &mut Vec<u8>, old: &Id, ids: &[Id])
+// What answers a landing.
+fn put_landed(out: &mut Vec<u8>, old: &Id, ids: &[Id])
     requires few { length ids.now ≤ MOST_LANDED }
-    requires room { vec_len out.old + MOST_CHANGE_BODY ≤ vec_capacity out.old }
+    requires room { vec_len out.old + MOST_BODY ≤ vec_capacity out.old }
     ensures items { out.new.items ≡ out.old.items ++ landed_body old.now ids.now }
-    ensures short { vec_len out.new ≤ vec_len out.old + MOST_CHANGE_BODY }
+    ensures short { vec_len out.new ≤ vec_len out.old + MOST_BODY }
     ensures room { vec_capacity out.old ≤ vec_capacity out.new }
 {
     put(out, b"{\"code\":\"landed\",\"head\":");
@@ -146,4 +180,34 @@ pub fn put_landed_body(out: &mut Vec<u8>, old: &Id, ids: &[Id])
     put(out, b",\"old\":");
     put_id(out, old);
     put(out, b"}");
+}
+
+fn put_bad_bytes(out: &mut Vec<u8>, wanted: &Id, found: &Id)
+    requires { vec_len out.old + 192 ≤ vec_capacity out.old }
+    ensures items { out.new.items ≡ out.old.items ++ bad_bytes wanted.now found.now }
+    ensures short { vec_len out.new ≤ vec_len out.old + 192 }
+    ensures room { vec_capacity out.old ≤ vec_capacity out.new }
+{
+    put(out, b"{\"code\":\"bad-bytes\",\"found\":");
+    put_id(out, found);
+    put(out, b",\"wanted\":");
+    put_id(out, wanted);
+    put(out, b"}");
+}
+
+/// Adds a body, of at most `MOST_BODY` bytes.
+pub fn put_body(out: &mut Vec<u8>, body: &Body<'_>)
+    requires short { IsShort body.now }
+    requires room { vec_len out.old + MOST_BODY ≤ vec_capacity out.old }
+    ensures items { out.new.items ≡ out.old.items ++ body_text body.now }
+    ensures short { vec_len out.new ≤ vec_len out.old + MOST_BODY }
+    ensures room { vec_capacity out.old ≤ vec_capacity out.new }
+{
+    match body {
+        Body::CodedId { code, id } => put_coded_id(out, code, id),
+        Body::Content { id, size } => put_content(out, id, *size),
+        Body::Bookmark { head, name } => put_bookmark(out, *head, name),
+        Body::Landed { old, ids } => put_landed(out, old, ids),
+        Body::BadBytes { wanted, found } => put_bad_bytes(out, wanted, found),
+    }
 }

@@ -9,6 +9,6 @@ pub mod refused;
 pub mod response;
 mod values;
 
-pub use bodies::{MOST_CHANGE_BODY, MOST_LANDED};
+pub use bodies::{Body, MOST_BODY, MOST_LANDED};
 pub use refused::Refused;
 pub use response::{Media, Response};

@@ -1,5 +1,5 @@
 //! The body of a page of the log.
-ghost use Rattle.std.specs.Prelude.{◌≡◌, ◌+◌, ◌<◌, ◌^◌, [], ◌∷◌, length, codes, IfOk, string_bytes};
+ghost use Rattle.std.specs.Prelude.{◌≡◌, ◌+◌, ◌-◌, ◌<◌, ◌≤◌, ◌^◌, [], ◌∷◌, length, codes, IfOk, string_bytes};
 ghost use Rattle.hex.specs.Hex.{encode_lower};
 ghost use Rattle.serde_json.specs.Data.{string, number as number_data, unsigned};
 ghost use Rattle.serde_json.specs.View.{view};
@@ -11,17 +11,22 @@ ghost use Rattle.repo_text.specs.Spelling.{Spells, coded_data, object_data, id_d
 
 use crate::ids::{hex_of, id_value, ids_value, maybe_id_value};
 use object_id::Id;
-use repo_calls::{LogEntry, LogPage};
+use repo_calls::LogEntry;
 use serde_json::{Value, json};
 use std::alloc::{AllocError, Global};
 
-/// The body of a page of the log, whose first entry has this number.
-pub fn log_body(alloc: Global, from: u64, page: &LogPage) -> Result<String, AllocError>
-    requires { from + length page.now.entries.items < 2 ^ 64 }
-    ensures { IfOk result (λ body. string_bytes body ≡ bodies.log_body from (lines_seen page.now.entries.items) page.now.total) }
+/// The body of a page of the log, whose first entry has the number `from`, where there are `total` entries in all.
+pub fn log_body(
+    alloc: Global,
+    from: u64,
+    entries: &[LogEntry],
+    total: u64,
+) -> Result<String, AllocError>
+    requires { length entries.now ≤ total - from }
+    ensures { IfOk result (λ body. string_bytes body ≡ bodies.log_body from (lines_seen entries.now) total) }
 {
-    let entries = lines_value(alloc, from, page.entries.as_slice())?;
-    let value = page_value(alloc, entries, page.total)?;
+    let entries = lines_value(alloc, from, entries)?;
+    let value = page_value(alloc, entries, total)?;
     value.to_string(alloc)
 }
 

@@ -1,9 +1,6 @@
-//! The responses to changes that are refused, and to requests that name nothing: a status, and a body of JSON.
+//! The responses to changes that are refused: a status, and a body of JSON.
 ghost use Rattle.std.specs.Prelude.{◌≡◌, ℕ, List, IfOk};
-ghost use Rattle.session_model.specs.Asking.{absent};
 ghost use Rattle.session_model.specs.Bodies.{json};
-ghost use Rattle.session_model.specs.Parameters as parameters;
-ghost use Rattle.reply_model.specs.Reply.{AbsentChangeset};
 ghost use Rattle.serde_json.specs.View.{view};
 ghost use Rattle.repo_text.specs.Refusing.{response_to};
 ghost use Rattle.repo_text.specs.Spelling.{Spells};
@@ -26,30 +23,6 @@ pub fn refused(alloc: Global, refusal: &Refusal) -> Result<Refused, AllocError>
 {
     let value = value_of(alloc, refusal)?;
     with_body(alloc, status_of(refusal), &value)
-}
-
-/// The response to a bookmark's name with its first fault at this byte.
-pub fn bad_name(alloc: Global, at: usize) -> Result<Refused, AllocError>
-    ensures { IfOk result (λ r. response_of r ≡ parameters.bad_name at) }
-{
-    let value = place_value(alloc, "bad-name", at as u64)?;
-    with_body(alloc, Status::BadRequest, &value)
-}
-
-/// The response to an id with its first fault at this byte.
-pub fn bad_id(alloc: Global, at: usize) -> Result<Refused, AllocError>
-    ensures { IfOk result (λ r. response_of r ≡ parameters.bad_id at) }
-{
-    let value = place_value(alloc, "bad-id", at as u64)?;
-    with_body(alloc, Status::BadRequest, &value)
-}
-
-/// The response to a read of a changeset that isn't stored.
-pub fn no_changeset(alloc: Global, id: &Id) -> Result<Refused, AllocError>
-    ensures { IfOk result (λ r. response_of r ≡ absent (AbsentChangeset id.now)) }
-{
-    let value = coded_id_value(alloc, "no-changeset", id)?;
-    with_body(alloc, Status::NotFound, &value)
 }
 
 fn with_body(alloc: Global, status: Status, value: &Value) -> Result<Refused, AllocError>

@@ -5,7 +5,7 @@ use Rattle.std.specs.Prelude.{ℕ, ◌==◌, List, IsTrue}
 use Rattle.std.specs.List.{list_any}
 use Rattle.percent_encoding.specs.Percent.{percent_sign}
 use Rattle.session_model.specs.declared.route_name.RouteName.{RouteName}
-use Rattle.session_model.specs.declared.route_name.RouteName.TheVariants.{Contents, Changesets, Changeset, Head, Move, Land, Log}
+use Rattle.session_model.specs.declared.route_name.RouteName.TheVariants.{Contents, Content, Changesets, Changeset, Head, Move, Land, Log}
 use Rattle.session_model.specs.Routes.{Route, value}
 
 abbrev pub HasEscape : List ℕ → Type 0
@@ -13,6 +13,7 @@ HasEscape raw = IsTrue (list_any (λ b. b == percent_sign) raw)
 
 abbrev pub NeedsMemory : RouteName → (ℕ → List ℕ) → Type 0
 NeedsMemory Contents value = ⊥
+NeedsMemory Content value = HasEscape (value 0)
 NeedsMemory Changesets value = ⊥
 NeedsMemory Changeset value = HasEscape (value 0)
 NeedsMemory Head value = Unit {0}

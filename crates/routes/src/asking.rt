@@ -42,6 +42,8 @@ pub enum Call<'a> {
     },
     /// Where a bookmark stands.
     Head(BookName),
+    /// The bytes of a content.
+    Content(Id),
     /// The encoding of a changeset.
     Changeset(Id),
     /// A page of the log, from the entry of this number.
@@ -86,6 +88,7 @@ fn call_from<'a>(
 {
     Ok(match name {
         RouteName::Contents => Call::PutContent(body),
+        RouteName::Content => Call::Content(id_parameter(alloc, part(params, "id"))?),
         RouteName::Changesets => Call::PutChangeset(body),
         RouteName::Changeset => Call::Changeset(id_parameter(alloc, part(params, "id"))?),
         RouteName::Head => Call::Head(name_parameter(alloc, part(params, "name"))?),

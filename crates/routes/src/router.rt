@@ -58,6 +58,7 @@ impl Routes {
         add(&mut router, "/bookmark/{name}", RouteName::Head)?;
         add(&mut router, "/changeset/{id}", RouteName::Changeset)?;
         add(&mut router, "/changeset", RouteName::Changesets)?;
+        add(&mut router, "/content/{id}", RouteName::Content)?;
         add(&mut router, "/content", RouteName::Contents)?;
         add(&mut router, "/land/{name}/{id}", RouteName::Land)?;
         add(&mut router, "/log/{from}", RouteName::Log)?;

@@ -5,13 +5,13 @@
 --     change_response ask answer, read_response question answer      the response to each answer
 use Rattle.std.specs.Prelude.{ℕ, if◌then◌else◌, List, [], ◌∷◌, length, bytes_eq, codes, decimal, Option, None, Some, Result, Ok, Err}
 use Rattle.reply_model.specs.Log.{lines_of}
-use Rattle.reply_model.specs.Reply.{◌>>=◌, Ask, PutContent, PutChangeset, SetBookmark, LandDraft, Granted, ContentPut, ChangesetPut, BookmarkSet, Landed, Refusal, Down, TooLong, BadEncoding, SelfConflict, Merge, NoParent, NoContent, WrongSize, Collision, NoChangeset, Moved, NoBookmark, NoRoot, TooFarBehind, AlreadyIn, StackTooLong, Clash, TooLarge, Full, Question, HeadOf, ChangesetOf, LogFrom, Seen, SeenHead, SeenBytes, SeenLog, Absent, AbsentContent, AbsentChangeset, NoPath, NotADir, NotAFile}
+use Rattle.reply_model.specs.Reply.{◌>>=◌, Ask, PutContent, PutChangeset, SetBookmark, LandDraft, Granted, ContentPut, ChangesetPut, BookmarkSet, Landed, Refusal, Down, TooLong, BadEncoding, SelfConflict, Merge, NoParent, NoContent, WrongSize, Collision, NoChangeset, Moved, NoBookmark, NoRoot, TooFarBehind, AlreadyIn, StackTooLong, Clash, TooLarge, Full, Question, HeadOf, ContentOf, ChangesetOf, LogFrom, Seen, SeenHead, SeenBytes, SeenLog, Absent, AbsentContent, AbsentChangeset, NoPath, NotADir, NotAFile}
 use Rattle.reply_model.specs.After.{Answer, Grants, Refuses, Shows, Lacks, Roots, DiskFault, ReadFault, BadBytes, NodeCollision, Memory}
 use Rattle.http_model.specs.Head.{path_of}
 use Rattle.http_model.specs.Stream.{Request}
 use Rattle.session_model.specs.declared.status.Status.TheVariants.{Fine, BadRequest, NotFound, MethodNotAllowed, Conflict, ContentTooLarge, UnprocessableContent, InternalServerError, InsufficientStorage}
 use Rattle.session_model.specs.declared.route_name.RouteName.{RouteName}
-use Rattle.session_model.specs.declared.route_name.RouteName.TheVariants.{Contents, Changesets, Changeset, Head, Move, Land, Log}
+use Rattle.session_model.specs.declared.route_name.RouteName.TheVariants.{Contents, Content, Changesets, Changeset, Head, Move, Land, Log}
 use Rattle.session_model.specs.Methods.{method_text, method_of}
 use Rattle.session_model.specs.Responses.{Response, Json}
 use Rattle.session_model.specs.Bodies.{coded, id_text, maybe_id_text, path_text, content_body, changeset_body, bookmark_body, landed_body, log_body, json, of_code, octets, memory}
@@ -28,6 +28,9 @@ pub data Asked : Type 0 where
 -- the parameters from left to right: the first that is refused decides
 abbrev pub by_name : RouteName → (ℕ → List ℕ) → List ℕ → Result Asked Response
 by_name Contents value body = Ok (Changes (PutContent body))
+by_name Content value body = do
+  x ← id_parameter (value 0)
+  Ok (Looks (ContentOf x))
 by_name Changesets value body = Ok (Changes (PutChangeset body))
 by_name Changeset value body = do
   x ← id_parameter (value 0)
@@ -116,6 +119,7 @@ change_response ask (NodeCollision x) = memory
 abbrev pub seen : Question → Seen → Response
 seen (HeadOf name) (SeenHead None) = of_code NotFound (codes "no-bookmark")
 seen (HeadOf name) (SeenHead (Some x)) = json Fine (bookmark_body (Some x) name)
+seen (ContentOf x) (SeenBytes bytes) = octets bytes
 seen (ChangesetOf x) (SeenBytes bytes) = octets bytes
 seen (LogFrom n) (SeenLog page total) = json Fine (log_body n (lines_of page) total)
 seen _ _ = of_code Fine []

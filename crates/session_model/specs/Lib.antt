@@ -6,4 +6,3 @@ pub mod Routes
 pub mod Parameters
 pub mod Asking
 pub mod Session
-pub mod Faults

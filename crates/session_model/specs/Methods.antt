@@ -5,7 +5,7 @@ use Rattle.std.specs.Prelude.{ℕ, List, codes}
 use Rattle.session_model.specs.declared.method.Method.{Method}
 use Rattle.session_model.specs.declared.method.Method.TheVariants.{Get, Post, Put}
 use Rattle.session_model.specs.declared.route_name.RouteName.{RouteName}
-use Rattle.session_model.specs.declared.route_name.RouteName.TheVariants.{Contents, Changesets, Changeset, Head, Move, Land, Log}
+use Rattle.session_model.specs.declared.route_name.RouteName.TheVariants.{Contents, Content, Changesets, Changeset, Head, Move, Land, Log}
 
 abbrev pub method_text : Method → List ℕ
 method_text Get = codes "GET"
@@ -14,6 +14,7 @@ method_text Put = codes "PUT"
 
 abbrev pub method_of : RouteName → Method
 method_of Contents = Put
+method_of Content = Get
 method_of Changesets = Put
 method_of Changeset = Get
 method_of Head = Get

@@ -10,7 +10,7 @@ use Rattle.std.specs.List.{starts_with}
 use Rattle.byte_fields.specs.Bytes.{is_text, first_some}
 use Rattle.changeset_model.specs.Path.{elements, text_of}
 use Rattle.session_model.specs.declared.route_name.RouteName.{RouteName}
-use Rattle.session_model.specs.declared.route_name.RouteName.TheVariants.{Contents, Changesets, Changeset, Head, Move, Land, Log}
+use Rattle.session_model.specs.declared.route_name.RouteName.TheVariants.{Contents, Content, Changesets, Changeset, Head, Move, Land, Log}
 
 pub record Pattern : Type 0 where
   pub word : List ℕ
@@ -22,6 +22,7 @@ of_word word parameters = record { word = word; parameters = parameters; rest = 
 
 abbrev pub pattern_of : RouteName → Pattern
 pattern_of Contents = of_word (codes "content") []
+pattern_of Content = of_word (codes "content") (codes "id" ∷ [])
 pattern_of Changesets = of_word (codes "changeset") []
 pattern_of Changeset = of_word (codes "changeset") (codes "id" ∷ [])
 pattern_of Head = of_word (codes "bookmark") (codes "name" ∷ [])
@@ -31,7 +32,7 @@ pattern_of Log = of_word (codes "log") (codes "from" ∷ [])
 
 -- a router keeps its routes in this order
 abbrev pub order : List RouteName
-order = Move ∷ Head ∷ Changeset ∷ Changesets ∷ Contents ∷ Land ∷ Log ∷ []
+order = Move ∷ Head ∷ Changeset ∷ Changesets ∷ Content ∷ Contents ∷ Land ∷ Log ∷ []
 
 pub record Route : Type 0 where
   pub name : RouteName

@@ -1,15 +1,16 @@
 -- A session: what goes out and what the history is then, for the bytes that came in.
---     Answers header who h q out after      the request q is answered at h by these bytes, and the history is then `after`
---     Serves header who h requests texts after      so are these requests in order, each by its text
---     Session header who h s out after end      for all bytes read, where the session came to this end
---     Broken header who h s out after      where the link failed: what went out lacks at most an end of the last text
+--     Relation      how a repository answers a call of a seat: the header, the history that the seat has seen, its number, the call, the answer, and the history that it has seen then
+--     Answers replies header who h q out after      the request q is answered at h by these bytes, and the history is then `after`
+--     Serves replies header who h requests texts after      so are these requests in order, each by its text
+--     Session replies header who h s out after end      for all bytes read, where the session came to this end
+--     Broken replies header who h s out after      where the link failed: what went out lacks at most an end of the last text
 --     closing refusal, closing_memory      what is written last where the session is refused, and where there was no memory to begin
 use Rattle.std.specs.Prelude.{◌≡◌, ◌≤◌, ◌⊎◌, ℕ, true, false, List, [], ◌∷◌, ◌++◌, length}
 use Rattle.std.specs.List.{concat}
 use mathlib.Core.List.{IsPrefix}
 use Rattle.history_model.specs.History.{Entry}
 use Rattle.history_model.specs.Journal.{Header}
-use Rattle.reply_model.specs.After.{Answer, Call, Asks, Looks, Replies}
+use Rattle.reply_model.specs.After.{Answer, Call, Asks, Looks}
 use Rattle.http_model.specs.declared.head_refusal.HeadRefusal.{HeadRefusal}
 use Rattle.http_model.specs.declared.head_refusal.HeadRefusal.TheVariants as refusals
 use Rattle.http_model.specs.Refusals.{code_of, status_of}
@@ -22,37 +23,40 @@ use Rattle.session_model.specs.Bodies.{of_code, memory}
 use Rattle.session_model.specs.Asking as asking
 use Rattle.session_model.specs.Asking.{Asked, asked, change_response, read_response}
 
+abbrev pub Relation : Type 1
+Relation = Header → List Entry → ℕ → Call → Answer → List Entry → Type 0
+
 -- ---- one request
 
 abbrev pub text_for : Request → Response → List ℕ
 text_for q r = text_of r q.close (is_head_only q)
 
--- a call is answered as the repository of one thread answers it at h
-pub record AnswersCall (header : Header) (who : ℕ) (h : List Entry) (call : Call) (respond : Answer → Response) (q : Request) (out : List ℕ) (after : List Entry) : Type 0 where
+-- a call is answered as the repository answers it at h, which may be by want of memory
+pub record AnswersCall (replies : Relation) (header : Header) (who : ℕ) (h : List Entry) (call : Call) (respond : Answer → Response) (q : Request) (out : List ℕ) (after : List Entry) : Type 0 where
   pub answer : Answer
-  pub replies : Replies header h who call answer after
+  pub answered : replies header h who call answer after
   pub text : out ≡ text_for q (respond answer)
 
 pub record AnswersAlone (h : List Entry) (q : Request) (r : Response) (out : List ℕ) (after : List Entry) : Type 0 where
   pub same : after ≡ h
   pub text : out ≡ text_for q r
 
-abbrev pub AnswersAsked : Header → ℕ → List Entry → Asked → Request → List ℕ → List Entry → Type 0
-AnswersAsked header who h (asking.Changes ask) q out after = AnswersCall header who h (Asks ask) (change_response ask) q out after
-AnswersAsked header who h (asking.Looks question) q out after = AnswersCall header who h (Looks question) (read_response question) q out after
-AnswersAsked header who h (asking.Fails r) q out after = AnswersAlone h q r out after
+abbrev pub AnswersAsked : Relation → Header → ℕ → List Entry → Asked → Request → List ℕ → List Entry → Type 0
+AnswersAsked replies header who h (asking.Changes ask) q out after = AnswersCall replies header who h (Asks ask) (change_response ask) q out after
+AnswersAsked replies header who h (asking.Looks question) q out after = AnswersCall replies header who h (Looks question) (read_response question) q out after
+AnswersAsked replies header who h (asking.Fails r) q out after = AnswersAlone h q r out after
 
--- want of memory may stand in place of an answer, and changes nothing
-abbrev pub Answers : Header → ℕ → List Entry → Request → List ℕ → List Entry → Type 0
-Answers header who h q out after = AnswersAsked header who h (asked q) q out after ⊎ AnswersAlone h q memory out after
+-- where there is no memory to tell what is asked for, that is told, and nothing changes
+abbrev pub Answers : Relation → Header → ℕ → List Entry → Request → List ℕ → List Entry → Type 0
+Answers replies header who h q out after = AnswersAsked replies header who h (asked q) q out after ⊎ AnswersAlone h q memory out after
 
 -- ---- a session
 
-abbrev pub Serves : Header → ℕ → List Entry → List Request → List (List ℕ) → List Entry → Type 0
-Serves header who h [] [] after = after ≡ h
-Serves header who h (q ∷ requests) (text ∷ texts) after = (between : List Entry) × Answers header who h q text between × Serves header who between requests texts after
-Serves header who h [] (text ∷ texts) after = ⊥
-Serves header who h (q ∷ requests) [] after = ⊥
+abbrev pub Serves : Relation → Header → ℕ → List Entry → List Request → List (List ℕ) → List Entry → Type 0
+Serves replies header who h [] [] after = after ≡ h
+Serves replies header who h (q ∷ requests) (text ∷ texts) after = (between : List Entry) × Answers replies header who h q text between × Serves replies header who between requests texts after
+Serves replies header who h [] (text ∷ texts) after = ⊥
+Serves replies header who h (q ∷ requests) [] after = ⊥
 
 abbrev pub status_for : HeadRefusal → Status
 status_for refusals.HeadTooLarge = HeaderFieldsTooLarge
@@ -77,11 +81,11 @@ Closes s requests (Cut read) last = last ≡ []
 Closes s requests (Refused status) last = (refusal : HeadRefusal) × Leaves s requests (Refuses refusal) × (status_of refusal ≡ status) × (last ≡ closing refusal ∷ [])
 Closes s requests Spent last = last ≡ []
 
-pub record Session (header : Header) (who : ℕ) (h : List Entry) (s out : List ℕ) (after : List Entry) (end : End) : Type 0 where
+pub record Session (replies : Relation) (header : Header) (who : ℕ) (h : List Entry) (s out : List ℕ) (after : List Entry) (end : End) : Type 0 where
   pub requests : List Request
   pub told : Requests s requests end
   pub texts : List (List ℕ)
-  pub serves : Serves header who h requests texts after
+  pub serves : Serves replies header who h requests texts after
   pub last : List (List ℕ)
   pub closes : Closes s requests end last
   pub out_is : out ≡ concat (texts ++ last)
@@ -105,12 +109,12 @@ abbrev pub MayClose : List ℕ → List Request → List (List ℕ) → Type 0
 MayClose s requests last =
     (last ≡ []) ⊎ ((refusal : HeadRefusal) × Leaves s requests (Refuses refusal) × (last ≡ closing refusal ∷ [])) ⊎ ((s ≡ []) × (requests ≡ []) × (last ≡ closing_memory ∷ []))
 
-pub record Broken (header : Header) (who : ℕ) (h : List Entry) (s out : List ℕ) (after : List Entry) : Type 0 where
+pub record Broken (replies : Relation) (header : Header) (who : ℕ) (h : List Entry) (s out : List ℕ) (after : List Entry) : Type 0 where
   pub requests : List Request
   pub took : Took s requests
   pub few : length s ≤ most_read
   pub texts : List (List ℕ)
-  pub serves : Serves header who h requests texts after
+  pub serves : Serves replies header who h requests texts after
   pub last : List (List ℕ)
   pub closes : MayClose s requests last
   pub cut : CutOff (texts ++ last) out

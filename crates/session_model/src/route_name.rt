@@ -8,6 +8,8 @@ use crate::method::Method;
 pub enum RouteName {
     /// Contents, to store one.
     Contents,
+    /// A content.
+    Content,
     /// Changesets, to store one.
     Changesets,
     /// A changeset.
@@ -31,7 +33,8 @@ impl RouteName {
     {
         match self {
             RouteName::Contents | RouteName::Changesets | RouteName::Move => Method::Put,
-            RouteName::Changeset | RouteName::Head | RouteName::Log => Method::Get,
+            RouteName::Content | RouteName::Changeset | RouteName::Head | RouteName::Log =>
+                Method::Get,
             RouteName::Land => Method::Post,
         }
     }

@@ -1,18 +1,15 @@
 use Rattle.std.proofs.Common.{◌≡◌, ◌≤◌, ◌+◌, ◌*◌, length, vec_len}
-use Rattle.reply_model.specs.Legal.{IsLegal}
-use Rattle.session_model.specs.Faults.{fault_count}
 use Rattle.http_front.specs.Serving.{Going}
 use Rattle.http_front.proofs.session.serve.Given as goal
 
 abbrev pub invariant-turns : goal.invariant-turns
 invariant-turns g l = record {
-  going : Going (record { header = l.fn.machine.header; who = l.who; history = l.fn.machine.history; rest = g.S.Source.rest l.fn.source; written = g.K.Sink.written l.fn.sink }) l.machine.history (g.S.Source.rest l.source) (g.K.Sink.written l.sink) l.state.cutter l.state.budget;
-  header : l.machine.header ≡ l.fn.machine.header;
-  legal : IsLegal l.fn.machine.header l.fn.machine.history → IsLegal l.machine.header l.machine.history;
-  faultless : fault_count l.machine.history ≡ fault_count l.fn.machine.history;
+  going : Going g.T.Seat.replies (record { header = g.T.Seat.header l.fn.seat; who = g.T.Seat.number l.fn.seat; history = g.T.Seat.front l.fn.seat; rest = g.L.Link.rest l.fn.link; written = g.L.Link.written l.fn.link }) (g.T.Seat.front l.seat) (g.L.Link.rest l.link) (g.L.Link.written l.link) l.state.cutter l.state.budget;
+  header : g.T.Seat.header l.seat ≡ g.T.Seat.header l.fn.seat;
+  number : g.T.Seat.number l.seat ≡ g.T.Seat.number l.fn.seat;
+  opening : g.T.Seat.opening l.seat ≡ g.T.Seat.opening l.fn.seat;
   piece : vec_len l.state.piece ≡ 65536;
-  source : g.S.Source.faults l.fn.source ≤ g.S.Source.faults l.source;
-  sink : g.K.Sink.faults l.fn.sink ≤ g.K.Sink.faults l.sink;
+  faults : g.L.Link.faults l.fn.link ≤ g.L.Link.faults l.link;
 }
 
 abbrev pub decreases-turns : goal.decreases-turns

@@ -3,4 +3,6 @@ use Rattle.http_front.proofs.session.serve_session.Goals as goal
 
 pub returns-in-Err-clause-session : goal.returns-in-Err-clause-session
 returns-in-Err-clause-session g c =
-    without_memory (record { header = c.args.machine.now.header; who = c.args.who; history = c.args.machine.now.history; rest = g.S.Source.rest c.args.source.now; written = g.K.Sink.written c.args.sink.now }) c.end_without_memory.result (g.K.Sink.written c.end_without_memory.new.sink) c.end_without_memory.ensures.sent
+    rw c.end_without_memory.ensures.input
+    (without_memory g.T.Seat.replies (record { header = g.T.Seat.header c.args.seat.now; who = g.T.Seat.number c.args.seat.now; history = g.T.Seat.front c.args.seat.now; rest = g.L.Link.rest c.args.link.now; written = g.L.Link.written c.args.link.now })
+    c.end_without_memory.result (g.L.Link.written c.end_without_memory.new.link) c.end_without_memory.ensures.sent)

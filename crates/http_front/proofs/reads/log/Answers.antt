@@ -1,8 +1,0 @@
-use Rattle.http_front.proofs.AnswerLemmas.{log_answers, wants_memory}
-use Rattle.http_front.proofs.reads.log.Goals as goal
-
-pub returns-in-Ok : goal.returns-in-Ok
-returns-in-Ok c = λ who. log_answers _ _ who c.args.from _ _ _ c.in-Ok.ensures
-
-pub returns-in-Err : goal.returns-in-Err
-returns-in-Err c = λ who. wants_memory _ _ who _ _ _ _ _ c.put_memory.ensures

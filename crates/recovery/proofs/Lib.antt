@@ -1,0 +1,6 @@
+pub mod Spared
+pub mod NextEntries
+pub mod LongerFiles
+pub mod FirstBytes
+pub mod Gates
+pub mod Files

@@ -1,0 +1,5 @@
+pub mod Faults
+pub mod Answers
+pub mod Settling
+pub mod Headers
+pub mod Reading

@@ -1,0 +1,5 @@
+//! Tests of opening files.
+#![tactic(auto)]
+
+#[cfg(test)]
+mod files;

@@ -1,0 +1,110 @@
+use Rattle.std.proofs.Common.{inr, sym, ap, subst, refl}
+use Rattle.std.specs.Prelude.{Err}
+use Rattle.reply_model.specs.Reply.{LandDraft}
+use Rattle.reply_model.specs.After.{Asks, Grants, Replies}
+use Rattle.repo_journal.specs.Answers.{is_disk_fault}
+use Rattle.repo_state.proofs.Heads.{is_there}
+use Rattle.repo_state.proofs.Storing.{making, append_failed, outcome_appended, outcome_failed, refused_replies}
+use Rattle.repo_state.proofs.state.RepoState.exchange.Goals as goal
+
+pub returns-in-Err-clause-exchanged : goal.returns-in-Err-clause-exchanged
+returns-in-Err-clause-exchanged g c =
+    let there = is_there c.self.inside.machine.history c.name.result.now c.args.rebased.name c.head-found.result c.old.result c.args.rebased.old c.ne.result c.name.ensures c.head-found.ensures c.old.ensures c.ne.ensures c.if-ne.false in
+    let why = c.in-Err.ensures.err in
+    rw (← c.self.view_is)
+    (inr there, why.passes, refused_replies c.self.inside.machine.header c.self.inside.machine.history c.self.inside.machine.history c.args.who (LandDraft c.args.rebased.name c.args.rebased.draft) c.in-Err.refusal refl (inr (why.refusal, why.is_refused, why.same)))
+
+pub invariant_of-self : goal.invariant_of-self
+invariant_of-self g c =
+    let judged = c.in-Ok.judged in
+    let made = making _ _ _ judged c.in-Some.frame.now c.in-Ok.ensures.ok.is_judged c.in-Some.ensures.frame in
+    let e = c.in-Ok-append.ensures in
+    let out = outcome_appended c.self.inside.machine.header c.self.inside.machine.header c.admit.new.self.header c.self.inside.machine.history c.self.inside.machine.history c.admit.new.self.history
+    c.args.who (LandDraft c.args.rebased.name c.args.rebased.draft) judged c.in-Some.frame.now c.self.inside.journal c.append.new.self (g.D.Disk.meaning c.self.inside.first.value) (g.D.Disk.meaning c.self.inside.disk) (g.D.Disk.meaning c.append.new.disk)
+    refl c.admit.ensures.header refl c.admit.ensures.history c.in-Ok.ensures.ok.by made e.ok e.long
+    (record { kept = e.kept; counts = e.faults; calm = e.quiet; crash = e.crash; sealed = λ _. e.sealed }) c.self.invariant in
+    out.holds
+
+pub invariant_of-self-in-Err-DiskFault : goal.invariant_of-self-in-Err-DiskFault
+invariant_of-self-in-Err-DiskFault g c =
+    let judged = c.in-Ok.judged in
+    let made = making _ _ _ judged c.in-Some.frame.now c.in-Ok.ensures.ok.is_judged c.in-Some.ensures.frame in
+    let e = c.in-Err-DiskFault.ensures in
+    let fails = ap (λ f. is_disk_fault {T = Unit {0}} (Err f)) c.in-Err-DiskFault.field-0-is in
+    let out = outcome_failed c.self.inside.machine.header c.self.inside.machine.header c.fault.new.self.header c.self.inside.machine.history c.self.inside.machine.history c.fault.new.self.history
+    c.args.who (LandDraft c.args.rebased.name c.args.rebased.draft) judged c.in-Some.frame.now c.self.inside.journal c.append.new.self (g.D.Disk.meaning c.self.inside.first.value) (g.D.Disk.meaning c.self.inside.disk) (g.D.Disk.meaning c.append.new.disk)
+    refl c.fault.ensures.header refl c.fault.ensures.history made (e.broken fails)
+    (append_failed _ _ _ _ _ fails e.kept e.faults e.quiet e.crash) c.self.invariant in
+    out.holds
+
+pub returns-in-Landing-clause-exchanged : goal.returns-in-Landing-clause-exchanged
+returns-in-Landing-clause-exchanged g c =
+    let there = is_there c.self.inside.machine.history c.name.result.now c.args.rebased.name c.head-found.result c.old.result c.args.rebased.old c.ne.result c.name.ensures c.head-found.ensures c.old.ensures c.ne.ensures c.if-ne.false in
+    let judged = c.in-Ok.judged in
+    let made = making _ _ _ judged c.in-Some.frame.now c.in-Ok.ensures.ok.is_judged c.in-Some.ensures.frame in
+    let e = c.in-Ok-append.ensures in
+    let out = outcome_appended c.self.inside.machine.header c.self.inside.machine.header c.admit.new.self.header c.self.inside.machine.history c.self.inside.machine.history c.admit.new.self.history
+    c.args.who (LandDraft c.args.rebased.name c.args.rebased.draft) judged c.in-Some.frame.now c.self.inside.journal c.append.new.self (g.D.Disk.meaning c.self.inside.first.value) (g.D.Disk.meaning c.self.inside.disk) (g.D.Disk.meaning c.append.new.disk)
+    refl c.admit.ensures.header refl c.admit.ensures.history c.in-Ok.ensures.ok.by made e.ok e.long
+    (record { kept = e.kept; counts = e.faults; calm = e.quiet; crash = e.crash; sealed = λ _. e.sealed }) c.self.invariant in
+    rw (← c.self.view_is)
+    (there, subst (λ granted. Replies c.self.inside.machine.header c.self.inside.machine.history c.args.who (Asks (LandDraft c.args.rebased.name c.args.rebased.draft)) (Grants granted) c.admit.new.self.history) (sym c.in-Landing.ensures.granted) out.reply)
+
+pub returns-in-Landing-clause-sound : goal.returns-in-Landing-clause-sound
+returns-in-Landing-clause-sound g c =
+    let judged = c.in-Ok.judged in
+    let made = making _ _ _ judged c.in-Some.frame.now c.in-Ok.ensures.ok.is_judged c.in-Some.ensures.frame in
+    let e = c.in-Ok-append.ensures in
+    let out = outcome_appended c.self.inside.machine.header c.self.inside.machine.header c.admit.new.self.header c.self.inside.machine.history c.self.inside.machine.history c.admit.new.self.history
+    c.args.who (LandDraft c.args.rebased.name c.args.rebased.draft) judged c.in-Some.frame.now c.self.inside.journal c.append.new.self (g.D.Disk.meaning c.self.inside.first.value) (g.D.Disk.meaning c.self.inside.disk) (g.D.Disk.meaning c.append.new.disk)
+    refl c.admit.ensures.header refl c.admit.ensures.history c.in-Ok.ensures.ok.by made e.ok e.long
+    (record { kept = e.kept; counts = e.faults; calm = e.quiet; crash = e.crash; sealed = λ _. e.sealed }) c.self.invariant in
+    out.holds.0
+
+pub returns-in-Landing-clause-leaves : goal.returns-in-Landing-clause-leaves
+returns-in-Landing-clause-leaves g c =
+    let judged = c.in-Ok.judged in
+    let made = making _ _ _ judged c.in-Some.frame.now c.in-Ok.ensures.ok.is_judged c.in-Some.ensures.frame in
+    let e = c.in-Ok-append.ensures in
+    let out = outcome_appended c.self.inside.machine.header c.self.inside.machine.header c.admit.new.self.header c.self.inside.machine.history c.self.inside.machine.history c.admit.new.self.history
+    c.args.who (LandDraft c.args.rebased.name c.args.rebased.draft) judged c.in-Some.frame.now c.self.inside.journal c.append.new.self (g.D.Disk.meaning c.self.inside.first.value) (g.D.Disk.meaning c.self.inside.disk) (g.D.Disk.meaning c.append.new.disk)
+    refl c.admit.ensures.header refl c.admit.ensures.history c.in-Ok.ensures.ok.by made e.ok e.long
+    (record { kept = e.kept; counts = e.faults; calm = e.quiet; crash = e.crash; sealed = λ _. e.sealed }) c.self.invariant in
+    rw (← c.self.view_is) out.leaves
+
+pub returns-in-Err-DiskFault-clause-exchanged : goal.returns-in-Err-DiskFault-clause-exchanged
+returns-in-Err-DiskFault-clause-exchanged g c =
+    let there = is_there c.self.inside.machine.history c.name.result.now c.args.rebased.name c.head-found.result c.old.result c.args.rebased.old c.ne.result c.name.ensures c.head-found.ensures c.old.ensures c.ne.ensures c.if-ne.false in
+    let judged = c.in-Ok.judged in
+    let made = making _ _ _ judged c.in-Some.frame.now c.in-Ok.ensures.ok.is_judged c.in-Some.ensures.frame in
+    let e = c.in-Err-DiskFault.ensures in
+    let fails = ap (λ f. is_disk_fault {T = Unit {0}} (Err f)) c.in-Err-DiskFault.field-0-is in
+    let out = outcome_failed c.self.inside.machine.header c.self.inside.machine.header c.fault.new.self.header c.self.inside.machine.history c.self.inside.machine.history c.fault.new.self.history
+    c.args.who (LandDraft c.args.rebased.name c.args.rebased.draft) judged c.in-Some.frame.now c.self.inside.journal c.append.new.self (g.D.Disk.meaning c.self.inside.first.value) (g.D.Disk.meaning c.self.inside.disk) (g.D.Disk.meaning c.append.new.disk)
+    refl c.fault.ensures.header refl c.fault.ensures.history made (e.broken fails)
+    (append_failed _ _ _ _ _ fails e.kept e.faults e.quiet e.crash) c.self.invariant in
+    rw (← c.self.view_is) (there, out.reply)
+
+pub returns-in-Err-DiskFault-clause-sound : goal.returns-in-Err-DiskFault-clause-sound
+returns-in-Err-DiskFault-clause-sound g c =
+    let judged = c.in-Ok.judged in
+    let made = making _ _ _ judged c.in-Some.frame.now c.in-Ok.ensures.ok.is_judged c.in-Some.ensures.frame in
+    let e = c.in-Err-DiskFault.ensures in
+    let fails = ap (λ f. is_disk_fault {T = Unit {0}} (Err f)) c.in-Err-DiskFault.field-0-is in
+    let out = outcome_failed c.self.inside.machine.header c.self.inside.machine.header c.fault.new.self.header c.self.inside.machine.history c.self.inside.machine.history c.fault.new.self.history
+    c.args.who (LandDraft c.args.rebased.name c.args.rebased.draft) judged c.in-Some.frame.now c.self.inside.journal c.append.new.self (g.D.Disk.meaning c.self.inside.first.value) (g.D.Disk.meaning c.self.inside.disk) (g.D.Disk.meaning c.append.new.disk)
+    refl c.fault.ensures.header refl c.fault.ensures.history made (e.broken fails)
+    (append_failed _ _ _ _ _ fails e.kept e.faults e.quiet e.crash) c.self.invariant in
+    out.holds.0
+
+pub returns-in-Err-DiskFault-clause-leaves : goal.returns-in-Err-DiskFault-clause-leaves
+returns-in-Err-DiskFault-clause-leaves g c =
+    let judged = c.in-Ok.judged in
+    let made = making _ _ _ judged c.in-Some.frame.now c.in-Ok.ensures.ok.is_judged c.in-Some.ensures.frame in
+    let e = c.in-Err-DiskFault.ensures in
+    let fails = ap (λ f. is_disk_fault {T = Unit {0}} (Err f)) c.in-Err-DiskFault.field-0-is in
+    let out = outcome_failed c.self.inside.machine.header c.self.inside.machine.header c.fault.new.self.header c.self.inside.machine.history c.self.inside.machine.history c.fault.new.self.history
+    c.args.who (LandDraft c.args.rebased.name c.args.rebased.draft) judged c.in-Some.frame.now c.self.inside.journal c.append.new.self (g.D.Disk.meaning c.self.inside.first.value) (g.D.Disk.meaning c.self.inside.disk) (g.D.Disk.meaning c.append.new.disk)
+    refl c.fault.ensures.header refl c.fault.ensures.history made (e.broken fails)
+    (append_failed _ _ _ _ _ fails e.kept e.faults e.quiet e.crash) c.self.invariant in
+    rw (← c.self.view_is) out.leaves

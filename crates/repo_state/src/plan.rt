@@ -1,0 +1,37 @@
+//! Plans of landings, and the room that one needs.
+ghost use Rattle.std.specs.Prelude.{◌≡◌, false, Some, IfOk, IfErr, OnOk};
+ghost use Rattle.history_model.specs.History.{Land, is_down};
+ghost use Rattle.reply_model.specs.Reply.{LandDraft, judge};
+ghost use Rattle.repo_machine.specs.Held.{HasRoom};
+ghost use Rattle.repo_machine.specs.Landings.{IsRefusal};
+ghost use Rattle.repo_machine.specs.Plans.{IsPlan, landing_in};
+
+use crate::state::RepoState;
+use blob_disk::Disk;
+use object_id::Id;
+use repo_calls::Refusal;
+use repo_machine::{Plan, Rebased};
+use repo_path::BookName;
+use std::alloc::{AllocError, Global};
+
+impl<D: Disk> RepoState<D> {
+    /// Plans to land a draft on a bookmark, as `Machine::plan`. The disk isn't asked.
+    pub fn plan(&self, alloc: Global, name: &BookName, draft: Id) -> Result<Plan, Refusal>
+        ensures ok { IfOk result (IsPlan self.now.history name.now draft) }
+        ensures up { OnOk result (is_down self.now.history ≡ false) }
+        ensures err { IfErr result (IsRefusal (judge self.now.header self.now.history (LandDraft name.now draft))) }
+    {
+        self.machine.plan(alloc, name, draft)
+    }
+
+    /// Makes room for a landing and for one fault after it. The disk isn't asked.
+    pub fn reserve(&mut self, alloc: Global, rebased: &Rebased) -> Result<(), AllocError>
+        ensures header { self.new.header ≡ self.old.header }
+        ensures history { self.new.history ≡ self.old.history }
+        ensures disk { self.new.disk ≡ self.old.disk }
+        ensures opening { self.new.opening ≡ self.old.opening }
+        ensures room { OnOk result (HasRoom self.new.room (Some (Land (landing_in rebased.now)))) }
+    {
+        self.machine.reserve(alloc, rebased)
+    }
+}

@@ -1,0 +1,32 @@
+//! A repository that is served alone.
+ghost use Rattle.reply_model.specs.After.{Replies};
+ghost use Rattle.seat_calls.proofs.Lawful.{alone};
+
+use crate::state::RepoState;
+use blob_disk::Disk;
+use repo_calls::{Ask, Granted};
+use seat_calls::{AskFault, ChangeFault, Question, Seat, Seen};
+use std::alloc::Global;
+
+/// Its one seat has the number 0, and has seen all of its history.
+impl<D: Disk> Seat for RepoState<D> {
+    ghost header = { λ s. s.header };
+
+    ghost front = { λ s. s.history };
+
+    ghost number = { λ _. 0 };
+
+    ghost opening = { λ s. s.opening };
+
+    ghost replies = { Replies };
+
+    fn change(&mut self, alloc: Global, ask: &Ask) -> Result<Granted, ChangeFault> {
+        self.store(alloc, 0, ask)
+    }
+
+    fn look(&mut self, alloc: Global, question: &Question) -> Result<Seen, AskFault> {
+        RepoState::look(self, alloc, 0, question)
+    }
+
+    ghost lawful = { alone };
+}

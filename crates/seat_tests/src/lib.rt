@@ -1,0 +1,5 @@
+//! Tests of sessions over seats that no disk in memory can make.
+#![tactic(auto)]
+
+#[cfg(test)]
+mod spoiled;

@@ -1,0 +1,12 @@
+//! A repository in a file that many seats share: each call of a seat is answered as the repository
+//! of one thread answers it, at the history that the seat has seen then.
+#![tactic(auto)]
+
+mod repo;
+mod seat;
+mod served;
+mod turns;
+
+pub use repo::Repo;
+pub use seat::RepoSeat;
+pub use served::Served;
