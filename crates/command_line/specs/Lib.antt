@@ -1,3 +1,3 @@
-pub mod Commands
+pub mod Outside
+pub mod Sessions
 pub mod Running
-pub mod Statuses

@@ -1,29 +1,88 @@
--- What the program does to its input and output.
---     RunsSession rest written left kept status      one session from a repository without an entry, whose end gives the status
---     WritesLine line written kept before after      the line is written, or a front of it where the count of faults rose
-use Rattle.std.specs.Prelude.{◌≡◌, ◌⊎◌, ℕ, List, [], Option}
-use Rattle.history_model.specs.History.{Entry}
-use Rattle.history_model.specs.Journal.{Header}
-use Rattle.reply_model.specs.Legal.{IsLegal}
+-- What a run of the program does, by what its words ask for.
+--     RunsLine report ..      the report's line is written, and no file is opened
+--     RunsInit meaning file capacity .., RunsFsck meaning file ..      what is reported of the file of this name
+--     RunsSession meaning file ..      one connection is served on the repository in it, or it wasn't opened and nothing is written
+--     LacksMemory request ..      there was no memory to read the words;  Runs meaning request ..      by what is asked for
+use Rattle.std.specs.Prelude.{◌≡◌, ◌⊎◌, ℕ, Bool, true, false, List, Option, None, Some, MatchOption}
 use Rattle.ports.specs.Faults.{Rose}
-use Rattle.ports.specs.Streams.{Puts, PutsFront}
-use Rattle.session_model.specs.Faults.{fault_count}
-use Rattle.http_front.specs.declared.ended.Ended.{Ended}
-use Rattle.http_front.specs.Serving.{Finished}
-use Rattle.command_line.specs.declared.status.Status.{Status}
-use Rattle.command_line.specs.Commands.{status_of}
+use Rattle.disk_model.specs.Meaning.{Meaning}
+use Rattle.program_words.specs.Words.{Request, fsck, gen, help, init, serve, session, version}
+use Rattle.program_words.specs.Sessions.{is_session}
+use Rattle.file_commands.specs.declared.report.Report.{Report}
+use Rattle.file_commands.specs.declared.report.Report.TheVariants as report
+use Rattle.file_commands.specs.declared.status.Status.{Status}
+use Rattle.file_commands.specs.declared.status.Status.TheVariants.{DiskFault, NoMemory}
+use Rattle.file_commands.specs.Counting.{ChecksIn}
+use Rattle.file_commands.specs.Making.{AttemptsIn, Unopened}
+use Rattle.file_commands.specs.Opening.{RefusesIn}
+use Rattle.file_commands.specs.Reports.{Reports, status_of}
+use Rattle.command_line.specs.declared.ran.Ran.{Ran}
+use Rattle.command_line.specs.Outside.{Told, Outside}
+use Rattle.command_line.specs.Sessions.{ServesFile}
 
-abbrev pub header : Header
-header = record { capacity = 65536 }
+-- the line, or a front of it only where the link's count rose. No input is read
+pub record Writes (report : Report) (status : Status) (old new : Told) : Type 0 where
+  pub reports : Reports report status old.written new.written old.faults new.faults
+  pub unread : new.rest ≡ old.rest
 
--- no disk is used, so that none of its faults can be in the history
-pub record RunsSession (rest written left kept : Option (List ℕ)) (status : Status) : Type 0 where
-  pub history : List Entry
-  pub end : Ended
-  pub session : Finished (record { header = header; who = 0; history = []; rest = rest; written = written }) history left kept end
-  pub legal : IsLegal header history
-  pub faultless : fault_count history ≡ 0
-  pub status_is : status ≡ status_of end
+-- no file is opened
+pub record RunsAlone {D : Type 0} (Does : Status → Told → Told → Type 0) (old new : Outside D) (ran : Ran D) : Type 0 where
+  pub does : Does ran.status old.link new.link
+  pub none : ran.disk ≡ None
+  pub shelf : new.shelf ≡ old.shelf
+  pub unopened : new.unopened ≡ old.unopened
 
-pub record WritesLine (line : List ℕ) (written kept : Option (List ℕ)) (before after : ℕ) : Type 0 where
-  pub wrote : Puts line written kept ⊎ (Rose before after × PutsFront line written kept)
+abbrev pub RunsLine : {D : Type 0} → Report → Outside D → Outside D → Ran D → Type 0
+RunsLine report old new ran = RunsAlone (Writes report) old new ran
+
+-- without memory for the words: a session writes no line
+abbrev pub LacksLine : (is_session : Bool) → Status → Told → Told → Type 0
+LacksLine true status old new = (status ≡ NoMemory) × (new ≡ old)
+LacksLine false status old new = Writes report.NoMemory status old new
+
+-- a line is written of the file that was opened, or of one that the opener failed to open
+pub record RunsOn {D : Type 0} (Of : D → Report → Type 0) (old new : Outside D) (ran : Ran D) : Type 0 where
+  pub report : Report
+  pub writes : Writes report ran.status old.link new.link
+  pub of : MatchOption ran.disk (Unopened report old.unopened new.unopened) (λ disk. Of disk report)
+
+abbrev pub RunsInit : {D : Type 0} → (D → Meaning) → List ℕ → ℕ → Outside D → Outside D → Ran D → Type 0
+RunsInit meaning file capacity old new ran = RunsOn (λ disk report. AttemptsIn meaning file capacity old.shelf disk report) old new ran
+
+abbrev pub RunsFsck : {D : Type 0} → (D → Meaning) → List ℕ → Outside D → Outside D → Ran D → Type 0
+RunsFsck meaning file old new ran = RunsOn (λ disk report. ChecksIn meaning file old.shelf disk report) old new ran
+
+-- ---- a session
+
+pub record FindsNoFile {D : Type 0} (old new : Outside D) (ran : Ran D) : Type 0 where
+  pub none : ran.disk ≡ None
+  pub status_is : ran.status ≡ DiskFault
+  pub rose : Rose old.unopened new.unopened
+  pub silent : new.link ≡ old.link
+
+pub record FindsNoRepository {D : Type 0} (meaning : D → Meaning) (file : List ℕ) (old new : Outside D) (ran : Ran D) : Type 0 where
+  pub disk : D
+  pub disk_is : ran.disk ≡ Some disk
+  pub report : Report
+  pub refuses : RefusesIn meaning file old.shelf disk report
+  pub status_is : ran.status ≡ status_of report
+  pub silent : new.link ≡ old.link
+
+abbrev pub RunsSession : {D : Type 0} → (D → Meaning) → List ℕ → Outside D → Outside D → Ran D → Type 0
+RunsSession meaning file old new ran = FindsNoFile old new ran ⊎ FindsNoRepository meaning file old new ran ⊎ ServesFile meaning file old.shelf old.link new.link ran
+
+-- ---- all words
+
+abbrev pub LacksMemory : {D : Type 0} → Option Request → Outside D → Outside D → Ran D → Type 0
+LacksMemory request old new ran = RunsAlone (LacksLine (is_session request)) old new ran
+
+-- `serve` and `gen` aren't there yet, and are answered as words that are no command
+abbrev pub Runs : {D : Type 0} → (D → Meaning) → Option Request → Outside D → Outside D → Ran D → Type 0
+Runs meaning (Some (init file capacity)) old new ran = RunsInit meaning file capacity old new ran
+Runs meaning (Some (session file)) old new ran = RunsSession meaning file old new ran
+Runs meaning (Some (serve file address lanes derivers connections)) old new ran = RunsLine report.Usage old new ran
+Runs meaning (Some (fsck file)) old new ran = RunsFsck meaning file old new ran
+Runs meaning (Some (gen seed stacks clients)) old new ran = RunsLine report.Usage old new ran
+Runs meaning (Some help) old new ran = RunsLine report.Help old new ran
+Runs meaning (Some version) old new ran = RunsLine report.Version old new ran
+Runs meaning None old new ran = RunsLine report.Usage old new ran

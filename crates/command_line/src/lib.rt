@@ -1,10 +1,9 @@
-//! The program: what it does with its words, its input and its output, and the status that it ends with.
+//! The program: what it does with its words, its link and the files that it opens, and the status that it ends with.
 #![tactic(auto)]
 
 pub mod program;
-pub mod status;
-pub mod words;
+pub mod ran;
+pub mod session;
 
-pub use program::run;
-pub use status::{Ran, Status};
-pub use words::refuse_words;
+pub use program::{refuse_words, run};
+pub use ran::Ran;

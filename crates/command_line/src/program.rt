@@ -1,53 +1,89 @@
-//! What the program does with its words, its input and its output.
-ghost use Rattle.std.specs.Prelude.{◌≡◌, ◌⊎◌, true, false, map, string_bytes};
-ghost use Rattle.ports.specs.Faults.{Rose};
-ghost use Rattle.command_line.specs.Commands.{is_session, status_of, usage};
-ghost use Rattle.command_line.specs.Running.{RunsSession, WritesLine};
+//! What the program does with its words.
+ghost use Rattle.std.specs.Prelude.{◌≡◌, ◌≢◌, ◌⊎◌, map, string_bytes};
+ghost use Rattle.program_words.specs.Words.{command_of};
+ghost use Rattle.program_words.specs.Sessions.{is_session};
+ghost use Rattle.file_commands.specs.declared.report.Report.TheVariants.{NoMemory as NoMemoryLine, Usage as UsageLine};
+ghost use Rattle.command_line.specs.Outside.{outside, told};
+ghost use Rattle.command_line.specs.Running.{LacksLine, LacksMemory, Runs, Writes};
 
-use crate::status::{Ran, Status};
-use crate::words::refuse_command;
-use http_front::ended::Ended;
-use http_front::session::serve_session;
-use ports::{Sink, Source};
-use repo_machine::Machine;
+use crate::ran::Ran;
+use crate::session::run_session;
+use blob_disk::Disk;
+use file_commands::{Outcome, Report, Status, end_run, fsck_file, init_file};
+use ports::{Link, Opener};
+use program_words::{Command, WordsFault, asks_session, read_words};
 use std::alloc::Global;
+use std::io::ErrorKind;
 
-/// The capacity of the repository in bytes: a repository without a file, which the session begins.
-const CAPACITY: u64 = 65_536;
-
-fn is_session(words: &[String]) -> bool
-    ensures { result ≡ is_session (map string_bytes words.now) }
+fn say<D: Drop, L: Link>(report: Report, link: &mut L) -> Ran<D>
+    ensures writes { Writes report result.status (told L.rest L.written L.faults link.old) (told L.rest L.written L.faults link.new) }
+    ensures none { result.disk ≡ None }
 {
-    words.len() == 3 && words[1].as_str() == "session"
-}
-
-fn status_of(end: Ended) -> Status
-    ensures { result ≡ status_of end }
-{
-    match end {
-        Ended::Whole | Ended::Closed => Status::Done,
-        Ended::Cut { rest: _ } => Status::Cut,
-        Ended::Refused { status: _ } => Status::Refused,
-        Ended::Spent => Status::Spent,
-        Ended::LinkFault => Status::StreamFault,
-        Ended::Memory => Status::NoMemory,
-    }
-}
-
-/// Runs the program on its words, of which the first is its name. `session FILE` serves one connection from the
-/// source to the sink, on a repository that begins without an entry; no file is opened. Any other words are
-/// answered by the usage line, of which a front may stand only where the sink failed.
-pub fn run<S: Source, K: Sink>(alloc: Global, words: &[String], source: &mut S, sink: &mut K) -> Ran
-    ensures session { is_session (map string_bytes words.now) ≡ true → RunsSession (S.rest source.old) (K.written sink.old) (S.rest source.new) (K.written sink.new) result.status }
-    ensures usage { is_session (map string_bytes words.now) ≡ false → (result.status ≡ Status.Usage) × (S.rest source.new ≡ S.rest source.old) × WritesLine usage (K.written sink.old) (K.written sink.new) (K.faults sink.old) (K.faults sink.new) }
-    ensures fault { result.status ≡ Status.StreamFault → Rose (S.faults source.old) (S.faults source.new) ⊎ Rose (K.faults sink.old) (K.faults sink.new) }
-{
-    if !is_session(words) {
-        return refuse_command(sink);
-    }
-    let mut machine = Machine::new(alloc, CAPACITY);
-    let end = serve_session(alloc, 0, &mut machine, source, sink);
     Ran {
-        status: status_of(end),
+        status: end_run(report, link),
+        disk: None,
+    }
+}
+
+fn tell<D: Drop, L: Link>(outcome: Outcome<D>, link: &mut L) -> Ran<D>
+    ensures writes { Writes outcome.report result.status (told L.rest L.written L.faults link.old) (told L.rest L.written L.faults link.new) }
+    ensures disk { result.disk ≡ outcome.disk }
+{
+    let Outcome { report, disk } = outcome;
+    Ran {
+        status: end_run(report, link),
+        disk,
+    }
+}
+
+// A session writes no line.
+fn lack_memory<D: Drop, L: Link>(words: &[String], link: &mut L) -> Ran<D>
+    ensures line { LacksLine (is_session (command_of (map string_bytes words.now))) result.status (told L.rest L.written L.faults link.old) (told L.rest L.written L.faults link.new) }
+    ensures none { result.disk ≡ None }
+{
+    if asks_session(words) {
+        return Ran {
+            status: Status::NoMemory,
+            disk: None,
+        };
+    }
+    say(Report::NoMemory, link)
+}
+
+/// Runs the program on its words, of which the first is its name. `init` and `fsck` report in one line what they found
+/// of a file. `session` serves one connection over the link. `serve` and `gen` aren't there yet, and are answered, as words that are
+/// no command, by the usage line.
+pub fn run<D: Disk, O: Opener<D>, L: Link>(
+    alloc: Global,
+    words: &[String],
+    link: &mut L,
+    opener: &mut O,
+) -> Ran<D>
+    ensures { Runs D.meaning (command_of (map string_bytes words.now)) (outside O.shelf O.faults L.rest L.written L.faults opener.old link.old) (outside O.shelf O.faults L.rest L.written L.faults opener.new link.new) result
+        ⊎ LacksMemory (command_of (map string_bytes words.now)) (outside O.shelf O.faults L.rest L.written L.faults opener.old link.old) (outside O.shelf O.faults L.rest L.written L.faults opener.new link.new) result }
+{
+    match read_words(alloc, words) {
+        Ok(Command::Init { file, capacity }) => tell(init_file(opener, file, capacity), link),
+        Ok(Command::Session { file }) => run_session(alloc, file, link, opener),
+        Ok(Command::Fsck { file }) => tell(fsck_file(alloc, opener, file), link),
+        Ok(Command::Help) => say(Report::Help, link),
+        Ok(Command::Version) => say(Report::Version, link),
+        Ok(Command::Serve { .. } | Command::Gen { .. }) | Err(WordsFault::Usage) => {
+            say(Report::Usage, link)
+        }
+        Err(WordsFault::Memory) => lack_memory(words, link),
+    }
+}
+
+/// Ends a run whose words the system couldn't give, for a reason of this kind: there was no memory for them, or they
+/// are no text (UTF-8), so that they are no command.
+pub fn refuse_words<L: Link>(kind: ErrorKind, link: &mut L) -> Status
+    ensures memory { kind ≡ ErrorKind.OutOfMemory → Writes NoMemoryLine result (told L.rest L.written L.faults link.old) (told L.rest L.written L.faults link.new) }
+    ensures other { kind ≢ ErrorKind.OutOfMemory → Writes UsageLine result (told L.rest L.written L.faults link.old) (told L.rest L.written L.faults link.new) }
+{
+    if kind == ErrorKind::OutOfMemory {
+        end_run(Report::NoMemory, link)
+    } else {
+        end_run(Report::Usage, link)
     }
 }

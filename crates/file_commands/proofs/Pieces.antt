@@ -1,11 +1,10 @@
 -- Texts that are written piece by piece.
-use Rattle.std.proofs.Common.{◌≡◌, ℕ, ◌+◌, ◌<◌, ◌≤◌, suc, List, [], ◌∷◌, ◌++◌, length, map, drop, get_or, refl, ap, sym, subst, ◌∙◌, append_assoc, add-one, Option, None, Some, Bor, Bool, true, Result, Ok, Err, OnErr, rules}
+use Rattle.std.proofs.Common.{◌≡◌, ℕ, ◌+◌, ◌<◌, ◌≤◌, List, [], ◌++◌, length, map, drop, get_or, refl, ap, sym, subst, ◌∙◌, append_assoc, add-one, Option, None, Some, Bor, Bool, true, Result, Ok, Err, OnErr, rules}
 use Rattle.std.proofs.lemmas.List.{append-nil, drop_all}
 use Rattle.std.proofs.Math.Seq.{drop-cons}
 use Rattle.std.specs.List.{concat}
 use Rattle.ports.specs.Faults.{Counts}
 use Rattle.ports.specs.Streams.{Puts, PutsFront}
-use mathlib.Core.List.{IsPrefix}
 
 pub puts_then : (a b : List ℕ) (w x y : Option (List ℕ)) → Puts a w x → Puts b x y → Puts (a ++ b) w y
 puts_then a b None x y p q = subst (λ o. Puts b o y) p q

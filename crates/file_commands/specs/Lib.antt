@@ -1,3 +1,5 @@
 pub mod Statuses
 pub mod Reports
 pub mod Making
+pub mod Opening
+pub mod Counting

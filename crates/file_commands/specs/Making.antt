@@ -12,7 +12,7 @@ use Rattle.disk_model.specs.Calls.{Kept, LeavesOnly, Looked}
 use Rattle.history_model.specs.Journal.{Keeps}
 use Rattle.repo_journal.specs.Sealing.{Makes}
 use Rattle.file_commands.specs.declared.report.Report.{Report}
-use Rattle.file_commands.specs.declared.report.Report.TheVariants.{Ready, Help, Version, Usage, DiskFault, NotEmpty, NoMemory}
+use Rattle.file_commands.specs.declared.report.Report.TheVariants.{Ready, Counted, Help, Version, Usage, DiskFault, NotARepository, Damaged, NotEmpty, NoMemory, StreamFault}
 
 abbrev pub Unopened : Report → ℕ → ℕ → Type 0
 Unopened report before after = (report ≡ DiskFault) × Rose before after
@@ -34,10 +34,14 @@ abbrev pub Reported : ℕ → Meaning → Meaning → Report → Type 0
 Reported capacity old new (Ready made) = IsMade capacity made old new
 Reported capacity old new NotEmpty = IsUsed old new
 Reported capacity old new DiskFault = Rose old.faults new.faults
+Reported capacity old new (Counted counts) = ⊥
 Reported capacity old new Help = ⊥
 Reported capacity old new Version = ⊥
 Reported capacity old new Usage = ⊥
+Reported capacity old new NotARepository = ⊥
+Reported capacity old new (Damaged at) = ⊥
 Reported capacity old new NoMemory = ⊥
+Reported capacity old new StreamFault = ⊥
 
 pub record Attempts (capacity : ℕ) (old new : Meaning) (report : Report) : Type 0 where
   pub reported : Reported capacity old new report

@@ -1,33 +1,47 @@
 -- The lines that the program writes.
---     report_text report      the line
+--     report_text report      the line;  counts_text counts      that of a repository's counts
 --     status_of report      the status of a run that is reported so
 --     Reports report status written kept before after      the line is written, or a front of it where the count of faults rose, which is the status where nothing else is wrong
-use Rattle.std.specs.Prelude.{◌≡◌, ◌≢◌, ◌⊎◌, ℕ, List, ◌++◌, codes, decimal, Option}
+use Rattle.std.specs.Prelude.{◌≡◌, ◌⊎◌, ℕ, List, ◌++◌, codes, decimal, Option}
 use Rattle.ports.specs.Faults.{Rose}
 use Rattle.ports.specs.Streams.{Puts, PutsFront}
-use Rattle.program_words.specs.declared.texts.TheConstants.{HELP, VERSION}
+use Rattle.program_words.specs.declared.texts.TheConstants.{HELP, USAGE, VERSION}
+use Rattle.repo_machine.specs.declared.counts.Counts.{Counts}
 use Rattle.file_commands.specs.declared.report.Report.{Report}
 use Rattle.file_commands.specs.declared.report.Report.TheVariants as report
 use Rattle.file_commands.specs.declared.status.Status.{Status}
-use Rattle.file_commands.specs.declared.status.Status.TheVariants.{Done, Usage, DiskFault, NoMemory, StreamFault, NotEmpty}
+use Rattle.file_commands.specs.declared.status.Status.TheVariants.{Done, Usage, DiskFault, BadFile, NoMemory, StreamFault, NotEmpty, Cut, Refused, Spent}
+
+abbrev pub counts_text : Counts → List ℕ
+counts_text counts =
+    codes "entries " ++ (decimal counts.entries ++ (codes " contents " ++ (decimal counts.contents ++ (codes " changesets " ++ (decimal counts.changesets
+    ++ (codes " bookmarks " ++ (decimal counts.bookmarks ++ (codes " size " ++ (decimal counts.size ++ codes "\n")))))))))
 
 abbrev pub report_text : Report → List ℕ
 report_text (report.Ready capacity) = codes "ready " ++ (decimal capacity ++ codes "\n")
+report_text (report.Counted counts) = counts_text counts
 report_text report.Help = HELP.now
 report_text report.Version = VERSION.now
-report_text report.Usage = codes "usage: hg_cli init FILE CAP | session FILE | serve FILE ADDR LANES DERIVERS CONNECTIONS | fsck FILE | gen SEED STACKS CLIENTS\n"
+report_text report.Usage = USAGE.now
 report_text report.DiskFault = codes "disk fault\n"
+report_text report.NotARepository = codes "not a repository\n"
+report_text (report.Damaged at) = codes "damaged at " ++ (decimal at ++ codes "\n")
 report_text report.NotEmpty = codes "file is not empty\n"
 report_text report.NoMemory = codes "no memory\n"
+report_text report.StreamFault = codes "stream fault\n"
 
 abbrev pub status_of : Report → Status
 status_of (report.Ready capacity) = Done
+status_of (report.Counted counts) = Done
 status_of report.Help = Done
 status_of report.Version = Done
 status_of report.Usage = Usage
 status_of report.DiskFault = DiskFault
+status_of report.NotARepository = BadFile
+status_of (report.Damaged at) = BadFile
 status_of report.NotEmpty = NotEmpty
 status_of report.NoMemory = NoMemory
+status_of report.StreamFault = StreamFault
 
 -- it is whole, and the status is the report's
 pub record IsWhole (report : Report) (status : Status) (written kept : Option (List ℕ)) : Type 0 where
@@ -36,7 +50,15 @@ pub record IsWhole (report : Report) (status : Status) (written kept : Option (L
 
 abbrev pub after_fault : Status → Status
 after_fault Done = StreamFault
-after_fault status = status
+after_fault Usage = Usage
+after_fault DiskFault = DiskFault
+after_fault BadFile = BadFile
+after_fault NoMemory = NoMemory
+after_fault StreamFault = StreamFault
+after_fault NotEmpty = NotEmpty
+after_fault Cut = Cut
+after_fault Refused = Refused
+after_fault Spent = Spent
 
 pub record IsFront (report : Report) (status : Status) (written kept : Option (List ℕ)) (before after : ℕ) : Type 0 where
   pub puts : PutsFront (report_text report) written kept

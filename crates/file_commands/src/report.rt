@@ -1,20 +1,23 @@
 //! The lines that the program writes.
-ghost use Rattle.std.specs.Prelude.{◌≡◌, map, OnOk, OnErr, is_err};
+ghost use Rattle.std.specs.Prelude.{◌≡◌, ◌++◌, codes, decimal, map, OnOk, OnErr, is_err};
 ghost use Rattle.std.specs.List.{concat};
-ghost use Rattle.ports.specs.Faults.{Counts};
+ghost use Rattle.ports.specs.Faults.{Counts as FaultCounts};
 ghost use Rattle.ports.specs.Streams.{Puts, PutsFront};
-ghost use Rattle.file_commands.specs.Reports.{Reports, report_text, status_of};
+ghost use Rattle.file_commands.specs.Reports.{Reports, counts_text, report_text, status_of};
 
-use crate::status::{Ran, Status};
+use crate::status::Status;
 use itoa::Buffer;
-use ports::{Failed, Sink};
+use ports::{Failed, Link};
 use program_words::texts::{HELP, USAGE, VERSION};
+use repo_machine::Counts;
 
 /// What the program reports of a run, in one line; the help text has several.
 #[derive(Clone, Copy, Debug, PartialEq, Eq)]
 pub enum Report {
     /// A repository was made, with this capacity in bytes.
     Ready { capacity: u64 },
+    /// How much a repository has.
+    Counted(Counts),
     /// The words ask for help.
     Help,
     /// The words ask for the version.
@@ -23,10 +26,16 @@ pub enum Report {
     Usage,
     /// The file wasn't opened, or a call of it failed.
     DiskFault,
+    /// The file holds no repository.
+    NotARepository,
+    /// A repository is damaged at this place of its file, in bytes.
+    Damaged { at: u64 },
     /// A repository was to be made in a file with bytes.
     NotEmpty,
     /// Memory ran out.
     NoMemory,
+    /// Input or output failed.
+    StreamFault,
 }
 
 impl Report {
@@ -35,58 +44,99 @@ impl Report {
         ensures { result ≡ status_of self.now }
     {
         match self {
-            Report::Ready { capacity: _ } | Report::Help | Report::Version => Status::Done,
+            Report::Ready { .. } | Report::Counted(_) | Report::Help | Report::Version => {
+                Status::Done
+            }
             Report::Usage => Status::Usage,
             Report::DiskFault => Status::DiskFault,
+            Report::NotARepository | Report::Damaged { .. } => Status::BadFile,
             Report::NotEmpty => Status::NotEmpty,
             Report::NoMemory => Status::NoMemory,
+            Report::StreamFault => Status::StreamFault,
         }
     }
 
     /// Writes the line. It takes no memory.
-    pub fn write<K: Sink>(&self, sink: &mut K) -> Result<(), Failed>
-        ensures ok { OnOk result (Puts (report_text self.now) (K.written sink.old) (K.written sink.new)) }
-        ensures err { OnErr result (PutsFront (report_text self.now) (K.written sink.old) (K.written sink.new)) }
-        ensures faults { Counts (K.faults sink.old) (K.faults sink.new) (is_err result) }
+    pub fn write<L: Link>(&self, link: &mut L) -> Result<(), Failed>
+        ensures ok { OnOk result (Puts (report_text self.now) (L.written link.old) (L.written link.new)) }
+        ensures err { OnErr result (PutsFront (report_text self.now) (L.written link.old) (L.written link.new)) }
+        ensures input { L.rest link.new ≡ L.rest link.old }
+        ensures faults { FaultCounts (L.faults link.old) (L.faults link.new) (is_err result) }
     {
         match self {
-            Report::Ready { capacity } => {
-                let mut digits = Buffer::new();
-                let number = digits.format(*capacity).as_bytes();
-                write_pieces(&[b"ready ", number, b"\n"], sink)
-            }
-            Report::Help => sink.write(HELP.as_bytes()),
-            Report::Version => sink.write(VERSION.as_bytes()),
-            Report::Usage => sink.write(USAGE.as_bytes()),
-            Report::DiskFault => sink.write(b"disk fault\n"),
-            Report::NotEmpty => sink.write(b"file is not empty\n"),
-            Report::NoMemory => sink.write(b"no memory\n"),
+            Report::Ready { capacity } => write_number(b"ready ", *capacity, link),
+            Report::Counted(counts) => write_counts(counts, link),
+            Report::Help => link.write(HELP.as_bytes()),
+            Report::Version => link.write(VERSION.as_bytes()),
+            Report::Usage => link.write(USAGE.as_bytes()),
+            Report::DiskFault => link.write(b"disk fault\n"),
+            Report::NotARepository => link.write(b"not a repository\n"),
+            Report::Damaged { at } => write_number(b"damaged at ", *at, link),
+            Report::NotEmpty => link.write(b"file is not empty\n"),
+            Report::NoMemory => link.write(b"no memory\n"),
+            Report::StreamFault => link.write(b"stream fault\n"),
         }
     }
 }
 
+// Writes a line that ends with a number.
+fn write_number<L: Link>(text: &[u8], number: u64, link: &mut L) -> Result<(), Failed>
+    ensures ok { OnOk result (Puts (text.now ++ (decimal number ++ codes "\n")) (L.written link.old) (L.written link.new)) }
+    ensures err { OnErr result (PutsFront (text.now ++ (decimal number ++ codes "\n")) (L.written link.old) (L.written link.new)) }
+    ensures input { L.rest link.new ≡ L.rest link.old }
+    ensures faults { FaultCounts (L.faults link.old) (L.faults link.new) (is_err result) }
+{
+    let mut digits = Buffer::new();
+    let number = digits.format(number).as_bytes();
+    write_pieces(&[text, number, b"\n"], link)
+}
+
+// Writes the line of a repository's counts.
+fn write_counts<L: Link>(counts: &Counts, link: &mut L) -> Result<(), Failed>
+    ensures ok { OnOk result (Puts (counts_text counts.now) (L.written link.old) (L.written link.new)) }
+    ensures err { OnErr result (PutsFront (counts_text counts.now) (L.written link.old) (L.written link.new)) }
+    ensures input { L.rest link.new ≡ L.rest link.old }
+    ensures faults { FaultCounts (L.faults link.old) (L.faults link.new) (is_err result) }
+{
+    let [mut a, mut b, mut c, mut d, mut e] = [Buffer::new(); 5];
+    let pieces: [&[u8]; 11] = [
+        b"entries ",
+        a.format(counts.entries).as_bytes(),
+        b" contents ",
+        b.format(counts.contents).as_bytes(),
+        b" changesets ",
+        c.format(counts.changesets).as_bytes(),
+        b" bookmarks ",
+        d.format(counts.bookmarks).as_bytes(),
+        b" size ",
+        e.format(counts.size).as_bytes(),
+        b"\n",
+    ];
+    write_pieces(&pieces, link)
+}
+
 // Writes the pieces, one behind another.
-fn write_pieces<K: Sink>(pieces: &[&[u8]], sink: &mut K) -> Result<(), Failed>
-    ensures ok { OnOk result (Puts (concat (map (λ piece. piece.now) pieces.now)) (K.written sink.old) (K.written sink.new)) }
-    ensures err { OnErr result (PutsFront (concat (map (λ piece. piece.now) pieces.now)) (K.written sink.old) (K.written sink.new)) }
-    ensures faults { Counts (K.faults sink.old) (K.faults sink.new) (is_err result) }
+fn write_pieces<L: Link>(pieces: &[&[u8]], link: &mut L) -> Result<(), Failed>
+    ensures ok { OnOk result (Puts (concat (map (λ piece. piece.now) pieces.now)) (L.written link.old) (L.written link.new)) }
+    ensures err { OnErr result (PutsFront (concat (map (λ piece. piece.now) pieces.now)) (L.written link.old) (L.written link.new)) }
+    ensures input { L.rest link.new ≡ L.rest link.old }
+    ensures faults { FaultCounts (L.faults link.old) (L.faults link.new) (is_err result) }
 {
     for piece in pieces {
-        sink.write(piece)?;
+        link.write(piece)?;
     }
     Ok(())
 }
 
 /// Ends a run with its report. The status says what is wrong, also where the line can't be written; where nothing else
 /// is wrong, it says that.
-pub fn end_run<D: Drop, K: Sink>(report: Report, disk: Option<D>, sink: &mut K) -> Ran<D>
-    ensures reports { Reports report result.status (K.written sink.old) (K.written sink.new) (K.faults sink.old) (K.faults sink.new) }
-    ensures disk { result.disk ≡ disk }
+pub fn end_run<L: Link>(report: Report, link: &mut L) -> Status
+    ensures reports { Reports report result (L.written link.old) (L.written link.new) (L.faults link.old) (L.faults link.new) }
+    ensures input { L.rest link.new ≡ L.rest link.old }
 {
-    let written = report.write(sink);
-    let status = match report.status() {
+    let written = report.write(link);
+    match report.status() {
         Status::Done if written.is_err() => Status::StreamFault,
         status => status,
-    };
-    Ran { status, disk }
+    }
 }

@@ -54,10 +54,3 @@ pub struct Outcome<D> {
     pub report: Report,
     pub disk: Option<D>,
 }
-
-/// What a run of the program came to: its status, and the file that it opened.
-#[derive(Drop)]
-pub struct Ran<D> {
-    pub status: Status,
-    pub disk: Option<D>,
-}

@@ -4,3 +4,4 @@ pub mod Stages
 pub mod Parts
 pub mod Walks
 pub mod Ends
+pub mod SessionWords

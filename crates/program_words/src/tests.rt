@@ -1,6 +1,7 @@
 //! Lines of words, and what they are.
 use crate::command::Command;
 use crate::fault::WordsFault;
+use crate::session_words::asks_session;
 use crate::texts::{HELP, USAGE};
 use crate::words::read_words;
 use std::test::Fail;
@@ -67,6 +68,8 @@ fn words_of_commands(rt: HostRuntime) -> Result<(), Fail> {
         let words = words_of(&rt, line)?;
         let read = read_words(rt.alloc(), words.as_slice());
         assert_eq!(rt; read, Ok(wanted), "{line}");
+        let session = matches!(wanted, Command::Session { .. });
+        assert_eq!(rt; asks_session(words.as_slice()), session, "{line}");
     }
     Ok(())
 }
@@ -113,6 +116,7 @@ fn words_of_no_command(rt: HostRuntime) -> Result<(), Fail> {
         let words = words_of(&rt, line)?;
         let read = read_words(rt.alloc(), words.as_slice());
         assert_eq!(rt; read, Err(WordsFault::Usage), "{line}");
+        assert!(rt; !asks_session(words.as_slice()), "{line}");
     }
     let none: [String; 0] = [];
     assert_eq!(rt;

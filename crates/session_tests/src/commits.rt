@@ -1,7 +1,7 @@
 //! Contents, changesets, bookmarks, landings and the log over one connection. Each line has a request, its body, and
 //! the status and the body of its response.
 use crate::session::exchange_all;
-use command_line::Status;
+use file_commands::Status;
 use std::test::Fail;
 
 /// A content, and the log of it.

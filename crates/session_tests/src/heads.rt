@@ -1,7 +1,7 @@
 //! Streams of requests: what is taken from them, what refuses a head, where it ends, and whether the session ends after
 //! it. Each line has a stream, how its session ends, and its responses.
 use crate::session::{cut, put_stream, status_of, streamed};
-use command_line::Status;
+use file_commands::Status;
 use std::alloc::Global;
 use std::test::Fail;
 

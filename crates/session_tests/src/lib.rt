@@ -1,14 +1,23 @@
-//! Sessions over memory, from the words and the bytes read to the status and the bytes written, by tables.
+//! Runs of the program over memory, from the words, the file and the bytes read to the status, the bytes written and the
+//! file left, by tables.
 #![tactic(auto)]
 
 #[cfg(test)]
 mod commits;
 #[cfg(test)]
+mod files;
+#[cfg(test)]
 mod heads;
 #[cfg(test)]
 mod links;
 #[cfg(test)]
+mod program;
+#[cfg(test)]
+mod real_file;
+#[cfg(test)]
 mod session;
+#[cfg(test)]
+mod stops;
 #[cfg(test)]
 mod targets;
 #[cfg(test)]

@@ -1,9 +1,11 @@
 //! Links: calls that fail, and an input that doesn't end.
 ghost use Rattle.std.specs.Prelude.{None};
 
-use crate::session::{session, words};
-use command_line::{Status, run};
-use ports::{Failed, MemSink, Source};
+use crate::program::{opener_of, words};
+use crate::session::{made, session};
+use command_line::run;
+use file_commands::Status;
+use ports::{Failed, Link};
 use std::test::Fail;
 
 #[test]
@@ -25,23 +27,31 @@ fn a_link_that_fails_ends_the_session(rt: HostRuntime) -> Result<(), Fail> {
     Ok(())
 }
 
-// An input of line ends that never stops.
+// A link whose input is line ends that never stop.
 #[derive(Drop)]
 struct LineEnds {
-    calls: u64,
+    reads: u64,
+    writes: u64,
 }
 
-impl Source for LineEnds {
+impl Link for LineEnds {
     ghost faults = { λ _. 0 };
 
     ghost rest = { λ _. None };
 
+    ghost written = { λ _. None };
+
     fn read(&mut self, buf: &mut [u8]) -> Result<usize, Failed> {
-        self.calls = self.calls.saturating_add(1);
+        self.reads = self.reads.saturating_add(1);
         for i in 0..buf.len() {
             buf[i] = if i % 2 == 0 { b'\r' } else { b'\n' };
         }
         Ok(buf.len())
+    }
+
+    fn write(&mut self, _bytes: &[u8]) -> Result<(), Failed> {
+        self.writes = self.writes.saturating_add(1);
+        Ok(())
     }
 }
 
@@ -49,11 +59,14 @@ impl Source for LineEnds {
 fn an_endless_input_ends_by_the_bytes_read(rt: HostRuntime) -> Result<(), Fail> {
     let alloc = rt.alloc();
     let words = words(alloc, "hg_cli session repository")?;
-    let mut source = LineEnds { calls: 0 };
-    let mut sink = MemSink::new(alloc, 4096, Vec::new(alloc))?;
-    let ran = run(alloc, words.as_slice(), &mut source, &mut sink);
+    let mut link = LineEnds {
+        reads: 0,
+        writes: 0,
+    };
+    let mut opener = opener_of(alloc, made(alloc, 65_536)?, true)?;
+    let ran = run(alloc, words.as_slice(), &mut link, &mut opener);
     assert_eq!(rt; ran.status, Status::Spent);
-    assert!(rt; sink.written().is_empty());
-    assert_eq!(rt; source.calls, 16_384);
+    assert_eq!(rt; link.writes, 0);
+    assert_eq!(rt; link.reads, 16_384);
     Ok(())
 }

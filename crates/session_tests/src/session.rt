@@ -1,6 +1,8 @@
 //! Sessions over memory, as scripts have them.
-use command_line::{Status, run};
-use ports::{MemSink, MemSource};
+use crate::program::{link_of, run_line};
+use blob_disk::MemDisk;
+use file_commands::Status;
+use ports::MemLink;
 use std::alloc::Global;
 use std::test::Fail;
 
@@ -27,22 +29,15 @@ pub(crate) fn cut(line: &str) -> (&str, &str) {
     }
 }
 
-/// The words of a command line, which a blank parts.
-pub(crate) fn words(alloc: Global, line: &str) -> Result<Vec<String>, Fail> {
-    let mut words = Vec::new(alloc);
-    let mut rest = line;
-    for _ in 0..line.len() {
-        let (word, more) = rest.split_once(" ").unwrap_or((rest, ""));
-        words.push(String::from_str(alloc, word)?)?;
-        if more.is_empty() {
-            break;
-        }
-        rest = more;
-    }
-    Ok(words)
+/// The file of a new repository of this capacity in bytes.
+pub(crate) fn made(alloc: Global, capacity: u64) -> Result<Option<MemDisk>, Fail> {
+    let room = MemDisk::new(alloc, 65_536, Vec::new(alloc))?;
+    let line = format!(in alloc; "hg_cli init repository {capacity}")?;
+    Ok(run_line(alloc, line.as_str(), link_of(alloc, b"")?, Some(room))?.disk)
 }
 
-/// Runs a session on this input, of which one read gives at most `piece` bytes. The listed reads and writes fail.
+/// Runs a session on a new repository and this input, of which one read gives at most `piece` bytes. The listed reads
+/// and writes fail.
 pub(crate) fn session(
     alloc: Global,
     input: &[u8],
@@ -50,19 +45,25 @@ pub(crate) fn session(
     reads: &[u64],
     writes: &[u64],
 ) -> Result<Outcome, Fail> {
-    let words = words(alloc, "hg_cli session repository")?;
+    let disk = made(alloc, 65_536)?;
     let bytes = Vec::from_slice(alloc, input)?;
-    let mut source = MemSource::new(bytes, piece.max(1), Vec::from_slice(alloc, reads)?);
-    let mut sink = MemSink::new(alloc, 65_536, Vec::from_slice(alloc, writes)?)?;
-    let ran = run(alloc, words.as_slice(), &mut source, &mut sink);
+    let link = MemLink::new(
+        alloc,
+        bytes,
+        piece.max(1),
+        65_536,
+        Vec::from_slice(alloc, reads)?,
+        Vec::from_slice(alloc, writes)?,
+    )?;
+    let came = run_line(alloc, "hg_cli session repository", link, disk)?;
     Ok(Outcome {
-        status: ran.status,
-        written: Vec::from_slice(alloc, sink.written())?,
+        status: came.status,
+        written: came.written,
     })
 }
 
-// Bytes in hex after `0x`, or a text as it is.
-fn put_bytes(alloc: Global, out: &mut Vec<u8>, text: &str) -> Result<(), Fail> {
+/// Puts bytes: in hex after `0x`, or a text as it is.
+pub(crate) fn put_bytes(alloc: Global, out: &mut Vec<u8>, text: &str) -> Result<(), Fail> {
     match text.strip_prefix("0x") {
         Some(digits) => out.extend_from_slice(hex::decode(alloc, digits)?.as_slice())?,
         None => out.extend_from_slice(text.as_bytes())?,
@@ -126,13 +127,24 @@ fn put_exchange(
     put_response(alloc, wanted, status, answer, field)
 }
 
-/// Makes the exchanges of a script in one session, each a line `METHOD TARGET | BODY | STATUS | ANSWER | FIELD`.
+/// Puts the requests of a script and their responses, each from a line `METHOD TARGET | BODY | STATUS | ANSWER | FIELD`.
+pub(crate) fn put_script(
+    alloc: Global,
+    input: &mut Vec<u8>,
+    wanted: &mut Vec<u8>,
+    script: &str,
+) -> Result<(), Fail> {
+    for line in script.lines() {
+        put_exchange(alloc, input, wanted, line)?;
+    }
+    Ok(())
+}
+
+/// Makes the exchanges of a script in one session.
 pub(crate) fn exchange_all(alloc: Global, script: &str, piece: usize) -> Result<Exchanged, Fail> {
     let mut input = Vec::new(alloc);
     let mut wanted = Vec::new(alloc);
-    for line in script.lines() {
-        put_exchange(alloc, &mut input, &mut wanted, line)?;
-    }
+    put_script(alloc, &mut input, &mut wanted, script)?;
     let came = session(alloc, input.as_slice(), piece, &[], &[])?;
     Ok(Exchanged {
         status: came.status,

@@ -1,6 +1,6 @@
 //! Targets and methods: which route each has, and what is wrong with its parameters. The repository is empty.
 use crate::session::exchange_all;
-use command_line::Status;
+use file_commands::Status;
 use std::test::Fail;
 
 /// The id is the SHA-256 of `abc` (FIPS 180-4).

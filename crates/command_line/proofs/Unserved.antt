@@ -1,0 +1,41 @@
+-- What a command came to, by whether the file was opened.
+use Rattle.std.proofs.Common.{◌≡◌, ℕ, List, refl, ap, subst, sym, ◌∙◌}
+use Rattle.std.specs.Prelude.{Option, None, Some, IfSome, MatchOption}
+use mathlib.Core.Logic.{inl, inr}
+use Rattle.disk_model.specs.Meaning.{Meaning}
+use Rattle.file_commands.specs.declared.report.Report.{Report}
+use Rattle.file_commands.specs.declared.status.Outcome.{Outcome}
+use Rattle.file_commands.specs.Making.{Unopened}
+use Rattle.file_commands.specs.Opening.{RefusesIn}
+use Rattle.file_commands.specs.Reports.{status_of}
+use Rattle.command_line.specs.declared.ran.Ran.{Ran}
+use Rattle.command_line.specs.Outside.{Outside}
+use Rattle.command_line.specs.Running.{RunsOn, RunsSession, Writes}
+
+pub by_disk : {D : Type 0} (o : Option D) (U : Type 0) (P : D → Type 0) → (o ≡ None → U) → IfSome o P → MatchOption o U P
+by_disk None U P none some = none refl
+by_disk (Some disk) U P none some = some
+
+pub runs_on : {D : Type 0} (Of : D → Report → Type 0) (old new : Outside D) (came : Outcome D) (ran : Ran D) → ran.disk ≡ came.disk → Writes came.report ran.status old.link new.link
+    → (came.disk ≡ None → Unopened came.report old.unopened new.unopened) → IfSome came.disk (λ disk. Of disk came.report) → RunsOn Of old new ran
+runs_on {D} Of old new came ran same writes unopened opened = record {
+  report = came.report;
+  writes = writes;
+  of = subst (λ (o : Option D). MatchOption o (Unopened came.report old.unopened new.unopened) (λ disk. Of disk came.report)) (sym same)
+      (by_disk came.disk (Unopened came.report old.unopened new.unopened) (λ disk. Of disk came.report) unopened opened);
+}
+
+pub unserved : {D : Type 0} (meaning : D → Meaning) (file : List ℕ) (old new : Outside D) (came : Outcome D) (ran : Ran D) → ran.disk ≡ came.disk → ran.status ≡ status_of came.report → new.link ≡ old.link
+    → (came.disk ≡ None → Unopened came.report old.unopened new.unopened) → IfSome came.disk (λ disk. RefusesIn meaning file old.shelf disk came.report) → RunsSession meaning file old new ran
+unserved {D} meaning file old new came ran same status silent unopened refuses = by came.disk refl
+  where
+    by : (o : Option D) → came.disk ≡ o → RunsSession meaning file old new ran
+    by None is = (let none = unopened is in inl (record { none = same ∙ is; status_is = status ∙ ap status_of none.0; rose = none.1; silent = silent }))
+    by (Some disk) is = inr (inl (record {
+      disk = disk;
+      disk_is = same ∙ is;
+      report = came.report;
+      refuses = subst (λ (o : Option D). IfSome o (λ disk. RefusesIn meaning file old.shelf disk came.report)) is refuses;
+      status_is = status;
+      silent = silent;
+    }))

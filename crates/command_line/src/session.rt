@@ -1,0 +1,80 @@
+//! One connection, served on the repository in a file.
+ghost use Rattle.std.specs.Prelude.{◌≡◌};
+ghost use Rattle.history_model.specs.History.{stored};
+ghost use Rattle.reply_model.specs.Legal.{IsLegal};
+ghost use Rattle.repo_journal.specs.Opened.{IsOpened};
+ghost use Rattle.command_line.specs.Outside.{outside, told};
+ghost use Rattle.command_line.specs.Running.{RunsSession};
+ghost use Rattle.command_line.specs.Sessions.{Serves, session_status, status_of};
+
+use crate::ran::Ran;
+use blob_disk::Disk;
+use file_commands::{OpenedFile, Outcome, Status, open_file};
+use http_front::ended::Ended;
+use http_front::session::serve_session;
+use ports::{Link, Opener};
+use repo_state::RepoState;
+use std::alloc::Global;
+
+fn status_of(end: Ended) -> Status
+    ensures { result ≡ status_of end }
+{
+    match end {
+        Ended::Whole | Ended::Closed => Status::Done,
+        Ended::Cut { rest: _ } => Status::Cut,
+        Ended::Refused { status: _ } => Status::Refused,
+        Ended::Spent => Status::Spent,
+        Ended::LinkFault => Status::StreamFault,
+        Ended::Memory => Status::NoMemory,
+    }
+}
+
+// A breaking fault is told before all else.
+fn session_status(down: bool, end: Ended) -> Status
+    ensures { result ≡ session_status down end }
+{
+    if down {
+        Status::DiskFault
+    } else {
+        status_of(end)
+    }
+}
+
+/// Serves one connection on the repository in the file of this name, and writes nothing where the file or the
+/// repository in it isn't opened.
+pub(crate) fn run_session<D: Disk, O: Opener<D>, L: Link>(
+    alloc: Global,
+    file: &str,
+    link: &mut L,
+    opener: &mut O,
+) -> Ran<D>
+    ensures { RunsSession D.meaning file.now (outside O.shelf O.faults L.rest L.written L.faults opener.old link.old) (outside O.shelf O.faults L.rest L.written L.faults opener.new link.new) result }
+{
+    match open_file(alloc, opener, file) {
+        Ok(opened) => serve_file(alloc, opened, link),
+        Err(Outcome { report, disk }) => Ran {
+            status: report.status(),
+            disk,
+        },
+    }
+}
+
+fn serve_file<D: Disk, L: Link>(alloc: Global, opened: OpenedFile<D>, link: &mut L) -> Ran<D>
+    requires opened { IsOpened opened.machine.header opened.machine.history opened.journal (D.meaning opened.disk) }
+    requires legal { IsLegal opened.machine.header opened.machine.history }
+    requires stored { opened.machine.history ≡ stored opened.machine.history }
+    ensures { Serves D.meaning opened.machine.header opened.machine.history opened.journal (D.meaning opened.disk) (told L.rest L.written L.faults link.old) (told L.rest L.written L.faults link.new) result }
+{
+    let OpenedFile {
+        machine,
+        journal,
+        disk,
+    } = opened;
+    let mut state = RepoState::new(machine, journal, disk);
+    let end = serve_session(alloc, &mut state, link);
+    let status = session_status(state.down(), end);
+    Ran {
+        status,
+        disk: Some(state.into_disk()),
+    }
+}

@@ -1,0 +1,27 @@
+//! Counting what a repository holds.
+ghost use Rattle.std.specs.Prelude.{◌≡◌, None, IfSome, is_none};
+ghost use Rattle.ports.specs.Faults.{Counts};
+ghost use Rattle.file_commands.specs.Counting.{ChecksIn};
+ghost use Rattle.file_commands.specs.Making.{Unopened};
+
+use crate::opening::open_file;
+use crate::report::Report;
+use crate::status::Outcome;
+use blob_disk::Disk;
+use ports::Opener;
+use std::alloc::Global;
+
+/// Opens the repository in the file of this name, and counts what it holds.
+pub fn fsck_file<D: Disk, O: Opener<D>>(alloc: Global, opener: &mut O, file: &str) -> Outcome<D>
+    ensures unopened { result.disk ≡ None → Unopened result.report (O.faults opener.old) (O.faults opener.new) }
+    ensures opened { IfSome result.disk (λ disk. ChecksIn D.meaning file.now (O.shelf opener.old) disk result.report) }
+    ensures faults { Counts (O.faults opener.old) (O.faults opener.new) (is_none result.disk) }
+{
+    match open_file(alloc, opener, file) {
+        Ok(opened) => Outcome {
+            report: Report::Counted(opened.machine.counts()),
+            disk: Some(opened.disk),
+        },
+        Err(outcome) => outcome,
+    }
+}
