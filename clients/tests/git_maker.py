@@ -37,6 +37,7 @@ class Maker:
         folder.mkdir()
         self.git("init", "-q", "-b", "main")
         self.git("config", "core.quotePath", "false")
+        self.git("config", "core.fsync", "none")
 
     def git(self, *words: str, data: bytes | None = None, **further: str) -> str:
         """Runs git in the work tree."""
@@ -71,10 +72,12 @@ class Maker:
 
     def files(self) -> list[Path]:
         """The files of the work tree."""
-        found = (
-            p for p in self.folder.rglob("*") if ".git" not in p.relative_to(self.folder).parts
-        )
-        return sorted(p for p in found if p.is_symlink() or p.is_file())
+        found: list[Path] = []
+        for folder, folders, names in os.walk(self.folder):
+            folders[:] = [name for name in folders if name != ".git"]
+            links = [name for name in folders if os.path.islink(os.path.join(folder, name))]
+            found += [Path(folder, name) for name in names + links]
+        return sorted(found)
 
     def place(self) -> Path:
         """A path for a new file, under no file."""

@@ -2,12 +2,15 @@
 
 from __future__ import annotations
 
+import atexit
 import contextlib
+import functools
 import io
 import itertools
 import json
 import os
 import shutil
+import signal
 import subprocess
 import sys
 import tempfile
@@ -19,6 +22,8 @@ from typing import Any
 from unittest import mock
 
 from jarrah_client.cli import main
+from jarrah_client.refusals import Refused
+from jarrah_client.server import Server
 
 from .stand_in.http import StandIn
 
@@ -26,6 +31,8 @@ TOP = Path(__file__).resolve().parents[2]
 PROGRAM = TOP / "clients" / "jarrah"
 GIVEN = os.environ.get("JARRAH_SERVER")
 """A running server that the tests are to use, in place of the stand-in."""
+SERVES = os.environ.get("JARRAH_PROGRAM", "").split()
+"""The first words of the server's commands, where the tests are to start it for the stand-in."""
 RUN = uuid.uuid4().hex[:8]
 COUNT = itertools.count()
 ENVIRONMENT = {name: value for name, value in os.environ.items() if name != "JARRAH_SERVER"}
@@ -84,8 +91,49 @@ def fresh(name: str = "b") -> str:
     return f"{name}-{RUN}-{next(COUNT)}"
 
 
+class Program:
+    """The server's program, on a new file. When it is stopped the file has to open again."""
+
+    def __init__(self, *, capacity: int = 1 << 32, lanes: int = 16):
+        self.folder = tempfile.mkdtemp(prefix="jarrah-served-")
+        self.file = Path(self.folder) / "repository"
+        self.run("init", str(self.file), str(capacity))
+        words = ["serve", str(self.file), "127.0.0.1:0", str(lanes), "0", "1000000"]
+        pipe = subprocess.PIPE
+        self.process = subprocess.Popen([*SERVES, *words], stderr=pipe, stdout=pipe, text=True)
+        atexit.register(self.process.kill)
+        said = next((line for line in self.process.stderr if line.startswith("listening")), "")
+        assert said, "the server doesn't listen"
+        self.url = f"http://{said.removeprefix('listening at ').rstrip()}"
+
+    def run(self, *words: str) -> str:
+        return subprocess.run([*SERVES, *words], check=True, capture_output=True, text=True).stdout
+
+    def __enter__(self) -> Program:
+        return self
+
+    def __exit__(self, *_: object) -> None:
+        self.process.send_signal(signal.SIGTERM)
+        self.process.communicate(timeout=20)
+        self.run("fsck", str(self.file))
+        shutil.rmtree(self.folder)
+
+
+@functools.cache
+def has_manifests(url: str) -> bool:
+    """Whether a server has the routes of manifests."""
+    server = Server(url)
+    try:
+        server.fsnode("0" * 64)
+    except Refused as refusal:
+        return refusal.code != "no-route"
+    finally:
+        server.close()
+    return True
+
+
 class Case(unittest.TestCase):
-    """A test with a folder and a server: the one that is given, or a stand-in."""
+    """A test with a folder and a server: the one that is given, the program's, or a stand-in."""
 
     stand_in: StandIn | None = None
     server: str
@@ -95,15 +143,32 @@ class Case(unittest.TestCase):
         if GIVEN:
             cls.server = GIVEN
             return
-        cls.stand_in = cls.started()
-        cls.server = cls.stand_in.url
+        started = cls.started()
+        cls.server = started.url
+        cls.stand_in = started if isinstance(started, StandIn) else None
 
     @classmethod
-    def started(cls, **words: Any) -> StandIn:
-        """A stand-in that runs until the class's tests are over."""
-        stand_in = StandIn(**words).__enter__()
-        cls.addClassCleanup(stand_in.__exit__)
-        return stand_in
+    def started(cls, **words: Any) -> StandIn | Program:
+        """A server of its own, which runs until the class's tests are over."""
+        started = (Program if SERVES else StandIn)(**words).__enter__()
+        cls.addClassCleanup(started.__exit__)
+        return started
+
+    def special(self, **words: Any) -> StandIn | Program:
+        """A server of its own that is as the words say, which no server that is given is."""
+        if GIVEN:
+            self.skipTest("a server of its own")
+        return self.started(**words)
+
+    def special_stand_in(self, **words: Any) -> StandIn:
+        """A stand-in with a look inside, or as no program is."""
+        if GIVEN or SERVES:
+            self.skipTest("a stand-in of its own")
+        return self.started(**words)
+
+    def needs_manifests(self) -> None:
+        if not has_manifests(self.server):
+            self.skipTest("a server with manifests")
 
     def setUp(self) -> None:
         self.folder = Path(tempfile.mkdtemp(prefix="jarrah-test-"))

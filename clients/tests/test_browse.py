@@ -10,9 +10,8 @@ from html.parser import HTMLParser
 from urllib.parse import quote, urlsplit
 
 from jarrah_client.browse import Library
-from jarrah_client.refusals import Refused
 
-from .harness import ENVIRONMENT, GIVEN, PROGRAM, Case, fresh, jarrah
+from .harness import ENVIRONMENT, PROGRAM, Case, fresh, jarrah
 from .test_encoding import ABC
 
 
@@ -122,6 +121,7 @@ class Browse(Case):
         self.assertEqual(self.api(f"tree/{self.first}")["path"], "")
 
     def test_who_touched_what_last(self):
+        self.needs_manifests()
         found = self.api(f"last/{self.head}/")["last"]
         ids = {name: one["id"] for name, one in found.items()}
         self.assertEqual(ids, {"dir": self.first, "link": self.first, "run": self.head})
@@ -151,9 +151,7 @@ class Browse(Case):
             self.assertIn(words, json.loads(data)["error"])
 
     def test_a_server_without_manifests(self):
-        if GIVEN:
-            self.skipTest("a server of an early day")
-        early = self.started(has_manifests=False)
+        early = self.special_stand_in(has_manifests=False)
         jarrah("init", "main", server=early.url)
         head = jarrah(
             "--json", "commit", "main", "--set", f"a/b={self.write('abc')}", server=early.url
@@ -164,8 +162,7 @@ class Browse(Case):
         listed = library.answer("tree", f"{id}/a")["entries"]
         self.assertEqual([one["name"] for one in listed], ["b"])
         self.assertEqual(library.answer("last", f"{id}/a"), {"last": {}})
-        with self.assertRaisesRegex(Refused, "doesn't have this route"):
-            library.answer("file", f"{id}/a/b")
+        self.assertEqual(library.answer("file", f"{id}/a/b")["text"], "abc")
 
     def test_this_machine_alone(self):
         self.assertEqual(self.url.hostname, "127.0.0.1")
@@ -177,6 +174,4 @@ class Browse(Case):
         self.assertIn("can't be had", words)
 
     def test_a_server_that_is_gone(self):
-        if GIVEN:
-            self.skipTest("a server of its own")
         self.assertIn("no answer from", jarrah("browse", server="http://127.0.0.1:1").err)

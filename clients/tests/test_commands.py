@@ -15,7 +15,16 @@ from jarrah_client.output import clean, date
 from jarrah_client.progress import Progress
 from jarrah_client.server import IDLE_SECONDS, SESSION_BYTES, Server
 
-from .harness import ENVIRONMENT, PROGRAM, Case, folder_files, fresh, jarrah, jarrah_process
+from .harness import (
+    ENVIRONMENT,
+    PROGRAM,
+    Case,
+    folder_files,
+    fresh,
+    has_manifests,
+    jarrah,
+    jarrah_process,
+)
 from .test_encoding import ABC
 
 COMMANDS = (
@@ -172,7 +181,8 @@ class Work(Case):
     def test_check_out(self):
         self.committed()
         told = self.ask("checkout", self.name, self.folder / "out")
-        self.assertEqual((told["files"], told["source"]), (3, "fsnodes"))
+        source = "fsnodes" if has_manifests(self.server) else "fold"
+        self.assertEqual((told["files"], told["source"]), (3, source))
         wanted = {
             "docs/ä.txt": ("regular", b"abc"),
             "link": ("symlink", b"docs"),
@@ -238,6 +248,7 @@ class Work(Case):
             self.assertEqual([one["id"] for one in history], [ids[2]])
 
     def test_who_touched_what_last(self):
+        self.needs_manifests()
         first = self.ask("commit", self.name, "--set", f"a/x={self.abc}", "--set", f"b={self.abc}")[
             "head"
         ]

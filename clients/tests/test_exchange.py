@@ -134,6 +134,7 @@ class Exchange(Case):
         self.answers("GET", f"/log/{last}", None, 200, text)
 
     def test_manifests(self):
+        self.needs_manifests()
         name = fresh()
         self.one("PUT", "/content", b"abc")
         self.one("PUT", "/content", b"")

@@ -8,7 +8,8 @@ import tempfile
 from pathlib import Path
 
 from .git_maker import Maker
-from .harness import GIVEN, Case, folder_files, fresh, jarrah
+from .harness import Case, folder_files, fresh, jarrah
+from .stand_in.http import StandIn
 
 COMMITS = 200
 
@@ -112,20 +113,17 @@ class Whole(Case):
         self.assertEqual(other["head"], second["head"])
 
     def test_a_server_with_fewer_lanes_than_connections(self):
-        if GIVEN:
-            self.skipTest("a server with one lane")
-        narrow = self.started(lanes=1)
+        narrow = self.special(lanes=1)
         words = ("import-git", self.maker.folder, "b", "--marks", self.folder / "marks")
         ran = jarrah("--json", *words, "--connections", "6", server=narrow.url)
         self.assertEqual((ran.status, ran.err, ran.document["commits"]), (0, "", COMMITS))
 
     def test_marks_of_another_server(self):
-        if GIVEN:
-            self.skipTest("a second server")
+        other = self.special()
         name, marks = fresh("import"), self.folder / "marks"
         words = ("import-git", self.maker.folder, name, "--marks", marks, "--branch", self.line[3])
         self.ok(*words)
-        ran = jarrah(*words, server=self.started().url)
+        ran = jarrah(*words, server=other.url)
         self.assertEqual((ran.status, ran.err.count("\n")), (1, 1))
         self.assertIn("marks of another server", ran.err)
 
@@ -147,9 +145,7 @@ class Whole(Case):
         self.assertIn("didn't make", self.refused(*words[:-1], self.line[5]))
 
     def test_a_server_that_goes_away(self):
-        if GIVEN:
-            self.skipTest("a server of its own")
-        narrow = self.started(lanes=1)
+        narrow = self.special_stand_in(lanes=1)
         calls = narrow.service.repository.put_changeset
         known = narrow.service.repository.changesets
 
@@ -166,9 +162,7 @@ class Whole(Case):
         self.assertTrue(ran.err.startswith(f"jarrah: {where}: {narrow.url} broke off"), ran.err)
 
     def test_a_server_that_is_full(self):
-        if GIVEN:
-            self.skipTest("a server with little room")
-        small = self.started(capacity=40_000)
+        small = self.special(capacity=40_000)
         marks = self.folder / "marks"
         words = ("import-git", self.maker.folder, "b", "--marks", marks)
         ran = jarrah(*words, server=small.url)
@@ -177,7 +171,10 @@ class Whole(Case):
         self.assertRegex(where, "^jarrah: stopped at commit [0-9a-f]{12}$")
         self.assertTrue(why.startswith("the server's file is full"))
         done = len(marks.read_text().splitlines()) - 1
-        self.assertEqual(len(small.repository.changesets), done)
+        entries = jarrah("--json", "entries", server=small.url).documents
+        self.assertEqual([one["kind"] for one in entries].count("changeset"), done)
+        if not isinstance(small, StandIn):
+            return
         small.repository.capacity = 1 << 30
         ran = jarrah("--json", *words, server=small.url)
         self.assertEqual((ran.status, ran.document["known"]), (0, done))

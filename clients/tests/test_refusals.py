@@ -14,13 +14,8 @@ from .test_encoding import ABC, EMPTY
 
 API = (TOP / "docs" / "API.md").read_text()
 ANSWERS = {"content", "changeset", "bookmark", "landed", "log", "history"}
-LATER = {"no-content", "no-path", "not-a-dir", "not-a-file", "bad-path", "too-long"} | {
-    "disk-fault",
-    "down",
-    "read-fault",
-    "bad-bytes",
-}
-"""Codes of routes and of files that docs/API.md doesn't have yet."""
+LATER = {"no-path", "not-a-dir", "not-a-file", "bad-path", "too-long"}
+"""Codes of the routes of manifests that docs/API.md doesn't have yet."""
 ID = "0123456789abcdef" * 4
 MEMBERS = {
     "id": ID,
@@ -215,27 +210,22 @@ class Provoked(Case):
         self.assertIn("isn't empty", self.refused("checkout", self.name, self.folder / "full"))
 
     def test_want_of_room(self):
-        if self.stand_in is None:
-            self.skipTest("a server whose file has 4,096 bytes")
-        small = self.started(capacity=4_096)
+        small = self.special(capacity=4_096)
         file = self.write("file", bytes(4_074))
         ran = jarrah("draft", "--parent", "none", "--set", f"a={file}", server=small.url)
         words = "the server's file is full: it has 17 bytes, and a record of 4,075 doesn't fit"
         self.assertEqual((ran.status, ran.err), (1, f"jarrah: {words}\n"))
 
     def test_routes_that_come_later(self):
-        if self.stand_in is None:
-            self.skipTest("a server without manifests")
-        early = self.started(has_manifests=False)
+        early = self.special_stand_in(has_manifests=False)
         jarrah("init", "main", server=early.url)
         jarrah("commit", "main", "--set", f"a={self.abc}", server=early.url)
-        self.assertEqual(
-            jarrah("--json", "ls", "main", server=early.url).document["source"], "fold"
-        )
-        ran = jarrah("cat", "main", "a", server=early.url)
-        self.assertEqual(
-            (ran.status, ran.err), (1, "jarrah: a: this server doesn't have this route\n")
-        )
+        listed = jarrah("--json", "ls", "main", server=early.url).document
+        self.assertEqual(listed["source"], "fold")
+        self.assertEqual(jarrah("cat", "main", "a", server=early.url).out, "abc")
+        ran = jarrah("ls", "main", "--last", server=early.url)
+        self.assertEqual(ran.status, 1)
+        self.assertEqual(ran.err, "jarrah: this server doesn't have this route\n")
 
 
 class ByCalls(Case):

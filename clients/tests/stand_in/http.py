@@ -46,8 +46,8 @@ ROUTES = [
     (r"/unode/([^/]+)(?:/(.+))?", "GET", "unode"),
     (r"/history/([^/]+)/(.+)", "GET", "history"),
 ]
-LATER_ROUTES = ("content", "fsnode", "unode", "history")
-"""Routes that a server of an early day doesn't have."""
+LATER_ROUTES = ("fsnode", "unode", "history")
+"""The routes of manifests."""
 
 BODIES = ("put_content", "put_changeset")
 BYTES = ("content", "changeset", "fsnode", "unode")

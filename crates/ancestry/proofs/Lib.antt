@@ -1,4 +1,9 @@
+pub mod Apart
 pub mod Following
+pub mod Jumps
 pub mod Kept
+pub mod Levelled
 pub mod Lines
 pub mod Nearest
+pub mod Powers
+pub mod Previous

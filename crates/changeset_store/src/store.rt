@@ -1,15 +1,16 @@
 //! The store of known changesets.
-ghost use Rattle.std.specs.Prelude.{◌≡◌, ◌≤◌, ◌<◌, ◌+◌, ◌++◌, ◌∷◌, [], ◌↔◌, true, false, length, map, reverse, option_map, IsSome, IsNone, IsTrue, find, not, IsOk, OnOk, IfOk, IfSome};
+ghost use Rattle.std.specs.Prelude.{◌≡◌, ℕ, ◌≤◌, ◌<◌, ◌+◌, ◌++◌, ◌∷◌, [], ◌↔◌, true, false, length, map, reverse, option_map, Some, IsSome, IsNone, IsTrue, find, not, IsOk, OnOk, IfOk, IfSome, IfNone};
 ghost use Rattle.std.specs.List.{AllByRecursion};
 ghost use Rattle.std.specs.Option.{option_and_then};
 ghost use Rattle.std.specs.Arc.{arc_value};
+ghost use Rattle.ancestry.specs.Forest as forest;
 ghost use Rattle.changeset_model.specs.Changeset as model;
 ghost use Rattle.history_model.specs.History as history;
 ghost use Rattle.history_model.specs.History.{with_id, each_id_once, changeset_of};
 ghost use Rattle.history_model.specs.Chain.{HasParents, changesets, first_parent};
 ghost use Rattle.history_model.specs.Pushrebase as pushrebase;
 ghost use Rattle.changeset_store.specs.Store.{number_in, known_at, changeset_at};
-ghost use Rattle.changeset_store.specs.Fork.{chain_at, fork_between, IsAncestor, IsFork};
+ghost use Rattle.changeset_store.specs.Fork.{chain_at, following_at, fork_between, IsAncestor, IsFork};
 ghost use Rattle.changeset_store.specs.Numbers.{most};
 ghost use Rattle.changeset_store.specs.Shared.{values};
 
@@ -19,8 +20,10 @@ use bonsai::{Changeset, Commit};
 use object_id::Id;
 use std::alloc::{AllocError, Global};
 use std::collections::HashMap;
-use std::marker::Model;
+use std::marker::{Brand, Model};
 use std::sync::Arc;
+use std::sync::ledger::{Blank, Ledger};
+use step_count::Steps;
 
 /// The most known changesets.
 pub const MOST_CHANGESETS: usize = 2_147_483_648;
@@ -175,18 +178,34 @@ impl ChangesetStore {
         self.number_of(parent)
     }
 
-    /// Where the chain of a draft parts from that of a head, if they have a changeset in common. It costs at most a step
-    /// for each changeset from the two down to that one, and no memory.
+    /// Where the chain of a draft parts from that of a head, if they have a changeset in common. It takes no memory, and
+    /// reads at most 4 ancestors for each binary digit of the length of the longer chain.
     pub fn fork(&self, head: &Id, draft: &Id) -> Option<Fork>
         requires head { history.is_known self.now.known head.now ≡ true }
         requires draft { history.is_known self.now.known draft.now ≡ true }
         ensures fork { option_map (fork_between self.now.known) result ≡ pushrebase.fork self.now.known head.now draft.now }
         ensures is_fork { IfSome result (IsFork self.now.known) }
+        ensures of_head { IfSome result (λ f. (known_at self.now.known f.head).id ≡ head.now) }
+        ensures of_draft { IfSome result (λ f. (known_at self.now.known f.draft).id ≡ draft.now) }
+        ensures of_root { IfSome result (λ f. number_in self.now.known (known_at self.now.known f.root).id ≡ Some f.root) }
     {
         let head = self.number_of(head).unwrap();
         let draft = self.number_of(draft).unwrap();
-        let root = self.chain.nearest(head, draft)?;
+        let root = nearest_uncounted::<Brand>(&self.chain, head, draft, Blank::new(1))?;
         Some(Fork { root, head, draft })
+    }
+
+    /// Whether a changeset is in the chain of another one, in which it is itself too. It takes no memory, and reads at most
+    /// one ancestor for each binary digit of the chain's length.
+    pub fn is_ancestor(&self, above: u32, last: u32) -> bool
+        requires above_known { above < length self.now.known }
+        requires known { last < length self.now.known }
+        ensures in_chain { result ≡ history.is_known (chain_at self.now.known last) (known_at self.now.known above).id }
+        // What follows an ancestor of both is what follows it up to the first, and what follows that.
+        ensures joined { IsTrue result → (root : ℕ) → IsAncestor self.now.known root above →
+            following_at self.now.known root last ≡ following_at self.now.known root above ++ following_at self.now.known above last }
+    {
+        is_ancestor_uncounted::<Brand>(&self.chain, above, last, Blank::new(1))
     }
 
     /// How many changesets of the draft's chain follow the root, at once.
@@ -229,10 +248,22 @@ impl ChangesetStore {
         self.following_shared(alloc, fork.root, fork.draft)
     }
 
+    /// The number of the changeset before the last of a chain, unless the last is this ancestor itself. So the changesets that
+    /// follow the ancestor are gone through newest first, without a list of them.
+    pub fn previous(&self, ancestor: u32, last: u32) -> Option<u32>
+        requires { IsAncestor self.now.known ancestor last }
+        ensures none { IfNone result (following_at self.now.known ancestor last ≡ []) }
+        ensures ancestor { IfSome result (λ p. IsAncestor self.now.known ancestor p) }
+        ensures earlier { IfSome result (λ p. p < last) }
+        ensures newest { IfSome result (λ p. following_at self.now.known ancestor last ≡ following_at self.now.known ancestor p ++ changeset_at self.now.known last ∷ []) }
+    {
+        self.chain.previous(ancestor, last)
+    }
+
     // How many changesets of the chain of a number follow an ancestor.
     fn distance(&self, ancestor: u32, last: u32) -> u32
         requires { IsAncestor self.now.known ancestor last }
-        ensures { result ≡ length (pushrebase.following (known_at self.now.known ancestor) (chain_at self.now.known last)) }
+        ensures { result ≡ length (following_at self.now.known ancestor last) }
     {
         self.chain.distance(ancestor, last)
     }
@@ -245,7 +276,7 @@ impl ChangesetStore {
         last: u32,
     ) -> Result<Vec<&'a Changeset>, AllocError>
         requires { IsAncestor self.now.known ancestor last }
-        ensures { IfOk result (λ found. map (λ c. c.now) found.items ≡ pushrebase.following (known_at self.now.known ancestor) (chain_at self.now.known last)) }
+        ensures { IfOk result (λ found. map (λ c. c.now) found.items ≡ following_at self.now.known ancestor last) }
     {
         let count = self.chain.distance(ancestor, last);
         let mut found = Vec::with_capacity(alloc, count as usize)?;
@@ -266,7 +297,7 @@ impl ChangesetStore {
         last: u32,
     ) -> Result<Vec<Arc<Commit>>, AllocError>
         requires { IsAncestor self.now.known ancestor last }
-        ensures { IfOk result (λ found. values found.items ≡ pushrebase.following (known_at self.now.known ancestor) (chain_at self.now.known last)) }
+        ensures { IfOk result (λ found. values found.items ≡ following_at self.now.known ancestor last) }
     {
         let count = self.chain.distance(ancestor, last);
         let mut found = Vec::with_capacity(alloc, count as usize)?;
@@ -286,4 +317,33 @@ impl ChangesetStore {
     {
         Arc::try_clone(&self.commits[number as usize])
     }
+}
+
+// The last common member of two chains, where nobody reads the count of steps.
+fn nearest_uncounted<L: Ledger>(chain: &Chain, a: u32, b: u32, blank: Blank) -> Option<u32>
+    requires name { blank.name ≡ L.name }
+    requires parts { blank.parts ≡ L.parts }
+    requires some { 0 < blank.parts }
+    requires a_known { a < length chain.now.parents }
+    requires b_known { b < length chain.now.parents }
+    ensures nearest { result ≡ forest.nearest chain.now.parents a b }
+    ensures of_a { IfSome result (λ n. IsTrue (forest.is_member n (forest.chain chain.now.parents a))) }
+    ensures of_b { IfSome result (λ n. IsTrue (forest.is_member n (forest.chain chain.now.parents b))) }
+{
+    let mut steps = Steps::<L>::new(blank);
+    chain.nearest(a, b, &mut steps)
+}
+
+// Whether a member is an ancestor of another one, where nobody reads the count of steps.
+fn is_ancestor_uncounted<L: Ledger>(chain: &Chain, a: u32, x: u32, blank: Blank) -> bool
+    requires name { blank.name ≡ L.name }
+    requires parts { blank.parts ≡ L.parts }
+    requires some { 0 < blank.parts }
+    requires a_known { a < length chain.now.parents }
+    requires x_known { x < length chain.now.parents }
+    ensures is_ancestor { result ≡ forest.is_member a (forest.chain chain.now.parents x) }
+    ensures earlier { forest.AreEarlier chain.now.parents }
+{
+    let mut steps = Steps::<L>::new(blank);
+    chain.is_ancestor(a, x, &mut steps)
 }

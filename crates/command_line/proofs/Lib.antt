@@ -1,3 +1,4 @@
 pub mod Entries
 pub mod Sessions
 pub mod Unserved
+pub mod Serving

@@ -13,13 +13,14 @@ use Rattle.history_model.specs.History.{Entry, is_down}
 use Rattle.history_model.specs.Journal.{Header, Stands}
 use Rattle.repo_journal.specs.View.{JournalView}
 use Rattle.repo_state.specs.Images.{Leaves}
-use Rattle.repo_state.specs.State.{Covers, HasNoFault, faults_in}
+use Rattle.repo_state.specs.State.{Covers, HasNoFault, IsSound, faults_in, opening_of}
 use Rattle.repo_state.proofs.Chains.{kept_then, leaves_map, leaves_then}
 use Rattle.repo_state.proofs.Leaving.{keeps_up}
-use Rattle.file_commands.specs.Opening.{IsSettled, OpensIn}
-use Rattle.command_line.specs.declared.ran.Ran.{Ran}
+use Rattle.file_commands.specs.Opening.{IsSettled, Opens, OpensIn}
+use Rattle.command_line.specs.declared.came.Came.{Came}
 use Rattle.command_line.specs.Outside.{Told}
 use Rattle.command_line.specs.Sessions.{IsCalm, LeavesFile, Serves, ServesFile}
+use Rattle.command_line.specs.Serving.{ClosesFile}
 use Rattle.command_line.proofs.Entries.{session_adds, adds_prefix, adds_own, of_seat-stored, down_has_fault}
 
 covers_since : (f early late count : ℕ) → early ≤ late → Covers f late count → Covers f early count
@@ -57,42 +58,53 @@ file_left header opened h moment first read m kept begins settled leaves = recor
       leaves.only;
 }
 
-pub serves_file : {D : Type 0} (meaning : D → Meaning) → ((disk : D) → disks.IsSound (meaning disk)) → (file : List ℕ) (shelf : Option (Shelf D)) (old new : Told) (ran : Ran D) (header : Header) (opened : List Entry) (journal : JournalView) (disk : D)
+pub closes_file : (header : Header) (opened h : List Entry) (journal : JournalView) (first read m : Meaning) → disks.IsSound m
+    → Opens header opened journal first read → IsPrefix opened h → IsSound (opening_of header journal.opening read) h m
+    → ClosesFile header opened journal first h m
+closes_file header opened h journal first read m whole opens begins sound =
+    let kept = kept_then first read m opens.unharmed.kept sound.kept in
+    let covers = covers_since (faults_in h) first.faults journal.opening.faults m.faults opens.during.1 sound.covers in
+    record {
+      legal = sound.legal;
+      begins = begins;
+      calm = is_calm header h first read opens.unharmed.kept.quiet sound.calm;
+      covers = covers;
+      disk_fault = λ down. covered_rose (faults_in h) first.faults m.faults (down_has_fault h down) sound.most covers;
+      kept = kept;
+      stands = λ honest up. file_stands header journal.opening.length journal.opening.moment h read m whole honest up (sound.leaves honest);
+      leaves = λ honest. file_left header opened h journal.opening.moment first read m opens.unharmed.kept begins (λ settled. opens.settled (sym kept.honest ∙ honest) settled)
+          (subst (λ n. Leaves header n journal.opening.moment h read m) opens.opened.length_is (sound.leaves honest));
+    }
+
+pub serves_file : {D : Type 0} (meaning : D → Meaning) → ((disk : D) → disks.IsSound (meaning disk)) → (file : List ℕ) (shelf : Option (Shelf D)) (old new : Told) (ran : Came D) (header : Header) (opened : List Entry) (journal : JournalView) (disk : D)
     → OpensIn meaning file shelf header opened journal disk
     → Serves meaning header opened journal (meaning disk) old new ran
     → ServesFile meaning file shelf old new ran
 serves_file meaning whole file shelf old new ran header opened journal disk opens serves =
-    let o = opens.opens in
-    let first = meaning opens.first in
-    let read = meaning disk in
-    let m = meaning serves.disk in
     let adds = session_adds (record { header = header; who = 0; history = opened; rest = old.rest; written = old.written }) serves.history new.rest new.written serves.end serves.session in
-    let begins = adds_prefix 0 opened serves.history adds in
-    let kept = kept_then first read m o.unharmed.kept serves.sound.kept in
-    let covers = covers_since (faults_in serves.history) first.faults journal.opening.faults m.faults o.during.1 serves.sound.covers in
+    let closes = closes_file header opened serves.history journal (meaning opens.first) (meaning disk) (meaning serves.disk) (whole serves.disk) opens.opens (adds_prefix 0 opened serves.history adds) serves.sound in
     record {
       disk = serves.disk;
       disk_is = serves.disk_is;
       first = opens.first;
       gives = opens.gives;
-      read = read;
+      read = meaning disk;
       header = header;
       opened = opened;
       journal = journal;
-      opens = o;
+      opens = opens.opens;
       history = serves.history;
       end = serves.end;
       session = serves.session;
       status_is = serves.status_is;
       link_fault = serves.link_fault;
-      legal = serves.sound.legal;
-      begins = begins;
-      alone = adds_own 0 opened serves.history adds (of_seat-stored opened o.stored_is);
-      calm = is_calm header serves.history first read o.unharmed.kept.quiet serves.sound.calm;
-      covers = covers;
-      disk_fault = λ down. covered_rose (faults_in serves.history) first.faults m.faults (down_has_fault serves.history down) serves.sound.most covers;
-      kept = kept;
-      stands = λ honest up. file_stands header journal.opening.length journal.opening.moment serves.history read m (whole serves.disk) honest up (serves.sound.leaves honest);
-      leaves = λ honest. file_left header opened serves.history journal.opening.moment first read m o.unharmed.kept begins (λ settled. o.settled (sym kept.honest ∙ honest) settled)
-          (subst (λ n. Leaves header n journal.opening.moment serves.history read m) o.opened.length_is (serves.sound.leaves honest));
+      legal = closes.legal;
+      begins = closes.begins;
+      alone = adds_own 0 opened serves.history adds (of_seat-stored opened opens.opens.stored_is);
+      calm = closes.calm;
+      covers = closes.covers;
+      disk_fault = closes.disk_fault;
+      kept = closes.kept;
+      stands = closes.stands;
+      leaves = closes.leaves;
     }

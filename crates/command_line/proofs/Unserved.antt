@@ -1,22 +1,24 @@
 -- What a command came to, by whether the file was opened.
-use Rattle.std.proofs.Common.{◌≡◌, ℕ, List, refl, ap, subst, sym, ◌∙◌}
+use Rattle.std.proofs.Common.{◌≡◌, ◌⊎◌, ℕ, List, refl, ap, subst, sym, ◌∙◌}
 use Rattle.std.specs.Prelude.{Option, None, Some, IfSome, MatchOption}
 use mathlib.Core.Logic.{inl, inr}
 use Rattle.disk_model.specs.Meaning.{Meaning}
+use Rattle.program_words.specs.Words.{Request, session}
 use Rattle.file_commands.specs.declared.report.Report.{Report}
+use Rattle.file_commands.specs.declared.status.Status.{Status}
 use Rattle.file_commands.specs.declared.status.Outcome.{Outcome}
 use Rattle.file_commands.specs.Making.{Unopened}
 use Rattle.file_commands.specs.Opening.{RefusesIn}
 use Rattle.file_commands.specs.Reports.{status_of}
-use Rattle.command_line.specs.declared.ran.Ran.{Ran}
-use Rattle.command_line.specs.Outside.{Outside}
-use Rattle.command_line.specs.Running.{RunsOn, RunsSession, Writes}
+use Rattle.command_line.specs.declared.came.Came.{Came}
+use Rattle.command_line.specs.Outside.{Links, Outside}
+use Rattle.command_line.specs.Running.{LacksMemory, Runs, RunsOn, RunsSession, Writes}
 
 pub by_disk : {D : Type 0} (o : Option D) (U : Type 0) (P : D → Type 0) → (o ≡ None → U) → IfSome o P → MatchOption o U P
 by_disk None U P none some = none refl
 by_disk (Some disk) U P none some = some
 
-pub runs_on : {D : Type 0} (Of : D → Report → Type 0) (old new : Outside D) (came : Outcome D) (ran : Ran D) → ran.disk ≡ came.disk → Writes came.report ran.status old.link new.link
+pub runs_on : {D : Type 0} (Of : D → Report → Type 0) (old new : Outside D) (came : Outcome D) (ran : Came D) → ran.disk ≡ came.disk → Writes came.report ran.status old.link new.link
     → (came.disk ≡ None → Unopened came.report old.unopened new.unopened) → IfSome came.disk (λ disk. Of disk came.report) → RunsOn Of old new ran
 runs_on {D} Of old new came ran same writes unopened opened = record {
   report = came.report;
@@ -25,7 +27,7 @@ runs_on {D} Of old new came ran same writes unopened opened = record {
       (by_disk came.disk (Unopened came.report old.unopened new.unopened) (λ disk. Of disk came.report) unopened opened);
 }
 
-pub unserved : {D : Type 0} (meaning : D → Meaning) (file : List ℕ) (old new : Outside D) (came : Outcome D) (ran : Ran D) → ran.disk ≡ came.disk → ran.status ≡ status_of came.report → new.link ≡ old.link
+pub unserved : {D : Type 0} (meaning : D → Meaning) (file : List ℕ) (old new : Outside D) (came : Outcome D) (ran : Came D) → ran.disk ≡ came.disk → ran.status ≡ status_of came.report → new.link ≡ old.link
     → (came.disk ≡ None → Unopened came.report old.unopened new.unopened) → IfSome came.disk (λ disk. RefusesIn meaning file old.shelf disk came.report) → RunsSession meaning file old new ran
 unserved {D} meaning file old new came ran same status silent unopened refuses = by came.disk refl
   where
@@ -39,3 +41,14 @@ unserved {D} meaning file old new came ran same status silent unopened refuses =
       status_is = status;
       silent = silent;
     }))
+
+abbrev came_as : {D : Type 0} → Status → Option D → Came D
+came_as status disk = record { status = status; disk = disk }
+
+same_came : {D : Type 0} (came ran : Came D) → ran.status ≡ came.status → ran.disk ≡ came.disk → came ≡ ran
+same_came {D} came ran status disk = sym (ap (λ (s : Status). came_as s ran.disk) status ∙ ap (λ (d : Option D). came_as came.status d) disk)
+
+pub runs_session : {D : Type 0} (meaning : D → Meaning) (request : Option Request) (file : List ℕ) (old new : Outside D) (links : Links) (came ran : Came D) → request ≡ Some (session file)
+    → RunsSession meaning file old new came → ran.status ≡ came.status → ran.disk ≡ came.disk → Runs meaning request old new links ran ⊎ LacksMemory request old new links ran
+runs_session {D} meaning request file old new links came ran is runs status disk = inl (subst (λ (q : Option Request). Runs meaning q old new links ran) (sym is)
+    (subst (λ (r : Came D). RunsSession meaning file old new r) (same_came came ran status disk) runs))

@@ -1,3 +1,5 @@
 pub mod Outside
 pub mod Sessions
+pub mod Serving
 pub mod Running
+pub mod Watching

@@ -1,7 +1,8 @@
 -- What is told of the outside world at one moment.
 --     Told      of a link;  told ..      that of this one
 --     Outside D      of an opener and a link;  outside ..      that of these
-use Rattle.std.specs.Prelude.{ℕ, List, Option}
+--     Incoming      of what connections come from;  Links      of it before and after, with how many were served;  links ..      that of these;  TakesNone links      none was taken
+use Rattle.std.specs.Prelude.{◌≡◌, ℕ, Bool, List, Option}
 use Rattle.ports.specs.Openers.{Shelf}
 
 pub record Told : Type 0 where
@@ -21,3 +22,26 @@ pub record Outside (D : Type 0) : Type 0 where
 
 abbrev pub outside : {O L D : Type 0} (shelf : O → Option (Shelf D)) (unopened : O → ℕ) (rest written : L → Option (List ℕ)) (faults : L → ℕ) → O → L → Outside D
 outside shelf unopened rest written faults opener link = record { shelf = shelf opener; unopened = unopened opener; link = told rest written faults link }
+
+pub record Incoming : Type 0 where
+  -- how many links it gave, whether it has said that no more will come, and how often a call failed
+  pub given : ℕ
+  pub over : Bool
+  pub faults : ℕ
+
+abbrev pub incoming : {A : Type 0} (given : A → ℕ) (over : A → Bool) (faults : A → ℕ) → A → Incoming
+incoming given over faults accept = record { given = given accept; over = over accept; faults = faults accept }
+
+pub record Links : Type 0 where
+  pub before : Incoming
+  pub after : Incoming
+  pub served : ℕ
+
+abbrev pub links : {A : Type 0} (given : A → ℕ) (over : A → Bool) (faults : A → ℕ) (before after : A) → ℕ → Links
+links given over faults before after served =
+    record { before = incoming given over faults before; after = incoming given over faults after; served = served }
+
+-- no link was taken
+pub record TakesNone (links : Links) : Type 0 where
+  pub same : links.after ≡ links.before
+  pub none : links.served ≡ 0

@@ -2,10 +2,15 @@
 --     RunsLine report ..      the report's line is written, and no file is opened
 --     RunsInit meaning file capacity .., RunsFsck meaning file ..      what is reported of the file of this name
 --     RunsSession meaning file ..      one connection is served on the repository in it, or it wasn't opened and nothing is written
+--     RunsServe meaning file lanes connections ..      connections are served on the repository in it
 --     LacksMemory request ..      there was no memory to read the words;  Runs meaning request ..      by what is asked for
+--     takes_links request      the command takes links
 use Rattle.std.specs.Prelude.{◌≡◌, ◌⊎◌, ℕ, Bool, true, false, List, Option, None, Some, MatchOption}
 use Rattle.ports.specs.Faults.{Rose}
 use Rattle.disk_model.specs.Meaning.{Meaning}
+use Rattle.history_model.specs.History.{Entry}
+use Rattle.history_model.specs.Journal.{Header}
+use Rattle.repo_journal.specs.View.{JournalView}
 use Rattle.program_words.specs.Words.{Request, fsck, gen, help, init, serve, session, version}
 use Rattle.program_words.specs.Sessions.{is_session}
 use Rattle.file_commands.specs.declared.report.Report.{Report}
@@ -16,9 +21,10 @@ use Rattle.file_commands.specs.Counting.{ChecksIn}
 use Rattle.file_commands.specs.Making.{AttemptsIn, Unopened}
 use Rattle.file_commands.specs.Opening.{RefusesIn}
 use Rattle.file_commands.specs.Reports.{Reports, status_of}
-use Rattle.command_line.specs.declared.ran.Ran.{Ran}
-use Rattle.command_line.specs.Outside.{Told, Outside}
+use Rattle.command_line.specs.declared.came.Came.{Came}
+use Rattle.command_line.specs.Outside.{Links, Outside, TakesNone, Told}
 use Rattle.command_line.specs.Sessions.{ServesFile}
+use Rattle.command_line.specs.Serving.{ServesOpened, ServesRepository}
 
 -- the line, or a front of it only where the link's count rose. No input is read
 pub record Writes (report : Report) (status : Status) (old new : Told) : Type 0 where
@@ -26,13 +32,13 @@ pub record Writes (report : Report) (status : Status) (old new : Told) : Type 0 
   pub unread : new.rest ≡ old.rest
 
 -- no file is opened
-pub record RunsAlone {D : Type 0} (Does : Status → Told → Told → Type 0) (old new : Outside D) (ran : Ran D) : Type 0 where
+pub record RunsAlone {D : Type 0} (Does : Status → Told → Told → Type 0) (old new : Outside D) (ran : Came D) : Type 0 where
   pub does : Does ran.status old.link new.link
   pub none : ran.disk ≡ None
   pub shelf : new.shelf ≡ old.shelf
   pub unopened : new.unopened ≡ old.unopened
 
-abbrev pub RunsLine : {D : Type 0} → Report → Outside D → Outside D → Ran D → Type 0
+abbrev pub RunsLine : {D : Type 0} → Report → Outside D → Outside D → Came D → Type 0
 RunsLine report old new ran = RunsAlone (Writes report) old new ran
 
 -- without memory for the words: a session writes no line
@@ -41,26 +47,26 @@ LacksLine true status old new = (status ≡ NoMemory) × (new ≡ old)
 LacksLine false status old new = Writes report.NoMemory status old new
 
 -- a line is written of the file that was opened, or of one that the opener failed to open
-pub record RunsOn {D : Type 0} (Of : D → Report → Type 0) (old new : Outside D) (ran : Ran D) : Type 0 where
+pub record RunsOn {D : Type 0} (Of : D → Report → Type 0) (old new : Outside D) (ran : Came D) : Type 0 where
   pub report : Report
   pub writes : Writes report ran.status old.link new.link
   pub of : MatchOption ran.disk (Unopened report old.unopened new.unopened) (λ disk. Of disk report)
 
-abbrev pub RunsInit : {D : Type 0} → (D → Meaning) → List ℕ → ℕ → Outside D → Outside D → Ran D → Type 0
+abbrev pub RunsInit : {D : Type 0} → (D → Meaning) → List ℕ → ℕ → Outside D → Outside D → Came D → Type 0
 RunsInit meaning file capacity old new ran = RunsOn (λ disk report. AttemptsIn meaning file capacity old.shelf disk report) old new ran
 
-abbrev pub RunsFsck : {D : Type 0} → (D → Meaning) → List ℕ → Outside D → Outside D → Ran D → Type 0
+abbrev pub RunsFsck : {D : Type 0} → (D → Meaning) → List ℕ → Outside D → Outside D → Came D → Type 0
 RunsFsck meaning file old new ran = RunsOn (λ disk report. ChecksIn meaning file old.shelf disk report) old new ran
 
 -- ---- a session
 
-pub record FindsNoFile {D : Type 0} (old new : Outside D) (ran : Ran D) : Type 0 where
+pub record FindsNoFile {D : Type 0} (old new : Outside D) (ran : Came D) : Type 0 where
   pub none : ran.disk ≡ None
   pub status_is : ran.status ≡ DiskFault
   pub rose : Rose old.unopened new.unopened
   pub silent : new.link ≡ old.link
 
-pub record FindsNoRepository {D : Type 0} (meaning : D → Meaning) (file : List ℕ) (old new : Outside D) (ran : Ran D) : Type 0 where
+pub record FindsNoRepository {D : Type 0} (meaning : D → Meaning) (file : List ℕ) (old new : Outside D) (ran : Came D) : Type 0 where
   pub disk : D
   pub disk_is : ran.disk ≡ Some disk
   pub report : Report
@@ -68,21 +74,58 @@ pub record FindsNoRepository {D : Type 0} (meaning : D → Meaning) (file : List
   pub status_is : ran.status ≡ status_of report
   pub silent : new.link ≡ old.link
 
-abbrev pub RunsSession : {D : Type 0} → (D → Meaning) → List ℕ → Outside D → Outside D → Ran D → Type 0
+abbrev pub RunsSession : {D : Type 0} → (D → Meaning) → List ℕ → Outside D → Outside D → Came D → Type 0
 RunsSession meaning file old new ran = FindsNoFile old new ran ⊎ FindsNoRepository meaning file old new ran ⊎ ServesFile meaning file old.shelf old.link new.link ran
+
+-- ---- connections
+
+-- what isn't opened is reported as `fsck` reports it
+pub record OpensNone {D : Type 0} (meaning : D → Meaning) (file : List ℕ) (old new : Outside D) (links : Links) (ran : Came D) : Type 0 where
+  pub on : RunsOn (λ disk report. RefusesIn meaning file old.shelf disk report) old new ran
+  pub untaken : TakesNone links
+
+-- there was no memory to begin, and the file is given up
+pub record LacksLanes {D : Type 0} (old new : Told) (links : Links) (ran : Came D) : Type 0 where
+  pub writes : Writes report.NoMemory ran.status old new
+  pub none : ran.disk ≡ None
+  pub untaken : TakesNone links
+
+-- the end is reported
+pub record Ends {D : Type 0} (As : Report → Option D → Type 0) (old new : Told) (ran : Came D) : Type 0 where
+  pub report : Report
+  pub writes : Writes report ran.status old new
+  pub ends : As report ran.disk
+
+abbrev pub RunsOpened : {D : Type 0} → (D → Meaning) → Header → List Entry → JournalView → Meaning → (lanes connections : ℕ) → Told → Told → Links → Came D → Type 0
+RunsOpened meaning header opened journal read lanes connections old new links ran =
+    LacksLanes old new links ran ⊎ Ends (ServesOpened meaning header opened journal read lanes connections links) old new ran
+
+abbrev pub RunsServe : {D : Type 0} → (D → Meaning) → List ℕ → (lanes connections : ℕ) → Outside D → Outside D → Links → Came D → Type 0
+RunsServe meaning file lanes connections old new links ran =
+    OpensNone meaning file old new links ran ⊎ LacksLanes old.link new.link links ran ⊎ Ends (ServesRepository meaning file old.shelf lanes connections links) old.link new.link ran
 
 -- ---- all words
 
-abbrev pub LacksMemory : {D : Type 0} → Option Request → Outside D → Outside D → Ran D → Type 0
-LacksMemory request old new ran = RunsAlone (LacksLine (is_session request)) old new ran
+abbrev pub takes_links : Option Request → Bool
+takes_links (Some (init file capacity)) = false
+takes_links (Some (session file)) = false
+takes_links (Some (serve file address lanes derivers connections)) = true
+takes_links (Some (fsck file)) = false
+takes_links (Some (gen seed stacks clients)) = false
+takes_links (Some help) = false
+takes_links (Some version) = false
+takes_links None = false
 
--- `serve` and `gen` aren't there yet, and are answered as words that are no command
-abbrev pub Runs : {D : Type 0} → (D → Meaning) → Option Request → Outside D → Outside D → Ran D → Type 0
-Runs meaning (Some (init file capacity)) old new ran = RunsInit meaning file capacity old new ran
-Runs meaning (Some (session file)) old new ran = RunsSession meaning file old new ran
-Runs meaning (Some (serve file address lanes derivers connections)) old new ran = RunsLine report.Usage old new ran
-Runs meaning (Some (fsck file)) old new ran = RunsFsck meaning file old new ran
-Runs meaning (Some (gen seed stacks clients)) old new ran = RunsLine report.Usage old new ran
-Runs meaning (Some help) old new ran = RunsLine report.Help old new ran
-Runs meaning (Some version) old new ran = RunsLine report.Version old new ran
-Runs meaning None old new ran = RunsLine report.Usage old new ran
+abbrev pub LacksMemory : {D : Type 0} → Option Request → Outside D → Outside D → Links → Came D → Type 0
+LacksMemory request old new links ran = RunsAlone (LacksLine (is_session request)) old new ran × TakesNone links
+
+-- `gen` isn't there yet, and is answered as words that are no command
+abbrev pub Runs : {D : Type 0} → (D → Meaning) → Option Request → Outside D → Outside D → Links → Came D → Type 0
+Runs meaning (Some (init file capacity)) old new links ran = RunsInit meaning file capacity old new ran
+Runs meaning (Some (session file)) old new links ran = RunsSession meaning file old new ran
+Runs meaning (Some (serve file address lanes derivers connections)) old new links ran = RunsServe meaning file lanes connections old new links ran
+Runs meaning (Some (fsck file)) old new links ran = RunsFsck meaning file old new ran
+Runs meaning (Some (gen seed stacks clients)) old new links ran = RunsLine report.Usage old new ran
+Runs meaning (Some help) old new links ran = RunsLine report.Help old new ran
+Runs meaning (Some version) old new links ran = RunsLine report.Version old new ran
+Runs meaning None old new links ran = RunsLine report.Usage old new ran

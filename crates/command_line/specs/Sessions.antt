@@ -26,7 +26,7 @@ use Rattle.http_front.specs.Serving.{Finished}
 use Rattle.file_commands.specs.declared.status.Status.{Status}
 use Rattle.file_commands.specs.declared.status.Status.TheVariants.{Done, DiskFault, NoMemory, StreamFault, Cut, Refused, Spent}
 use Rattle.file_commands.specs.Opening.{IsGiven, IsSettled, Opens}
-use Rattle.command_line.specs.declared.ran.Ran.{Ran}
+use Rattle.command_line.specs.declared.came.Came.{Came}
 use Rattle.command_line.specs.Outside.{Told}
 
 abbrev pub status_of : Ended → Status
@@ -60,7 +60,7 @@ abbrev pub IsCalm : Header → List Entry → Meaning → Type 0
 IsCalm header h m = ForSome m.quiet (λ most. header.capacity ≤ most → HasNoFault h)
 
 -- from the opened repository to the end
-pub record Serves {D : Type 0} (meaning : D → Meaning) (header : Header) (opened : List Entry) (journal : JournalView) (read : Meaning) (old new : Told) (ran : Ran D) : Type 0 where
+pub record Serves {D : Type 0} (meaning : D → Meaning) (header : Header) (opened : List Entry) (journal : JournalView) (read : Meaning) (old new : Told) (ran : Came D) : Type 0 where
   pub disk : D
   pub disk_is : ran.disk ≡ Some disk
   pub history : List Entry
@@ -70,7 +70,7 @@ pub record Serves {D : Type 0} (meaning : D → Meaning) (header : Header) (open
   pub link_fault : end ≡ ends.LinkFault → Rose old.faults new.faults
   pub sound : IsSound (opening_of header journal.opening read) history (meaning disk)
 
-pub record ServesFile {D : Type 0} (meaning : D → Meaning) (file : List ℕ) (shelf : Option (Shelf D)) (old new : Told) (ran : Ran D) : Type 0 where
+pub record ServesFile {D : Type 0} (meaning : D → Meaning) (file : List ℕ) (shelf : Option (Shelf D)) (old new : Told) (ran : Came D) : Type 0 where
   pub disk : D
   pub disk_is : ran.disk ≡ Some disk
   -- the disk as the opener gave it, and as it was told once all was read

@@ -1,48 +1,53 @@
 //! What the program does with its words.
-ghost use Rattle.std.specs.Prelude.{◌≡◌, ◌≢◌, ◌⊎◌, map, string_bytes};
+ghost use Rattle.std.specs.Prelude.{◌≡◌, ◌≢◌, ◌⊎◌, false, map, string_bytes};
 ghost use Rattle.program_words.specs.Words.{command_of};
 ghost use Rattle.program_words.specs.Sessions.{is_session};
 ghost use Rattle.file_commands.specs.declared.report.Report.TheVariants.{NoMemory as NoMemoryLine, Usage as UsageLine};
-ghost use Rattle.command_line.specs.Outside.{outside, told};
-ghost use Rattle.command_line.specs.Running.{LacksLine, LacksMemory, Runs, Writes};
+ghost use Rattle.command_line.specs.Outside.{links, outside, told};
+ghost use Rattle.command_line.specs.Running.{LacksLine, LacksMemory, Runs, Writes, takes_links};
+ghost use Rattle.command_line.specs.Serving.{IsServed};
 
-use crate::ran::Ran;
+use crate::came::Came;
+use crate::ran::{Ran, apart};
+use crate::serve::run_serve;
 use crate::session::run_session;
 use blob_disk::Disk;
 use file_commands::{Outcome, Report, Status, end_run, fsck_file, init_file};
-use ports::{Link, Opener};
+use ports::{Accept, Gate, Link, Opener};
 use program_words::{Command, WordsFault, asks_session, read_words};
 use std::alloc::Global;
 use std::io::ErrorKind;
+use std::sync::Wait;
+use std::thread::Threads;
 
-fn say<D: Drop, L: Link>(report: Report, link: &mut L) -> Ran<D>
+fn say<D: Drop, L: Link>(report: Report, link: &mut L) -> Came<D>
     ensures writes { Writes report result.status (told L.rest L.written L.faults link.old) (told L.rest L.written L.faults link.new) }
     ensures none { result.disk ≡ None }
 {
-    Ran {
+    Came {
         status: end_run(report, link),
         disk: None,
     }
 }
 
-fn tell<D: Drop, L: Link>(outcome: Outcome<D>, link: &mut L) -> Ran<D>
+pub(crate) fn tell<D: Drop, L: Link>(outcome: Outcome<D>, link: &mut L) -> Came<D>
     ensures writes { Writes outcome.report result.status (told L.rest L.written L.faults link.old) (told L.rest L.written L.faults link.new) }
     ensures disk { result.disk ≡ outcome.disk }
 {
     let Outcome { report, disk } = outcome;
-    Ran {
+    Came {
         status: end_run(report, link),
         disk,
     }
 }
 
 // A session writes no line.
-fn lack_memory<D: Drop, L: Link>(words: &[String], link: &mut L) -> Ran<D>
+fn lack_memory<D: Drop, L: Link>(words: &[String], link: &mut L) -> Came<D>
     ensures line { LacksLine (is_session (command_of (map string_bytes words.now))) result.status (told L.rest L.written L.faults link.old) (told L.rest L.written L.faults link.new) }
     ensures none { result.disk ≡ None }
 {
     if asks_session(words) {
-        return Ran {
+        return Came {
             status: Status::NoMemory,
             disk: None,
         };
@@ -51,27 +56,61 @@ fn lack_memory<D: Drop, L: Link>(words: &[String], link: &mut L) -> Ran<D>
 }
 
 /// Runs the program on its words, of which the first is its name. `init` and `fsck` report in one line what they found
-/// of a file. `session` serves one connection over the link. `serve` and `gen` aren't there yet, and are answered, as words that are
-/// no command, by the usage line.
-pub fn run<D: Disk, O: Opener<D>, L: Link>(
+/// of a file. `session` serves one connection over the link. `serve` serves the connections that the accept gives, in lanes, and
+/// reports how many they were. `gen` isn't there yet, and is answered, as words that are no command, by the usage line.
+pub fn run<R, D, O, L, A, K, G>(
+    rt: &R,
     alloc: Global,
     words: &[String],
     link: &mut L,
     opener: &mut O,
-) -> Ran<D>
-    ensures { Runs D.meaning (command_of (map string_bytes words.now)) (outside O.shelf O.faults L.rest L.written L.faults opener.old link.old) (outside O.shelf O.faults L.rest L.written L.faults opener.new link.new) result
-        ⊎ LacksMemory (command_of (map string_bytes words.now)) (outside O.shelf O.faults L.rest L.written L.faults opener.old link.old) (outside O.shelf O.faults L.rest L.written L.faults opener.new link.new) result }
+    accept: A,
+    gate: &G,
+) -> Ran<D, A, K>
+where
+    R: Threads + Wait + Sync,
+    D: Disk + Send,
+    O: Opener<D>,
+    L: Link,
+    A: Accept<K> + Send,
+    K: Link + Send,
+    G: Gate + Sync,
+    ensures runs { Runs D.meaning (command_of (map string_bytes words.now)) (outside O.shelf O.faults L.rest L.written L.faults opener.old link.old) (outside O.shelf O.faults L.rest L.written L.faults opener.new link.new) (links A.given A.over A.faults accept result.accept result.served) (record { status = result.status; disk = result.disk })
+        ⊎ LacksMemory (command_of (map string_bytes words.now)) (outside O.shelf O.faults L.rest L.written L.faults opener.old link.old) (outside O.shelf O.faults L.rest L.written L.faults opener.new link.new) (links A.given A.over A.faults accept result.accept result.served) (record { status = result.status; disk = result.disk }) }
+    ensures served { IsServed (links A.given A.over A.faults accept result.accept result.served) }
+    ensures apart { takes_links (command_of (map string_bytes words.now)) ≡ false → (result.served ≡ 0) × (result.accept ≡ accept) }
 {
     match read_words(alloc, words) {
-        Ok(Command::Init { file, capacity }) => tell(init_file(opener, file, capacity), link),
-        Ok(Command::Session { file }) => run_session(alloc, file, link, opener),
-        Ok(Command::Fsck { file }) => tell(fsck_file(alloc, opener, file), link),
-        Ok(Command::Help) => say(Report::Help, link),
-        Ok(Command::Version) => say(Report::Version, link),
-        Ok(Command::Serve { .. } | Command::Gen { .. }) | Err(WordsFault::Usage) => {
-            say(Report::Usage, link)
+        Ok(Command::Init { file, capacity }) => {
+            apart(tell(init_file(opener, file, capacity), link), accept)
         }
-        Err(WordsFault::Memory) => lack_memory(words, link),
+        Ok(Command::Session { file }) => apart(run_session(alloc, file, link, opener), accept),
+        Ok(
+            Command::Serve {
+                file,
+                lanes,
+                connections,
+                ..
+            },
+        ) => {
+            let (lanes, connections) = (u64::from(lanes), u64::from(connections));
+            run_serve(
+                rt,
+                alloc,
+                file,
+                lanes,
+                connections,
+                link,
+                opener,
+                accept,
+                gate,
+            )
+        }
+        Ok(Command::Fsck { file }) => apart(tell(fsck_file(alloc, opener, file), link), accept),
+        Ok(Command::Help) => apart(say(Report::Help, link), accept),
+        Ok(Command::Version) => apart(say(Report::Version, link), accept),
+        Ok(Command::Gen { .. }) | Err(WordsFault::Usage) => apart(say(Report::Usage, link), accept),
+        Err(WordsFault::Memory) => apart(lack_memory(words, link), accept),
     }
 }
 

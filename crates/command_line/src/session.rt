@@ -7,7 +7,7 @@ ghost use Rattle.command_line.specs.Outside.{outside, told};
 ghost use Rattle.command_line.specs.Running.{RunsSession};
 ghost use Rattle.command_line.specs.Sessions.{Serves, session_status, status_of};
 
-use crate::ran::Ran;
+use crate::came::Came;
 use blob_disk::Disk;
 use file_commands::{OpenedFile, Outcome, Status, open_file};
 use http_front::ended::Ended;
@@ -47,19 +47,19 @@ pub(crate) fn run_session<D: Disk, O: Opener<D>, L: Link>(
     file: &str,
     link: &mut L,
     opener: &mut O,
-) -> Ran<D>
+) -> Came<D>
     ensures { RunsSession D.meaning file.now (outside O.shelf O.faults L.rest L.written L.faults opener.old link.old) (outside O.shelf O.faults L.rest L.written L.faults opener.new link.new) result }
 {
     match open_file(alloc, opener, file) {
         Ok(opened) => serve_file(alloc, opened, link),
-        Err(Outcome { report, disk }) => Ran {
+        Err(Outcome { report, disk }) => Came {
             status: report.status(),
             disk,
         },
     }
 }
 
-fn serve_file<D: Disk, L: Link>(alloc: Global, opened: OpenedFile<D>, link: &mut L) -> Ran<D>
+fn serve_file<D: Disk, L: Link>(alloc: Global, opened: OpenedFile<D>, link: &mut L) -> Came<D>
     requires opened { IsOpened opened.machine.header opened.machine.history opened.journal (D.meaning opened.disk) }
     requires legal { IsLegal opened.machine.header opened.machine.history }
     requires stored { opened.machine.history ≡ stored opened.machine.history }
@@ -73,7 +73,7 @@ fn serve_file<D: Disk, L: Link>(alloc: Global, opened: OpenedFile<D>, link: &mut
     let mut state = RepoState::new(machine, journal, disk);
     let end = serve_session(alloc, &mut state, link);
     let status = session_status(state.down(), end);
-    Ran {
+    Came {
         status,
         disk: Some(state.into_disk()),
     }

@@ -6,6 +6,8 @@ ghost use Rattle.history_model.specs.History.{Body, Entry, bodies, stored};
 ghost use Rattle.history_model.specs.Journal.{Header};
 ghost use Rattle.core_model.specs.Core.{State, Sealing, Step, Seal, Crash, may_be_kept, opened, after_step, after_steps};
 ghost use Rattle.core_laws.specs.Gained.{StandsAt, MadeAt, gain_of, gains_of, is_crash};
+ghost use Rattle.core_laws.specs.Whole.{Keeps};
+ghost use Rattle.reply_model.specs.Legal.{IsLegal};
 
 /// Whatever steps are taken from any state, crashes among them: the stored entries before are a prefix of those after.
 pub fn stored_entries_stay()
@@ -68,4 +70,9 @@ pub fn what_a_crash_keeps_stands()
 pub fn what_is_unanswered_stands()
     ensures { (header : Header) (h : List Entry) (steps later : List Step) (s t : State) (who number : ℕ) → after_steps header (opened h) steps ≡ Some s → s.unanswered who ≡ Some number →
         after_steps header s later ≡ Some t → (body : Body) × MadeAt s.history number who body × StandsAt t.history number body }
+{}
+
+/// The core's law, whole. After any steps from a legal history as it was opened: the history is legal. Each acknowledged entry stands at its log number, and no number is acknowledged twice. Each crash among the steps left all that was stored then, of the first history, sealed since, answered or not, or left by an earlier crash, each at its number, and at most one entry more. What is in the table are the manifests from scratch.
+pub fn the_core_keeps_its_law()
+    ensures { (header : Header) (h : List Entry) (steps : List Step) (s : State) → IsLegal header h → after_steps header (opened h) steps ≡ Some s → Keeps header h steps s }
 {}

@@ -1,20 +1,18 @@
 //! An accept over memory.
+use crate::rows::{cut, numbers, same};
 use ports::{Accept, MemAccept};
 use std::alloc::{AllocError, Global};
 use std::test::Fail;
 
-// The links, the calls that are to fail, and what each of five calls gives: a link, `!` for a call
-// that fails, or `.` for the end.
-const ROWS: [(&[u8], &[u64], &str); 7] = [
-    (b"", &[], "....."),
-    (b"ab", &[], "ab..."),
-    (b"abcdefg", &[], "abcde"),
-    (b"ab", &[0, 2], "!a!b."),
-    // a call may fail where no link is left, until the end was told
-    (b"", &[0], "!...."),
-    (b"a", &[1], "a!..."),
-    (b"a", &[2, 3], "a...."),
-];
+// The links, a letter each, the calls that are to fail, a digit each, and what each of five calls gives: a link, `!` for
+// a call that fails, or `.` for the end. A call may fail where no link is left, until the end was told.
+const ROWS: &str = r#" |  | .....
+ab |  | ab...
+abcdefg |  | abcde
+ab | 02 | !a!b.
+ | 0 | !....
+a | 1 | a!...
+a | 23 | a...."#;
 
 // What the calls give, through the bound.
 fn calls<A: Accept<u8>>(alloc: Global, accept: &mut A) -> Result<String, AllocError> {
@@ -29,13 +27,20 @@ fn calls<A: Accept<u8>>(alloc: Global, accept: &mut A) -> Result<String, AllocEr
     Ok(told)
 }
 
+fn told(alloc: Global, links: &str, failing: &str) -> Result<String, Fail> {
+    let failing = numbers(alloc, failing)?;
+    let links = Vec::from_slice(alloc, links.as_bytes())?;
+    let mut accept = MemAccept::new(links, failing);
+    Ok(calls(alloc, &mut accept)?)
+}
+
 #[test]
 fn links_are_given_in_order_and_once(rt: HostRuntime) -> Result<(), Fail> {
-    let alloc = rt.alloc();
-    for (number, (links, failing, told)) in ROWS.iter().enumerate() {
-        let links = Vec::from_slice(alloc, links)?;
-        let mut accept = MemAccept::new(links, Vec::from_slice(alloc, failing)?);
-        assert_eq!(rt; calls(alloc, &mut accept)?.as_str(), *told, "row {number}");
+    for line in ROWS.lines() {
+        let (links, rest) = cut(line);
+        let (failing, wanted) = cut(rest);
+        let told = told(rt.alloc(), links, failing)?;
+        same(&rt, told.as_str(), wanted, line);
     }
     Ok(())
 }

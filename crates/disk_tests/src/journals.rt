@@ -2,22 +2,22 @@
 ghost use Rattle.std.specs.Prelude.{◌<◌, ◌^◌, length, IfOk};
 ghost use Rattle.repo_journal.specs.Sealing.{IsFramed};
 
+use crate::rows::same;
 use blob_disk::{CallKind, Disk, MemDisk};
-use repo_journal::{AppendFault, InitFault, Journal, Opening, Span, init};
+use repo_journal::{AppendFault, Journal, Opening, init};
 use std::alloc::{AllocError, Global};
 use std::process::Abort;
 use std::test::Fail;
 
 // A new file of capacity 65,536.
-const FRESH: [u8; 17] = [
-    0x42, 0x4F, 0x4E, 0x53, 0x41, 0x49, 0x00, 0x01, 0, 0, 0, 0, 0, 1, 0, 0, 0,
-];
+const FRESH: &[u8] = b"BONSAI\x00\x01\x00\x00\x00\x00\x00\x01\x00\x00\x00";
 
 // The same once the content `abc` was appended.
-const WITH_ABC: [u8; 26] = [
-    0x42, 0x4F, 0x4E, 0x53, 0x41, 0x49, 0x00, 0x01, 0, 0, 0, 0, 0, 1, 0, 0, 1, 0, 0, 0, 4, 0x42,
-    0x61, 0x62, 0x63, 0,
-];
+const WITH_ABC: &[u8] =
+    b"BONSAI\x00\x01\x00\x00\x00\x00\x00\x01\x00\x00\x01\x00\x00\x00\x04Babc\x00";
+
+// What both begin with.
+const HEADER: &[u8] = b"BONSAI\x00\x01\x00\x00\x00\x00\x00\x01\x00\x00";
 
 const AT_START: Opening = Opening {
     moment: 0,
@@ -42,187 +42,23 @@ struct Repository {
     journal: Journal,
 }
 
-// A new repository of capacity 65,536, one of whose calls may be to fail.
-fn new_repository(alloc: Global, fails: Option<(CallKind, u64)>) -> Result<Repository, AllocError> {
+fn failing(
+    alloc: Global,
+    fails: Option<(CallKind, u64)>,
+) -> Result<Vec<(CallKind, u64)>, AllocError> {
     let mut calls = Vec::new(alloc);
     if let Some(call) = fails {
         calls.push(call)?;
     }
-    let file = Vec::from_slice(alloc, &FRESH)?;
-    let room = (file.len() as u64).max(64);
+    Ok(calls)
+}
+
+// A new repository of capacity 65,536, one of whose calls may be to fail.
+fn new_repository(alloc: Global, fails: Option<(CallKind, u64)>) -> Result<Repository, AllocError> {
     Ok(Repository {
-        disk: MemDisk::holding(alloc, &file, room, calls)?,
+        disk: MemDisk::holding(alloc, FRESH, 64, failing(alloc, fails)?)?,
         journal: Journal::new(65_536, 17, AT_START),
     })
-}
-
-fn append(
-    rt: &(impl Abort + Alloc<A = Global>),
-    repo: &mut Repository,
-    payload: &[u8],
-) -> Result<Result<(), AppendFault>, AllocError> {
-    assert!(rt; payload.len() < 5_000);
-    assert!(rt; repo.disk.bytes().len() as u64 >= repo.journal.size());
-    assert!(rt; !repo.journal.is_broken());
-    let frame = frame_of(rt.alloc(), payload)?;
-    Ok(repo.journal.append(&mut repo.disk, &frame))
-}
-
-fn read<const N: usize>(rt: &impl Abort, repo: &mut Repository, at: u64) -> Option<[u8; N]> {
-    assert!(rt; N <= 64);
-    assert!(rt; repo.disk.bytes().len() as u64 >= repo.journal.size());
-    assert!(rt; at < 64 && repo.journal.size() >= at + N as u64);
-    let mut buf = [0; N];
-    repo.journal.read(&mut repo.disk, at, &mut buf).ok()?;
-    Some(buf)
-}
-
-// The calls of an append, as far as they come.
-fn calls_of_append(rt: &impl Abort, disk: &mut MemDisk, frame: &[u8], calls: u32) {
-    assert!(rt; disk.bytes().len() >= 17);
-    assert!(rt; disk.write_at(17, frame).is_ok());
-    if calls > 1 {
-        assert!(rt; disk.sync().is_ok());
-    }
-    if calls > 2 {
-        assert!(rt; disk.bytes().len() >= 17);
-        assert!(rt; disk.write_at(16, &[1]).is_ok());
-    }
-    if calls > 3 {
-        assert!(rt; disk.sync().is_ok());
-    }
-}
-
-// What a crash leaves with this fill, or where there is none what reads give.
-fn left(disk: MemDisk, fill: Option<u8>) -> MemDisk {
-    match fill {
-        Some(fill) => disk.crash(fill),
-        None => disk,
-    }
-}
-
-// The file has the record of `abc`, whose gate is open, or has no record. Else it is no journal.
-fn holds_abc(file: &[u8]) -> Option<bool> {
-    if file.starts_with(&WITH_ABC) {
-        return Some(true);
-    }
-    if file.starts_with(&FRESH[..16]) && file.len() > 16 && file[16] != 1 {
-        return Some(false);
-    }
-    None
-}
-
-fn init_in(alloc: Global) -> Result<MemDisk, Fail> {
-    let mut disk = MemDisk::new(alloc, 64, Vec::new(alloc))?;
-    init(&mut disk, 65_536)?;
-    Ok(disk)
-}
-
-fn init_again(disk: &mut MemDisk) -> Result<(), InitFault> {
-    init(disk, 65_536)
-}
-
-#[test]
-fn a_new_file_has_its_header(rt: HostRuntime) -> Result<(), Fail> {
-    let mut disk = init_in(rt.alloc())?;
-    assert_eq!(rt; disk.bytes(), FRESH.as_slice());
-    assert_eq!(rt; init_again(&mut disk), Err(InitFault::Exists { size: 17 }));
-    for fill in [None, Some(0x00), Some(0x01), Some(0x58)] {
-        let disk = init_in(rt.alloc())?;
-        assert_eq!(rt; left(disk, fill).bytes(), FRESH.as_slice());
-    }
-    Ok(())
-}
-
-// How far an append of `abc` comes before the disk stops, by calls of the disk: whether the file
-// has the record as it reads, and after a crash with each fill.
-#[test]
-fn a_crash_leaves_the_records_before_or_after(rt: HostRuntime) -> Result<(), Fail> {
-    let frame = frame_of(rt.alloc(), b"Babc")?;
-    // after the write of the record, its sync, the write of the gate, its sync
-    for (calls, has) in [
-        (1, [false, false, false, false]),
-        (2, [false, false, false, false]),
-        (3, [true, false, true, false]),
-        (4, [true, true, true, true]),
-    ] {
-        for (fill, has) in [None, Some(0x00), Some(0x01), Some(0x58)]
-            .iter()
-            .zip(has.iter())
-        {
-            let mut disk = new_repository(rt.alloc(), None)?.disk;
-            calls_of_append(&rt, &mut disk, &frame, calls);
-            let disk = left(disk, *fill);
-            assert_eq!(rt; holds_abc(disk.bytes()), Some(*has), "after {calls} calls");
-        }
-    }
-    Ok(())
-}
-
-#[test]
-fn an_append_makes_four_calls(rt: HostRuntime) -> Result<(), Fail> {
-    let mut repo = new_repository(rt.alloc(), None)?;
-    assert_eq!(rt; append(&rt, &mut repo, b"Babc")?, Ok(()));
-    assert_eq!(rt; repo.disk.bytes(), WITH_ABC.as_slice());
-    assert_eq!(rt; repo.disk.calls(CallKind::Write), 2);
-    assert_eq!(rt; repo.disk.calls(CallKind::Sync), 2);
-    assert_eq!(rt; repo.journal.size(), 26);
-    assert_eq!(rt; repo.journal.capacity(), 65_536);
-    assert_eq!(rt; repo.journal.opening(), AT_START);
-    assert_eq!(rt; read(&rt, &mut repo, 22), Some(*b"abc"));
-    Ok(())
-}
-
-fn records(
-    rt: &(impl Abort + Alloc<A = Global>),
-    repo: &mut Repository,
-) -> Result<Vec<Span>, Fail> {
-    assert!(rt; repo.disk.bytes().len() as u64 >= repo.journal.size());
-    Ok(repo.journal.records(rt.alloc(), &mut repo.disk)?)
-}
-
-#[test]
-fn records_are_listed_in_order(rt: HostRuntime) -> Result<(), Fail> {
-    let mut repo = new_repository(rt.alloc(), None)?;
-    for payload in ["Babc", "B", "Bde"] {
-        assert_eq!(rt; append(&rt, &mut repo, payload.as_bytes())?, Ok(()));
-    }
-    let spans = [
-        Span { at: 21, length: 4 },
-        Span { at: 30, length: 1 },
-        Span { at: 36, length: 3 },
-    ];
-    assert_eq!(rt; records(&rt, &mut repo)?.as_slice(), spans.as_slice());
-    Ok(())
-}
-
-// Each of the four calls fails once. Behind it a crash leaves the records before, or where the gate
-// may have been written, those or the new one.
-#[test]
-fn a_fault_breaks_the_journal(rt: HostRuntime) -> Result<(), Fail> {
-    for (kind, n, has) in [
-        (CallKind::Write, 0, [false, false, false, false]),
-        (CallKind::Sync, 0, [false, false, false, false]),
-        (CallKind::Write, 1, [false, false, true, false]),
-        (CallKind::Sync, 1, [true, false, true, false]),
-    ] {
-        for (fill, has) in [None, Some(0x00), Some(0x01), Some(0x58)]
-            .iter()
-            .zip(has.iter())
-        {
-            let mut repo = new_repository(rt.alloc(), Some((kind, n)))?;
-            assert_eq!(rt;
-                append(&rt, &mut repo, b"Babc")?,
-                Err(AppendFault::DiskFault)
-            );
-            assert!(rt; repo.journal.is_broken());
-            assert_eq!(rt; repo.disk.faults(), 1);
-            assert_eq!(rt; read(&rt, &mut repo, 0), Some(*b"BONSAI\x00\x01"));
-            let disk = left(repo.disk, *fill);
-            assert_eq!(rt; holds_abc(disk.bytes()), Some(*has), "{kind:?} {n}");
-        }
-    }
-    Ok(())
 }
 
 // The least capacity, 4,096 bytes.
@@ -235,20 +71,227 @@ fn small(alloc: Global) -> Result<Repository, Fail> {
     })
 }
 
+fn append(
+    rt: &(impl Abort + Alloc<A = Global>),
+    repo: &mut Repository,
+    payload: &[u8],
+) -> Result<Result<(), AppendFault>, AllocError> {
+    assert!(rt; payload.len() < 5_000);
+    let frame = frame_of(rt.alloc(), payload)?;
+    assert!(rt; repo.disk.bytes().len() as u64 >= repo.journal.size());
+    assert!(rt; !repo.journal.is_broken());
+    Ok(repo.journal.append(&mut repo.disk, &frame))
+}
+
+// The bytes at a place.
+fn read<const N: usize>(rt: &impl Abort, repo: &mut Repository, at: u64) -> Option<[u8; N]> {
+    assert!(rt; N <= 64);
+    assert!(rt; repo.disk.bytes().len() as u64 >= repo.journal.size());
+    assert!(rt; at < 64 && repo.journal.size() >= at + N as u64);
+    let mut buf = [0; N];
+    repo.journal.read(&mut repo.disk, at, &mut buf).ok()?;
+    Some(buf)
+}
+
+fn write_at(rt: &impl Abort, disk: &mut MemDisk, at: u64, bytes: &[u8]) {
+    assert!(rt; disk.bytes().len() as u64 >= at);
+    assert!(rt; disk.write_at(at, bytes).is_ok());
+}
+
+// The calls of an append, as far as they come.
+fn calls_of_append(rt: &impl Abort, disk: &mut MemDisk, frame: &[u8], calls: u32) {
+    write_at(rt, disk, 17, frame);
+    if calls > 1 {
+        assert!(rt; disk.sync().is_ok());
+    }
+    if calls > 2 {
+        write_at(rt, disk, 16, &[1]);
+    }
+    if calls > 3 {
+        assert!(rt; disk.sync().is_ok());
+    }
+}
+
+// What reads give, or a crash leaves that fills with this byte what isn't stable.
+const FILLS: [Option<u8>; 4] = [None, Some(0x00), Some(0x01), Some(0x58)];
+
+fn left(disk: MemDisk, fill: Option<u8>) -> MemDisk {
+    match fill {
+        Some(fill) => disk.crash(fill),
+        None => disk,
+    }
+}
+
+// `+` where the file has the record of `abc`, whose gate is open, and `-` where it has no record. Else it is no journal.
+fn mark_of(disk: &MemDisk) -> char {
+    let file = disk.bytes();
+    if file.starts_with(WITH_ABC) {
+        return '+';
+    }
+    if file.starts_with(HEADER) && file.len() > 16 && file[16] != 1 {
+        return '-';
+    }
+    '?'
+}
+
+fn init_in(alloc: Global) -> Result<MemDisk, Fail> {
+    let mut disk = MemDisk::new(alloc, 64, Vec::new(alloc))?;
+    init(&mut disk, 65_536)?;
+    Ok(disk)
+}
+
+fn init_again(alloc: Global, disk: &mut MemDisk) -> Result<String, Fail> {
+    let again = init(disk, 65_536);
+    Ok(format!(in alloc; "{again:?}")?)
+}
+
+#[test]
+fn a_new_file_has_its_header(rt: HostRuntime) -> Result<(), Fail> {
+    for fill in FILLS {
+        let disk = init_in(rt.alloc())?;
+        assert_eq!(rt; left(disk, fill).bytes(), FRESH);
+    }
+    let mut disk = init_in(rt.alloc())?;
+    let again = init_again(rt.alloc(), &mut disk)?;
+    same(&rt, again.as_str(), "Err(Exists { size: 17 })", "again");
+    Ok(())
+}
+
+// Whether the file has the record, by fills, where an append of `abc` comes so far.
+fn stopped_after(
+    rt: &(impl Abort + Alloc<A = Global>),
+    frame: &[u8],
+    calls: u32,
+) -> Result<String, AllocError> {
+    let mut told = String::new(rt.alloc());
+    for fill in FILLS {
+        let mut disk = new_repository(rt.alloc(), None)?.disk;
+        calls_of_append(rt, &mut disk, frame, calls);
+        told.push(mark_of(&left(disk, fill)))?;
+    }
+    Ok(told)
+}
+
+// How far an append of `abc` comes before the disk stops, by calls of the disk: whether the file
+// has the record as it reads, and after a crash with each fill.
+#[test]
+fn a_crash_leaves_the_records_before_or_after(rt: HostRuntime) -> Result<(), Fail> {
+    let frame = frame_of(rt.alloc(), b"Babc")?;
+    // after the write of the record, its sync, the write of the gate, its sync
+    for (calls, wanted) in [(1, "----"), (2, "----"), (3, "+-+-"), (4, "++++")] {
+        let told = stopped_after(&rt, &frame, calls)?;
+        same(&rt, told.as_str(), wanted, "calls that were made");
+    }
+    Ok(())
+}
+
+// The answer to an append, and the sizes of the journal and of the file then.
+fn appended(
+    rt: &(impl Abort + Alloc<A = Global>),
+    repo: &mut Repository,
+    payload: &[u8],
+) -> Result<String, Fail> {
+    let answer = append(rt, repo, payload)?;
+    let (size, length) = (repo.journal.size(), repo.disk.bytes().len());
+    Ok(format!(in rt.alloc(); "{answer:?} {size} {length}")?)
+}
+
+// How many writes and syncs there were.
+fn calls_made(disk: &MemDisk) -> (u64, u64) {
+    (disk.calls(CallKind::Write), disk.calls(CallKind::Sync))
+}
+
+#[test]
+fn an_append_makes_four_calls(rt: HostRuntime) -> Result<(), Fail> {
+    let mut repo = new_repository(rt.alloc(), None)?;
+    let told = appended(&rt, &mut repo, b"Babc")?;
+    same(&rt, told.as_str(), "Ok(()) 26 26", "an append");
+    assert_eq!(rt; repo.disk.bytes(), WITH_ABC);
+    assert_eq!(rt; calls_made(&repo.disk), (2, 2));
+    assert_eq!(rt;
+        (repo.journal.capacity(), repo.journal.opening()),
+        (65_536, AT_START)
+    );
+    assert_eq!(rt; read(&rt, &mut repo, 22), Some(*b"abc"));
+    Ok(())
+}
+
+// The places and lengths of the payloads.
+fn records(rt: &(impl Abort + Alloc<A = Global>), repo: &mut Repository) -> Result<String, Fail> {
+    assert!(rt; repo.disk.bytes().len() as u64 >= repo.journal.size());
+    let spans = repo.journal.records(rt.alloc(), &mut repo.disk)?;
+    let mut told = String::new(rt.alloc());
+    for span in &spans {
+        write!(&mut told, " {} {}", span.at, span.length)?;
+    }
+    Ok(told)
+}
+
+#[test]
+fn records_are_listed_in_order(rt: HostRuntime) -> Result<(), Fail> {
+    let mut repo = new_repository(rt.alloc(), None)?;
+    for payload in ["Babc", "B", "Bde"] {
+        assert!(rt; append(&rt, &mut repo, payload.as_bytes())?.is_ok());
+    }
+    let told = records(&rt, &mut repo)?;
+    same(&rt, told.as_str(), " 21 4 30 1 36 3", "places and lengths");
+    Ok(())
+}
+
+// What is told of an append of which one call fails. The journal is broken then, and read as before.
+fn broken(
+    rt: &(impl Abort + Alloc<A = Global>),
+    fails: (CallKind, u64),
+) -> Result<Repository, Fail> {
+    let mut repo = new_repository(rt.alloc(), Some(fails))?;
+    let told = appended(rt, &mut repo, b"Babc")?;
+    assert!(rt; told.as_str().starts_with("Err(DiskFault) 17 "));
+    assert!(rt; repo.journal.is_broken());
+    assert_eq!(rt; repo.disk.faults(), 1);
+    assert_eq!(rt; read(rt, &mut repo, 0), Some(*b"BONSAI\x00\x01"));
+    Ok(repo)
+}
+
+// Whether the file has the record, by fills, where this call of an append of `abc` fails.
+fn failed_at(
+    rt: &(impl Abort + Alloc<A = Global>),
+    fails: (CallKind, u64),
+) -> Result<String, Fail> {
+    let mut told = String::new(rt.alloc());
+    for fill in FILLS {
+        let repo = broken(rt, fails)?;
+        told.push(mark_of(&left(repo.disk, fill)))?;
+    }
+    Ok(told)
+}
+
+// Each of the four calls fails once. Behind it a crash leaves the records before, or where the gate
+// may have been written, those or the new one.
+#[test]
+fn a_fault_breaks_the_journal(rt: HostRuntime) -> Result<(), Fail> {
+    for (fails, wanted) in [
+        ((CallKind::Write, 0), "----"),
+        ((CallKind::Sync, 0), "----"),
+        ((CallKind::Write, 1), "--+-"),
+        ((CallKind::Sync, 1), "+-+-"),
+    ] {
+        let told = failed_at(&rt, fails)?;
+        same(&rt, told.as_str(), wanted, "a call that failed");
+    }
+    Ok(())
+}
+
 // It is filled to its last byte, and passed by one.
 #[test]
 fn a_record_fits_or_not(rt: HostRuntime) -> Result<(), Fail> {
-    for (len, full, size) in [(4_074, false, 4_096), (4_075, true, 17)] {
+    for (len, wanted) in [
+        (4_074, "Ok(()) 4096 4096"),
+        (4_075, "Err(Full { size: 17, length: 4075 }) 17 17"),
+    ] {
         let payload = vec![in rt.alloc(); 0x42; len]?;
         let mut repo = small(rt.alloc())?;
-        let answer = append(&rt, &mut repo, &payload)?;
-        let refusal = AppendFault::Full {
-            size: 17,
-            length: 4_075,
-        };
-        assert_eq!(rt; answer, if full { Err(refusal) } else { Ok(()) });
-        assert_eq!(rt; repo.journal.size(), size);
-        assert_eq!(rt; repo.disk.bytes().len() as u64, size);
+        let told = appended(&rt, &mut repo, &payload)?;
+        same(&rt, told.as_str(), wanted, "to the last byte");
     }
     Ok(())
 }

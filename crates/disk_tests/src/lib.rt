@@ -12,6 +12,8 @@ mod mem_disks;
 #[cfg(test)]
 mod openers;
 #[cfg(test)]
+mod rows;
+#[cfg(test)]
 mod scans;
 #[cfg(test)]
 mod streams;

@@ -1,173 +1,16 @@
-//! A disk in memory, called, made to fail and crashed.
+//! A disk in memory, called, made to fail and crashed. A call tells `+` where it is done and `-` where it fails, or what
+//! it gives in place of `+`.
+use crate::rows::{cut, same};
 use blob_disk::{CallKind, Disk, MemDisk};
 use std::alloc::{AllocError, Global};
+use std::process::Abort;
 use std::test::Fail;
 
-#[derive(Clone, Copy)]
-enum Act {
-    Write(u64, &'static [u8]),
-    Sync,
+fn write(disk: &mut MemDisk, at: u64, bytes: &[u8]) -> bool {
+    at <= disk.bytes().len() as u64 && disk.write_at(at, bytes).is_ok()
 }
 
-// Whether the call was done.
-fn try_act(disk: &mut MemDisk, act: Act) -> bool {
-    match act {
-        Act::Write(at, bytes) => {
-            at <= disk.bytes().len() as u64 && disk.write_at(at, bytes).is_ok()
-        }
-        Act::Sync => disk.sync().is_ok(),
-    }
-}
-
-// Which of the calls were done.
-fn try_acts(disk: &mut MemDisk, acts: &[Act; 3]) -> [bool; 3] {
-    let [first, second, third] = *acts;
-    let first = try_act(disk, first);
-    let second = try_act(disk, second);
-    [first, second, try_act(disk, third)]
-}
-
-// A disk that holds `abcdef` and has room for 8 bytes, with one call that is to fail.
-fn disk_with(alloc: Global, fails: Option<(CallKind, u64)>) -> Result<MemDisk, AllocError> {
-    let mut calls = Vec::new(alloc);
-    if let Some(call) = fails {
-        calls.push(call)?;
-    }
-    let file = Vec::from_slice(alloc, b"abcdef")?;
-    let room = (file.len() as u64).max(8);
-    MemDisk::holding(alloc, &file, room, calls)
-}
-
-// What a crash leaves where the bytes that were written hold a dot.
-fn crashed(disk: MemDisk) -> MemDisk {
-    disk.crash(b'.')
-}
-
-struct Row {
-    fails: Option<(CallKind, u64)>,
-    acts: [Act; 3],
-    done: [bool; 3],
-    reads: &'static [u8],
-    crashed: &'static [u8],
-}
-
-const ROWS: [Row; 7] = [
-    // a range that was written, over the middle and past the end
-    Row {
-        fails: None,
-        acts: [
-            Act::Write(2, b"XY"),
-            Act::Write(6, b"Z"),
-            Act::Write(7, b""),
-        ],
-        done: [true, true, true],
-        reads: b"abXYefZ",
-        crashed: b"ab..ef.",
-    },
-    // what was written before the last sync is stable
-    Row {
-        fails: None,
-        acts: [Act::Write(5, b"XYZ"), Act::Sync, Act::Write(0, b"Q")],
-        done: [true, true, true],
-        reads: b"QbcdeXYZ",
-        crashed: b".bcdeXYZ",
-    },
-    // a write that fails leaves what reads give, and counts as a write
-    Row {
-        fails: Some((CallKind::Write, 1)),
-        acts: [
-            Act::Write(4, b"X"),
-            Act::Write(0, b"QQQ"),
-            Act::Write(5, b"Y"),
-        ],
-        done: [true, false, true],
-        reads: b"abcdXY",
-        crashed: b"...d..",
-    },
-    // a sync that fails makes nothing stable
-    Row {
-        fails: Some((CallKind::Sync, 0)),
-        acts: [Act::Write(1, b"XY"), Act::Sync, Act::Write(6, b"Z")],
-        done: [true, false, true],
-        reads: b"aXYdefZ",
-        crashed: b"a..def.",
-    },
-    // the second sync of two
-    Row {
-        fails: Some((CallKind::Sync, 1)),
-        acts: [Act::Sync, Act::Write(1, b"X"), Act::Sync],
-        done: [true, true, false],
-        reads: b"aXcdef",
-        crashed: b"a.cdef",
-    },
-    // the room is filled, and a write past it fails
-    Row {
-        fails: None,
-        acts: [Act::Write(6, b"YZ"), Act::Sync, Act::Write(7, b"PQ")],
-        done: [true, true, false],
-        reads: b"abcdefYZ",
-        crashed: b"abcdefY.",
-    },
-    // a failing read fails no write
-    Row {
-        fails: Some((CallKind::Read, 0)),
-        acts: [
-            Act::Write(0, b"X"),
-            Act::Write(1, b"Y"),
-            Act::Write(2, b"Z"),
-        ],
-        done: [true, true, true],
-        reads: b"XYZdef",
-        crashed: b"...def",
-    },
-];
-
-#[test]
-fn writes_and_crashes(rt: HostRuntime) -> Result<(), Fail> {
-    for (number, row) in ROWS.iter().enumerate() {
-        let mut disk = disk_with(rt.alloc(), row.fails)?;
-        assert_eq!(rt; try_acts(&mut disk, &row.acts), row.done, "row {number}");
-        assert_eq!(rt; disk.bytes(), row.reads, "row {number}");
-        let failed = row.done.contains(&false);
-        assert_eq!(rt; disk.faults(), u64::from(failed), "row {number}");
-        let left = crashed(disk);
-        assert_eq!(rt; left.bytes(), row.crashed, "row {number}");
-        assert_eq!(rt; left.faults(), 0);
-        assert_eq!(rt; left.calls(CallKind::Write), 0);
-    }
-    Ok(())
-}
-
-#[test]
-fn a_record_has_its_room(rt: HostRuntime) -> Result<(), Fail> {
-    let alloc = rt.alloc();
-    let acts = [
-        (Act::Write(0, b"abc"), true, 1),
-        // five written bytes are too many
-        (Act::Write(3, b"de"), false, 1),
-        (Act::Write(3, b"d"), true, 2),
-        (Act::Sync, true, 3),
-        // a fourth turn is one too many
-        (Act::Sync, false, 3),
-    ];
-    let mut disk = MemDisk::recording(alloc, 16, 3, 4, Vec::new(alloc))?;
-    for (act, done, moment) in acts {
-        assert_eq!(rt; try_act(&mut disk, act), done);
-        assert_eq!(rt; disk.moment(), moment);
-    }
-    assert_eq!(rt; disk.bytes(), b"abcd".as_slice());
-    assert_eq!(rt; disk.faults(), 2);
-    assert_eq!(rt; disk.calls(CallKind::Write), 3);
-    assert_eq!(rt; disk.calls(CallKind::Sync), 2);
-    Ok(())
-}
-
-// Through the bound.
-fn length_of<D: Disk>(disk: &mut D) -> Option<u64> {
-    disk.size().ok()
-}
-
-fn bytes_at_1(disk: &mut MemDisk) -> Option<[u8; 2]> {
+fn read(disk: &mut MemDisk) -> Option<[u8; 2]> {
     if disk.bytes().len() < 3 {
         return None;
     }
@@ -176,21 +19,149 @@ fn bytes_at_1(disk: &mut MemDisk) -> Option<[u8; 2]> {
     Some(buf)
 }
 
-#[test]
-fn the_nth_size_fails(rt: HostRuntime) -> Result<(), Fail> {
-    let mut disk = disk_with(rt.alloc(), Some((CallKind::Size, 1)))?;
-    for (size, faults) in [(Some(6), 0), (None, 1), (Some(6), 1)] {
-        assert_eq!(rt; length_of(&mut disk), size);
-        assert_eq!(rt; disk.faults(), faults);
+// Through the bound.
+fn length_of<D: Disk>(disk: &mut D) -> Option<u64> {
+    disk.size().ok()
+}
+
+fn put_done(out: &mut String, is_done: bool) -> Result<(), AllocError> {
+    out.push(if is_done { '+' } else { '-' })
+}
+
+fn put_read(out: &mut String, bytes: Option<[u8; 2]>) -> Result<(), AllocError> {
+    match bytes {
+        Some([first, second]) => {
+            out.push(char::from(first))?;
+            out.push(char::from(second))
+        }
+        None => out.push('-'),
+    }
+}
+
+fn put_size(out: &mut String, size: Option<u64>) -> Result<(), Fail> {
+    match size {
+        Some(size) => Ok(write!(out, "{size}")?),
+        None => Ok(out.push('-')?),
+    }
+}
+
+// Does `sync`, `read` of the two bytes at 1, `size`, `moment` (which takes no call), or a write as `2:XY`.
+fn put_act(out: &mut String, disk: &mut MemDisk, act: &str) -> Result<(), Fail> {
+    match act {
+        "sync" => Ok(put_done(out, disk.sync().is_ok())?),
+        "read" => Ok(put_read(out, read(disk))?),
+        "size" => put_size(out, length_of(disk)),
+        "moment" => put_size(out, Some(disk.moment())),
+        _ => put_write(out, disk, act),
+    }
+}
+
+fn put_write(out: &mut String, disk: &mut MemDisk, act: &str) -> Result<(), Fail> {
+    let (at, bytes) = act.split_once(":").ok_or("a write")?;
+    let done = write(disk, at.parse()?, bytes.as_bytes());
+    Ok(put_done(out, done)?)
+}
+
+fn put_acts(out: &mut String, disk: &mut MemDisk, acts: &str) -> Result<(), Fail> {
+    for act in acts.split(' ') {
+        put_act(out, disk, act)?;
     }
     Ok(())
 }
 
-#[test]
-fn the_nth_read_fails(rt: HostRuntime) -> Result<(), Fail> {
-    let mut disk = disk_with(rt.alloc(), Some((CallKind::Read, 1)))?;
-    for read in [Some(*b"bc"), None, Some(*b"bc")] {
-        assert_eq!(rt; bytes_at_1(&mut disk), read);
+fn put_bytes(out: &mut String, bytes: &[u8]) -> Result<(), AllocError> {
+    out.push(' ')?;
+    for byte in bytes {
+        out.push(char::from(*byte))?;
     }
+    Ok(())
+}
+
+// The bytes, and how many calls failed, were writes and were syncs.
+fn put_disk(out: &mut String, disk: &MemDisk) -> Result<(), Fail> {
+    put_bytes(out, disk.bytes())?;
+    let (writes, syncs) = (disk.calls(CallKind::Write), disk.calls(CallKind::Sync));
+    Ok(write!(out, " {} {writes} {syncs}", disk.faults())?)
+}
+
+// What the acts tell, the disk then, and what a crash leaves where the bytes that were written hold a dot.
+fn told(alloc: Global, mut disk: MemDisk, acts: &str) -> Result<String, Fail> {
+    let mut out = String::new(alloc);
+    put_acts(&mut out, &mut disk, acts)?;
+    put_disk(&mut out, &disk)?;
+    let left = disk.crash(b'.');
+    put_disk(&mut out, &left)?;
+    Ok(out)
+}
+
+fn kind_of(word: &str) -> CallKind {
+    match word {
+        "write" => CallKind::Write,
+        "sync" => CallKind::Sync,
+        "size" => CallKind::Size,
+        _ => CallKind::Read,
+    }
+}
+
+// The call `KIND N`, or none for `-`.
+fn failing(alloc: Global, fails: &str) -> Result<Vec<(CallKind, u64)>, Fail> {
+    let mut calls = Vec::new(alloc);
+    if let Some((word, number)) = fails.split_once(" ") {
+        calls.push((kind_of(word), number.parse()?))?;
+    }
+    Ok(calls)
+}
+
+// A disk that holds `abcdef` and has room for 8 bytes, with one call that is to fail.
+fn disk_with(alloc: Global, fails: &str) -> Result<MemDisk, Fail> {
+    let failing = failing(alloc, fails)?;
+    Ok(MemDisk::holding(alloc, b"abcdef", 8, failing)?)
+}
+
+// A call that is to fail, the acts, and what is told of them: the disk then, and after a crash, each with how many calls
+// failed, were writes and were syncs.
+//
+// In turn: a range that was written, over the middle and past the end; what was written before the last sync is stable; a
+// write that fails leaves what reads give, and counts as a write; a sync that fails makes nothing stable; the second sync
+// of two; the room is filled, and a write past it fails; a failing read fails no write; the second of three calls fails.
+const ROWS: &str = "\
+- | 2:XY 6:Z 7: | +++ abXYefZ 0 3 0 ab..ef. 0 0 0
+- | 5:XYZ sync 0:Q | +++ QbcdeXYZ 0 2 1 .bcdeXYZ 0 0 0
+write 1 | 4:X 0:QQQ 5:Y | +-+ abcdXY 1 3 0 ...d.. 0 0 0
+sync 0 | 1:XY sync 6:Z | +-+ aXYdefZ 1 2 1 a..def. 0 0 0
+sync 1 | sync 1:X sync | ++- aXcdef 1 1 2 a.cdef 0 0 0
+- | 6:YZ sync 7:PQ | ++- abcdefYZ 1 2 1 abcdefY. 0 0 0
+read 0 | 0:X 1:Y 2:Z | +++ XYZdef 0 3 0 ...def 0 0 0
+size 1 | size size size | 6-6 abcdef 1 0 0 abcdef 0 0 0
+read 1 | read read read | bc-bc abcdef 1 0 0 abcdef 0 0 0";
+
+fn check(rt: &impl Abort, alloc: Global, line: &str) -> Result<(), Fail> {
+    let (fails, rest) = cut(line);
+    let (acts, wanted) = cut(rest);
+    let disk = disk_with(alloc, fails)?;
+    let told = told(alloc, disk, acts)?;
+    same(rt, told.as_str(), wanted, line);
+    Ok(())
+}
+
+#[test]
+fn calls_and_crashes(rt: HostRuntime) -> Result<(), Fail> {
+    for line in ROWS.lines() {
+        check(&rt, rt.alloc(), line)?;
+    }
+    Ok(())
+}
+
+// Five written bytes are too many, and so is a fourth turn.
+const RECORDED: &str = "0:abc moment 3:de moment 3:d moment sync moment sync moment";
+
+#[test]
+fn a_record_has_its_room(rt: HostRuntime) -> Result<(), Fail> {
+    let alloc = rt.alloc();
+    let mut disk = MemDisk::recording(alloc, 16, 3, 4, Vec::new(alloc))?;
+    let mut out = String::new(alloc);
+    put_acts(&mut out, &mut disk, RECORDED)?;
+    put_disk(&mut out, &disk)?;
+    same(&rt, out.as_str(), "+1-1+2+3-3 abcd 2 3 2", RECORDED);
     Ok(())
 }

@@ -1,64 +1,28 @@
 //! Files gone over, gate by gate.
+use crate::rows::same;
 use blob_disk::{CallKind, MemDisk};
 use repo_journal::{Scanner, Span, Step};
-use std::alloc::Global;
+use std::alloc::{AllocError, Global};
 use std::process::Abort;
 use std::test::Fail;
 
-const HEADER: [u8; 16] = *b"BONSAI\x00\x01\x00\x00\x00\x00\x00\x01\x00\x00";
+const HEADER: &[u8] = b"BONSAI\x00\x01\x00\x00\x00\x00\x00\x01\x00\x00";
 
-// What stands behind the header, and the steps over it.
-struct Row {
-    file: &'static [u8],
-    steps: &'static [Step],
-}
-
-const ABC: Step = Step::Record(Span { at: 21, length: 4 });
-
-const ROWS: [Row; 9] = [
-    Row {
-        file: b"",
-        steps: &[Step::Bad { at: 16 }],
-    },
-    Row {
-        file: b"\x00",
-        steps: &[Step::Closed],
-    },
-    // a gate that is neither open nor 0 is closed
-    Row {
-        file: b"\x02\x00\x00\x00\x04Babc\x00",
-        steps: &[Step::Closed],
-    },
-    Row {
-        file: b"\x01\x00\x00\x00\x04Babc\x00",
-        steps: &[ABC, Step::Closed],
-    },
-    // what follows a closed gate means nothing
-    Row {
-        file: b"\x01\x00\x00\x00\x04Babc\x00\x01",
-        steps: &[ABC, Step::Closed],
-    },
-    // no gate stands behind the record
-    Row {
-        file: b"\x01\x00\x00\x00\x04Babc",
-        steps: &[ABC, Step::Bad { at: 25 }],
-    },
-    // the payload is cut off
-    Row {
-        file: b"\x01\x00\x00\x00\x05Babc",
-        steps: &[Step::Bad { at: 16 }],
-    },
-    // the length is cut off
-    Row {
-        file: b"\x01\x00\x00\x00",
-        steps: &[Step::Bad { at: 16 }],
-    },
-    // an empty payload
-    Row {
-        file: b"\x01\x00\x00\x00\x00\x00",
-        steps: &[Step::Record(Span { at: 21, length: 0 }), Step::Closed],
-    },
-];
+// What stands behind the header, and the steps over it. A digit stands for a byte of its value, and a letter for itself.
+// A step is a record with its place and length, `.` where the gate is closed, or where the file is bad.
+//
+// In turn: no gate; a closed one; a gate that is neither open nor 0 is closed; a record; what follows a closed gate means
+// nothing; no gate stands behind the record; the payload is cut off; the length is cut off; an empty payload.
+const ROWS: &str = "\
+| !16
+0 | .
+20004Babc0 | .
+10004Babc0 | 21+4 .
+10004Babc01 | 21+4 .
+10004Babc | 21+4 !25
+10005Babc | !16
+1000 | !16
+100000 | 21+0 .";
 
 #[derive(Drop)]
 struct Scan {
@@ -68,7 +32,7 @@ struct Scan {
 
 // A scan of a file of this header and these bytes.
 fn scan_of(alloc: Global, bytes: &[u8]) -> Result<Scan, Fail> {
-    let mut file = Vec::from_slice(alloc, &HEADER)?;
+    let mut file = Vec::from_slice(alloc, HEADER)?;
     file.extend_from_slice(bytes)?;
     let size = file.len() as u64;
     Ok(Scan {
@@ -90,27 +54,70 @@ fn first_byte(rt: &impl Abort, scan: &mut Scan, span: Span) -> Option<u8> {
     scan.scanner.held(span).first().copied()
 }
 
-#[test]
-fn each_gate_is_told(rt: HostRuntime) -> Result<(), Fail> {
-    for (number, row) in ROWS.iter().enumerate() {
-        let mut scan = scan_of(rt.alloc(), row.file)?;
-        for step in row.steps {
-            assert_eq!(rt; next(&rt, &mut scan), Some(*step), "row {number}");
+fn put_step(out: &mut String, step: Option<Step>) -> Result<(), Fail> {
+    match step {
+        Some(Step::Record(span)) => Ok(write!(out, " {}+{}", span.at, span.length)?),
+        Some(Step::Closed) => Ok(out.push_str(" .")?),
+        Some(Step::Bad { at }) => Ok(write!(out, " !{at}")?),
+        None => Err(Fail::from("a fault")),
+    }
+}
+
+// Adds the steps up to the one that ends them.
+fn put_steps(rt: &impl Abort, scan: &mut Scan, out: &mut String) -> Result<(), Fail> {
+    for _ in 0..10 {
+        let step = next(rt, scan);
+        put_step(out, step)?;
+        if !matches!(step, Some(Step::Record(_))) {
+            break;
         }
     }
     Ok(())
 }
 
-// So many records, each of which has a payload of this length.
-fn records(alloc: Global, count: u32, len: u32) -> Result<Vec<u8>, Fail> {
-    let payload = vec![in alloc; b'B'; len as usize]?;
-    let mut bytes = Vec::new(alloc);
-    for _ in 0..count {
-        bytes.push(1)?;
-        bytes.extend_from_slice(&len.to_be_bytes())?;
-        bytes.extend_from_slice(&payload)?;
+// The bytes that the digits and letters of a row stand for.
+fn put_file(out: &mut Vec<u8>, marks: &str) -> Result<(), AllocError> {
+    for mark in marks.as_bytes() {
+        let value = mark.wrapping_sub(b'0');
+        out.push(if value < 10 { value } else { *mark })?;
     }
-    bytes.push(0)?;
+    Ok(())
+}
+
+fn steps_of(rt: &impl Abort, alloc: Global, marks: &str) -> Result<String, Fail> {
+    let mut bytes = Vec::new(alloc);
+    put_file(&mut bytes, marks)?;
+    let mut scan = scan_of(alloc, &bytes)?;
+    let mut told = String::new(alloc);
+    put_steps(rt, &mut scan, &mut told)?;
+    Ok(told)
+}
+
+#[test]
+fn each_gate_is_told(rt: HostRuntime) -> Result<(), Fail> {
+    for line in ROWS.lines() {
+        let (marks, wanted) = line.split_once("|").ok_or("a row")?;
+        let told = steps_of(&rt, rt.alloc(), marks.trim_end())?;
+        same(&rt, told.as_str(), wanted, line);
+    }
+    Ok(())
+}
+
+// So many records, each of which has a payload of this length.
+fn put_records(out: &mut Vec<u8>, count: u32, payload: &[u8]) -> Result<(), AllocError> {
+    let length = payload.len().min(1_000_000) as u32;
+    for _ in 0..count {
+        out.push(1)?;
+        out.extend_from_slice(&length.to_be_bytes())?;
+        out.extend_from_slice(payload)?;
+    }
+    Ok(out.push(0)?)
+}
+
+fn records(alloc: Global, count: u32, len: usize) -> Result<Vec<u8>, AllocError> {
+    let payload = vec![in alloc; b'B'; len]?;
+    let mut bytes = Vec::new(alloc);
+    put_records(&mut bytes, count, &payload)?;
     Ok(bytes)
 }
 

@@ -1,91 +1,74 @@
 //! Sources, sinks and links over memory.
+use crate::rows::{cut, numbers, same};
 use ports::{Link, MemLink, MemSink, MemSource, Pair};
 use std::alloc::{AllocError, Global};
 use std::test::Fail;
 
-// A link whose reads are those of a list of calls that may fail.
-struct Row {
+// How many bytes a read gives at most, the reads that fail, the room, the writes that fail, what is written, and what each
+// of four rounds reads, with `!` for a read that fails, `.` for the end, and `-` where the write that follows fails. The
+// input is `abcde`, and each round writes `xy`. In the fourth row the third write is past the room.
+const ROWS: &str = "\
+9 |  | 8 |  | xyxyxyxy | abcde|.|.|.|
+2 |  | 8 |  | xyxyxyxy | ab|cd|e|.|
+3 | 02 | 8 |  | xyxyxyxy | !|abc|!|de|
+9 |  | 5 |  | xyxy | abcde|.|.-|.-|
+9 |  | 8 | 1 | xyxyxy | abcde|.-|.|.|
+1 | 1 | 0 |  |  | a-|!-|b-|c-|";
+
+/// A link whose calls may fail.
+#[derive(Clone, Copy)]
+struct Row<'a> {
     piece: usize,
-    reads: &'static [u64],
+    reads: &'a str,
     room: usize,
-    writes: &'static [u64],
-    // what each of four rounds reads, with `!` for a read that fails, `.` for the end, and `-` where
-    // the write that follows fails
-    told: &'static str,
-    written: &'static str,
+    writes: &'a str,
+    written: &'a str,
+    told: &'a str,
 }
 
-// The input is `abcde`, and each round writes `xy`.
-const ROWS: [Row; 6] = [
-    Row {
-        piece: 9,
-        reads: &[],
-        room: 8,
-        writes: &[],
-        told: "abcde|.|.|.|",
-        written: "xyxyxyxy",
-    },
-    Row {
-        piece: 2,
-        reads: &[],
-        room: 8,
-        writes: &[],
-        told: "ab|cd|e|.|",
-        written: "xyxyxyxy",
-    },
-    Row {
-        piece: 3,
-        reads: &[0, 2],
-        room: 8,
-        writes: &[],
-        told: "!|abc|!|de|",
-        written: "xyxyxyxy",
-    },
-    // the third write is past the room
-    Row {
-        piece: 9,
-        reads: &[],
-        room: 5,
-        writes: &[],
-        told: "abcde|.|.-|.-|",
-        written: "xyxy",
-    },
-    Row {
-        piece: 9,
-        reads: &[],
-        room: 8,
-        writes: &[1],
-        told: "abcde|.-|.|.|",
-        written: "xyxyxy",
-    },
-    Row {
-        piece: 1,
-        reads: &[1],
-        room: 0,
-        writes: &[],
-        told: "a-|!-|b-|c-|",
-        written: "",
-    },
-];
+fn row_of(line: &str) -> Result<Row, Fail> {
+    let (piece, rest) = cut(line);
+    let (reads, rest) = cut(rest);
+    let (room, rest) = cut(rest);
+    let (writes, rest) = cut(rest);
+    let (written, told) = cut(rest);
+    Ok(Row {
+        piece: piece.parse::<usize>()?.max(1),
+        reads,
+        room: room.parse()?,
+        writes,
+        written,
+        told,
+    })
+}
+
+fn put_read(out: &mut String, bytes: &[u8]) -> Result<(), AllocError> {
+    if bytes.is_empty() {
+        return Ok(out.push('.')?);
+    }
+    for byte in bytes {
+        out.push(char::from(*byte))?;
+    }
+    Ok(())
+}
+
+fn put_round<L: Link>(out: &mut String, link: &mut L) -> Result<(), AllocError> {
+    let mut buf = [0; 9];
+    match link.read(&mut buf) {
+        Err(_) => out.push('!')?,
+        Ok(count) => put_read(out, buf.get(..count).unwrap_or(&[]))?,
+    }
+    if link.write(b"xy").is_err() {
+        out.push('-')?;
+    }
+    Ok(out.push('|')?)
+}
 
 // What the rounds give, through the bound.
 fn rounds<L: Link>(alloc: Global, link: &mut L) -> Result<String, AllocError> {
     let mut told = String::new(alloc);
     for _ in 0..4 {
-        let mut buf = [0; 9];
-        match link.read(&mut buf) {
-            Err(_) => told.push('!')?,
-            Ok(0) => told.push('.')?,
-            Ok(count) => {
-                for byte in buf.iter().take(count) {
-                    told.push(char::from(*byte))?;
-                }
-            }
-        }
-        if link.write(b"xy").is_err() {
-            told.push('-')?;
-        }
-        told.push('|')?;
+        put_round(&mut told, link)?;
     }
     Ok(told)
 }
@@ -94,40 +77,48 @@ fn input(alloc: Global) -> Result<Vec<u8>, AllocError> {
     Vec::from_slice(alloc, b"abcde")
 }
 
-fn calls(alloc: Global, numbers: &[u64]) -> Result<Vec<u64>, AllocError> {
-    Vec::from_slice(alloc, numbers)
+fn link_of(alloc: Global, row: &Row) -> Result<MemLink, AllocError> {
+    let reads = numbers(alloc, row.reads)?;
+    let writes = numbers(alloc, row.writes)?;
+    MemLink::new(
+        alloc,
+        input(alloc)?,
+        row.piece.max(1),
+        row.room,
+        reads,
+        writes,
+    )
 }
 
 #[test]
 fn links_tell_what_they_hold_and_fail_as_told(rt: HostRuntime) -> Result<(), Fail> {
-    let alloc = rt.alloc();
-    for (number, row) in ROWS.iter().enumerate() {
-        let reads = calls(alloc, row.reads)?;
-        let writes = calls(alloc, row.writes)?;
-        let piece = row.piece.max(1);
-        let mut link = MemLink::new(alloc, input(alloc)?, piece, row.room, reads, writes)?;
-        assert_eq!(rt;
-            rounds(alloc, &mut link)?.as_str(),
-            row.told,
-            "row {number}"
-        );
-        assert_eq!(rt; link.written(), row.written.as_bytes(), "row {number}");
+    for line in ROWS.lines() {
+        let row = row_of(line)?;
+        let mut link = link_of(rt.alloc(), &row)?;
+        let told = rounds(rt.alloc(), &mut link)?;
+        same(&rt, told.as_str(), row.told, line);
+        same(&rt, str::from_utf8(link.written())?, row.written, line);
     }
     Ok(())
 }
 
+fn source_of(alloc: Global, row: &Row) -> Result<MemSource, AllocError> {
+    let reads = numbers(alloc, row.reads)?;
+    Ok(MemSource::new(input(alloc)?, row.piece.max(1), reads))
+}
+
+fn sink_of(alloc: Global, row: &Row) -> Result<MemSink, AllocError> {
+    MemSink::new(alloc, row.room, numbers(alloc, row.writes)?)
+}
+
 #[test]
 fn a_source_and_a_sink_are_a_link(rt: HostRuntime) -> Result<(), Fail> {
-    let alloc = rt.alloc();
-    for (number, row) in ROWS.iter().enumerate() {
-        let source = MemSource::new(input(alloc)?, row.piece.max(1), calls(alloc, row.reads)?);
-        let sink = MemSink::new(alloc, row.room, calls(alloc, row.writes)?)?;
-        let mut link = Pair::new(source, sink);
-        assert_eq!(rt;
-            rounds(alloc, &mut link)?.as_str(),
-            row.told,
-            "row {number}"
-        );
+    for line in ROWS.lines() {
+        let row = row_of(line)?;
+        let source = source_of(rt.alloc(), &row)?;
+        let mut link = Pair::new(source, sink_of(rt.alloc(), &row)?);
+        let told = rounds(rt.alloc(), &mut link)?;
+        same(&rt, told.as_str(), row.told, line);
     }
     Ok(())
 }

@@ -1,5 +1,5 @@
 -- The lines that the program writes.
---     report_text report      the line;  counts_text counts      that of a repository's counts
+--     report_text report      the line;  counts_text counts      that of a repository's counts;  served_text connections entries      that of what was served
 --     status_of report      the status of a run that is reported so
 --     Reports report status written kept before after      the line is written, or a front of it where the count of faults rose, which is the status where nothing else is wrong
 use Rattle.std.specs.Prelude.{◌≡◌, ◌⊎◌, ℕ, List, ◌++◌, codes, decimal, Option}
@@ -17,9 +17,13 @@ counts_text counts =
     codes "entries " ++ (decimal counts.entries ++ (codes " contents " ++ (decimal counts.contents ++ (codes " changesets " ++ (decimal counts.changesets
     ++ (codes " bookmarks " ++ (decimal counts.bookmarks ++ (codes " size " ++ (decimal counts.size ++ codes "\n")))))))))
 
+abbrev pub served_text : (connections entries : ℕ) → List ℕ
+served_text connections entries = codes "served " ++ (decimal connections ++ (codes " entries " ++ (decimal entries ++ codes "\n")))
+
 abbrev pub report_text : Report → List ℕ
 report_text (report.Ready capacity) = codes "ready " ++ (decimal capacity ++ codes "\n")
 report_text (report.Counted counts) = counts_text counts
+report_text (report.Served connections entries) = served_text connections entries
 report_text report.Help = HELP.now
 report_text report.Version = VERSION.now
 report_text report.Usage = USAGE.now
@@ -33,6 +37,7 @@ report_text report.StreamFault = codes "stream fault\n"
 abbrev pub status_of : Report → Status
 status_of (report.Ready capacity) = Done
 status_of (report.Counted counts) = Done
+status_of (report.Served connections entries) = Done
 status_of report.Help = Done
 status_of report.Version = Done
 status_of report.Usage = Usage

@@ -3,7 +3,7 @@ ghost use Rattle.std.specs.Prelude.{◌≡◌, ◌++◌, codes, decimal, map, On
 ghost use Rattle.std.specs.List.{concat};
 ghost use Rattle.ports.specs.Faults.{Counts as FaultCounts};
 ghost use Rattle.ports.specs.Streams.{Puts, PutsFront};
-ghost use Rattle.file_commands.specs.Reports.{Reports, counts_text, report_text, status_of};
+ghost use Rattle.file_commands.specs.Reports.{Reports, counts_text, report_text, served_text, status_of};
 
 use crate::status::Status;
 use itoa::Buffer;
@@ -18,6 +18,8 @@ pub enum Report {
     Ready { capacity: u64 },
     /// How much a repository has.
     Counted(Counts),
+    /// Connections were served, and the repository has this many stored entries since.
+    Served { connections: u64, entries: u64 },
     /// The words ask for help.
     Help,
     /// The words ask for the version.
@@ -44,9 +46,11 @@ impl Report {
         ensures { result ≡ status_of self.now }
     {
         match self {
-            Report::Ready { .. } | Report::Counted(_) | Report::Help | Report::Version => {
-                Status::Done
-            }
+            Report::Ready { .. }
+            | Report::Counted(_)
+            | Report::Served { .. }
+            | Report::Help
+            | Report::Version => Status::Done,
             Report::Usage => Status::Usage,
             Report::DiskFault => Status::DiskFault,
             Report::NotARepository | Report::Damaged { .. } => Status::BadFile,
@@ -66,6 +70,10 @@ impl Report {
         match self {
             Report::Ready { capacity } => write_number(b"ready ", *capacity, link),
             Report::Counted(counts) => write_counts(counts, link),
+            Report::Served {
+                connections,
+                entries,
+            } => write_served(*connections, *entries, link),
             Report::Help => link.write(HELP.as_bytes()),
             Report::Version => link.write(VERSION.as_bytes()),
             Report::Usage => link.write(USAGE.as_bytes()),
@@ -89,6 +97,22 @@ fn write_number<L: Link>(text: &[u8], number: u64, link: &mut L) -> Result<(), F
     let mut digits = Buffer::new();
     let number = digits.format(number).as_bytes();
     write_pieces(&[text, number, b"\n"], link)
+}
+
+// Writes the line of what was served.
+fn write_served<L: Link>(connections: u64, entries: u64, link: &mut L) -> Result<(), Failed>
+    ensures ok { OnOk result (Puts (served_text connections entries) (L.written link.old) (L.written link.new)) }
+    ensures err { OnErr result (PutsFront (served_text connections entries) (L.written link.old) (L.written link.new)) }
+    ensures input { L.rest link.new ≡ L.rest link.old }
+    ensures faults { FaultCounts (L.faults link.old) (L.faults link.new) (is_err result) }
+{
+    let [mut served, mut stored] = [Buffer::new(); 2];
+    let connections = served.format(connections).as_bytes();
+    let entries = stored.format(entries).as_bytes();
+    write_pieces(
+        &[b"served ", connections, b" entries ", entries, b"\n"],
+        link,
+    )
 }
 
 // Writes the line of a repository's counts.

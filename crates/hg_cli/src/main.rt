@@ -1,11 +1,14 @@
 //! The program: `hg_cli init FILE CAP` makes a repository in a file, `hg_cli session FILE` serves one HTTP connection on
-//! it over standard input and output, and `hg_cli fsck FILE` opens it and counts what it holds.
+//! it over standard input and output, `hg_cli serve FILE ADDR LANES DERIVERS CONNECTIONS` serves connections at an address,
+//! and `hg_cli fsck FILE` opens it and counts what it holds.
 #![tactic(auto)]
 
 use command_line::{refuse_words, run};
 use file_disk::FileOpener;
-use net_ports::{ReaderSource, WriterSink};
-use ports::Pair;
+use net_ports::{ReaderSource, TcpAccept, WriterSink};
+use ports::{NoGate, Pair};
+use program_words::{Command, read_words};
+use std::alloc::Global;
 use std::process::ExitCode;
 use std::{env, io};
 
@@ -18,13 +21,45 @@ fn words(rt: &HostRuntime) -> io::Result<Vec<String>> {
     Ok(words)
 }
 
+// The address that the words are to serve at.
+fn serve_address<'a>(alloc: Global, words: &'a [String]) -> Option<&'a str> {
+    match read_words(alloc, words) {
+        Ok(Command::Serve { address, .. }) => Some(address),
+        _ => None,
+    }
+}
+
+// Listens there, and says on standard error at which address and port.
+fn listen(rt: &HostRuntime, address: &str) -> io::Result<TcpAccept> {
+    let accept = TcpAccept::bind(rt, address)?;
+    eprintln!(rt; "listening at {}", accept.local_addr()?)?;
+    Ok(accept)
+}
+
+// What connections come from. Words that serve none listen nowhere.
+fn accept_for(rt: &HostRuntime, words: &[String]) -> TcpAccept {
+    let Some(address) = serve_address(rt.alloc(), words) else {
+        return TcpAccept::absent();
+    };
+    match listen(rt, address) {
+        Ok(accept) => accept,
+        Err(error) => {
+            // where that can't be said either, the status alone says it
+            let _ = eprintln!(rt; "can't listen at {address}: {error}");
+            TcpAccept::absent()
+        }
+    }
+}
+
 fn main(rt: HostRuntime) -> ExitCode {
     let mut link = Pair::new(ReaderSource::new(rt.stdin()), WriterSink::new(rt.stdout()));
     let alloc = rt.alloc();
     let status = match words(&rt) {
         Ok(words) => {
-            let mut opener = FileOpener::new(rt);
-            run(alloc, words.as_slice(), &mut link, &mut opener).status
+            let accept = accept_for(&rt, words.as_slice());
+            let mut opener = FileOpener::new(&rt);
+            let words = words.as_slice();
+            run(&rt, alloc, words, &mut link, &mut opener, accept, &NoGate).status
         }
         Err(error) => refuse_words(error.kind(), &mut link),
     };

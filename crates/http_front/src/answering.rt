@@ -27,7 +27,7 @@ fn answer_call<T: Seat>(
     ensures answers { AnswersFor T.replies (T.header seat.old) (T.number seat.old) (T.front seat.old) (call_seen call.now) form.close form.head_only buffer.new (T.front seat.new) }
     ensures header { T.header seat.new ≡ T.header seat.old }
     ensures number { T.number seat.new ≡ T.number seat.old }
-    ensures opening { T.opening seat.new ≡ T.opening seat.old }
+    ensures home { T.home seat.new ≡ T.home seat.old }
 {
     match call {
         Call::PutContent(bytes) => change(alloc, seat, buffer, &Ask::PutContent(bytes), form),
@@ -66,7 +66,7 @@ pub(crate) fn answer<T: Seat>(
     ensures answers { Answers T.replies (T.header seat.old) (T.number seat.old) (T.front seat.old) (seen request.now) buffer.new (T.front seat.new) }
     ensures header { T.header seat.new ≡ T.header seat.old }
     ensures number { T.number seat.new ≡ T.number seat.old }
-    ensures opening { T.opening seat.new ≡ T.opening seat.old }
+    ensures home { T.home seat.new ≡ T.home seat.old }
 {
     let form = ResponseForm {
         close: request.close,

@@ -26,7 +26,7 @@ pub(crate) fn change<T: Seat>(
     ensures answers { Replied T.replies (T.header seat.old) (T.number seat.old) (T.front seat.old) (Asks (ask_seen ask.now)) (change_response (ask_seen ask.now)) form.close form.head_only buffer.new (T.front seat.new) }
     ensures header { T.header seat.new ≡ T.header seat.old }
     ensures number { T.number seat.new ≡ T.number seat.old }
-    ensures opening { T.opening seat.new ≡ T.opening seat.old }
+    ensures home { T.home seat.new ≡ T.home seat.old }
 {
     match seat.change(alloc, ask) {
         Ok(granted) => put_granted(buffer, ask, &granted, form),

@@ -31,7 +31,7 @@ pub(crate) fn look<T: Seat>(
     ensures answers { Replied T.replies (T.header seat.old) (T.number seat.old) (T.front seat.old) (Looks (question_seen question.now)) (read_response (question_seen question.now)) form.close form.head_only buffer.new (T.front seat.new) }
     ensures header { T.header seat.new ≡ T.header seat.old }
     ensures number { T.number seat.new ≡ T.number seat.old }
-    ensures opening { T.opening seat.new ≡ T.opening seat.old }
+    ensures home { T.home seat.new ≡ T.home seat.old }
 {
     match seat.look(alloc, question) {
         Ok(seen) => put_seen(alloc, buffer, question, &seen, form),

@@ -32,7 +32,6 @@ const CLOSING_MEMORY: &[u8] =
 #[derive(Drop)]
 struct SessionState {
     cutter: Cutter,
-    routes: Routes,
     buffer: ResponseBuffer,
     piece: Vec<u8>,
     // How many more bytes may be read.
@@ -45,7 +44,6 @@ impl SessionState {
     {
         Ok(SessionState {
             cutter: Cutter::new(alloc)?,
-            routes: Routes::new(alloc)?,
             buffer: ResponseBuffer::new(alloc)?,
             piece: vec![in alloc; 0; MOST_PIECE]?,
             budget: MOST_READ,
@@ -66,7 +64,7 @@ fn serve_request<T: Seat, L: Link>(
     ensures answers { Answers T.replies (T.header seat.old) (T.number seat.old) (T.front seat.old) (seen request.now) buffer.new (T.front seat.new) }
     ensures header { T.header seat.new ≡ T.header seat.old }
     ensures number { T.number seat.new ≡ T.number seat.old }
-    ensures opening { T.opening seat.new ≡ T.opening seat.old }
+    ensures home { T.home seat.new ≡ T.home seat.old }
     ensures sent { Sent result request.now.close buffer.new (L.written link.old) (L.written link.new) }
     ensures input { L.rest link.new ≡ L.rest link.old }
     ensures faults { L.faults link.old ≤ L.faults link.new }
@@ -136,6 +134,7 @@ fn refuse<L: Link>(buffer: &mut ResponseBuffer, link: &mut L, refusal: HeadRefus
 // One turn: the next request is answered, or more bytes are read, or the session ends.
 fn turn<T: Seat, L: Link>(
     alloc: Global,
+    routes: &Routes,
     seat: &mut T,
     link: &mut L,
     state: &mut SessionState,
@@ -145,21 +144,14 @@ fn turn<T: Seat, L: Link>(
     ensures nearer { IfNone result (2 * state.new.budget + length state.new.cutter < 2 * state.old.budget + length state.old.cutter) }
     ensures header { T.header seat.new ≡ T.header seat.old }
     ensures number { T.number seat.new ≡ T.number seat.old }
-    ensures opening { T.opening seat.new ≡ T.opening seat.old }
+    ensures home { T.home seat.new ≡ T.home seat.old }
     ensures piece { vec_len state.new.piece ≡ 65536 }
     ensures faults { L.faults link.old ≤ L.faults link.new }
     ensures cause { result ≡ Some Ended.LinkFault → Rose (L.faults link.old) (L.faults link.new) }
 {
     match state.cutter.next(alloc) {
         Next::Message(request) => {
-            serve_request(
-                alloc,
-                &state.routes,
-                seat,
-                &mut state.buffer,
-                link,
-                &request,
-            )
+            serve_request(alloc, routes, seat, &mut state.buffer, link, &request)
         }
         Next::Memory { close, head_only } => {
             serve_unread(&mut state.buffer, link, ResponseForm { close, head_only })
@@ -183,18 +175,24 @@ fn end_without_memory<L: Link>(link: &mut L) -> Ended
 }
 
 // The turns of a session, to its end.
-fn serve<T: Seat, L: Link>(alloc: Global, seat: &mut T, link: &mut L, state: SessionState) -> Ended
+fn serve<T: Seat, L: Link>(
+    alloc: Global,
+    routes: &Routes,
+    seat: &mut T,
+    link: &mut L,
+    state: SessionState,
+) -> Ended
     requires new { (state.cutter ≡ []) × (state.budget ≡ 1073741824) × (vec_len state.piece ≡ 65536) }
     ensures session { Finished T.replies (record { header = T.header seat.old; who = T.number seat.old; history = T.front seat.old; rest = L.rest link.old; written = L.written link.old }) (T.front seat.new) (L.rest link.new) (L.written link.new) result }
     ensures header { T.header seat.new ≡ T.header seat.old }
     ensures number { T.number seat.new ≡ T.number seat.old }
-    ensures opening { T.opening seat.new ≡ T.opening seat.old }
+    ensures home { T.home seat.new ≡ T.home seat.old }
     ensures faults { L.faults link.old ≤ L.faults link.new }
     ensures fault { result ≡ Ended.LinkFault → Rose (L.faults link.old) (L.faults link.new) }
 {
     let mut state = state;
     'turns: loop {
-        if let Some(end) = turn(alloc, seat, link, &mut state) {
+        if let Some(end) = turn(alloc, routes, seat, link, &mut state) {
             return end;
         }
     }
@@ -206,12 +204,32 @@ pub fn serve_session<T: Seat, L: Link>(alloc: Global, seat: &mut T, link: &mut L
     ensures session { Finished T.replies (record { header = T.header seat.old; who = T.number seat.old; history = T.front seat.old; rest = L.rest link.old; written = L.written link.old }) (T.front seat.new) (L.rest link.new) (L.written link.new) result }
     ensures header { T.header seat.new ≡ T.header seat.old }
     ensures number { T.number seat.new ≡ T.number seat.old }
-    ensures opening { T.opening seat.new ≡ T.opening seat.old }
+    ensures home { T.home seat.new ≡ T.home seat.old }
+    ensures faults { L.faults link.old ≤ L.faults link.new }
+    ensures fault { result ≡ Ended.LinkFault → Rose (L.faults link.old) (L.faults link.new) }
+{
+    match Routes::new(alloc) {
+        Ok(routes) => serve_routed(alloc, &routes, seat, link),
+        Err(AllocError) => end_without_memory(link),
+    }
+}
+
+/// Serves one connection as `serve_session` does, by a table of routes that stands for many sessions.
+pub fn serve_routed<T: Seat, L: Link>(
+    alloc: Global,
+    routes: &Routes,
+    seat: &mut T,
+    link: &mut L,
+) -> Ended
+    ensures session { Finished T.replies (record { header = T.header seat.old; who = T.number seat.old; history = T.front seat.old; rest = L.rest link.old; written = L.written link.old }) (T.front seat.new) (L.rest link.new) (L.written link.new) result }
+    ensures header { T.header seat.new ≡ T.header seat.old }
+    ensures number { T.number seat.new ≡ T.number seat.old }
+    ensures home { T.home seat.new ≡ T.home seat.old }
     ensures faults { L.faults link.old ≤ L.faults link.new }
     ensures fault { result ≡ Ended.LinkFault → Rose (L.faults link.old) (L.faults link.new) }
 {
     match SessionState::new(alloc) {
-        Ok(state) => serve(alloc, seat, link, state),
+        Ok(state) => serve(alloc, routes, seat, link, state),
         Err(AllocError) => end_without_memory(link),
     }
 }

@@ -16,6 +16,3 @@ pub use cutter::{Cutter, MOST_PIECE, MOST_REQUEST};
 pub use http_model::HeadRefusal;
 pub use next::Next;
 pub use request::{Request, Version};
-
-#[cfg(test)]
-mod tests;

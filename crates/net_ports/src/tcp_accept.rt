@@ -7,10 +7,11 @@ use std::io;
 use std::io::ErrorKind;
 use std::net::{Net, SocketAddr, TcpListener, TcpStream};
 
-/// Gives the connections that a listener accepts. It never says that no more will come.
+/// Gives the connections that a listener accepts. It never says that no more will come. Where there is
+/// no listener, each call fails.
 #[derive(Drop)]
 pub struct TcpAccept {
-    listener: TcpListener,
+    listener: Option<TcpListener>,
     given: u64,
     faults: u64,
 }
@@ -23,7 +24,21 @@ impl TcpAccept {
         ensures over { ⟦<Self as Accept<TcpLink>>⟧.over result ≡ false }
     {
         TcpAccept {
-            listener,
+            listener: Some(listener),
+            given: 0,
+            faults: 0,
+        }
+    }
+
+    /// An accept without a listener, which stands in where an address can't be listened at. It has given nothing and
+    /// no call has failed; each one will, and be counted.
+    pub fn absent() -> Self
+        ensures faults { ⟦<Self as Accept<TcpLink>>⟧.faults result ≡ 0 }
+        ensures given { ⟦<Self as Accept<TcpLink>>⟧.given result ≡ 0 }
+        ensures over { ⟦<Self as Accept<TcpLink>>⟧.over result ≡ false }
+    {
+        TcpAccept {
+            listener: None,
             given: 0,
             faults: 0,
         }
@@ -42,9 +57,12 @@ impl TcpAccept {
         Ok(TcpAccept::new(TcpListener::bind(net, address)?))
     }
 
-    /// The address that it listens at, with the port that the system picked.
+    /// The address that it listens at, with the port that the system picked. Without a listener there is none.
     pub fn local_addr(&self) -> io::Result<SocketAddr> {
-        self.listener.local_addr()
+        match &self.listener {
+            Some(listener) => listener.local_addr(),
+            None => Err(io::Error::from(ErrorKind::NotConnected)),
+        }
     }
 }
 
@@ -72,8 +90,8 @@ impl Accept<TcpLink> for TcpAccept {
 
 // The next connection as a link. One that its client gave up before it was taken is passed over, so
 // that no client makes a server's accept fail.
-fn next_link(listener: &TcpListener) -> Option<TcpLink> {
-    for stream in listener.incoming() {
+fn next_link(listener: &Option<TcpListener>) -> Option<TcpLink> {
+    for stream in listener.as_ref()?.incoming() {
         match stream {
             Ok(stream) => return TcpLink::new(stream).ok(),
             Err(e) if e.kind() == ErrorKind::ConnectionAborted => {}

@@ -12,6 +12,3 @@ pub mod table;
 pub use fault::TableFault;
 pub use roots::Roots;
 pub use table::NodeTable;
-
-#[cfg(test)]
-mod tests;

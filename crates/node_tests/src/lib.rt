@@ -12,4 +12,6 @@ mod histories;
 #[cfg(test)]
 mod nodes;
 #[cfg(test)]
+mod tables;
+#[cfg(test)]
 mod unodes;

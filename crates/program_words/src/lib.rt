@@ -14,6 +14,3 @@ pub use command::Command;
 pub use fault::WordsFault;
 pub use session_words::asks_session;
 pub use words::read_words;
-
-#[cfg(test)]
-mod tests;

@@ -1,38 +1,34 @@
--- The paths of a stack and of a range, as the code reads them.
-use Rattle.std.proofs.Common.{◌≡◌, ℕ, zero, suc, ◌<◌, List, [], ◌∷◌, map, length, refl, sym, ap, ◌∙◌, arith}
-use Rattle.std.specs.Prelude.{None, Some, Ok, slice_index_or}
+-- The paths of a stack, as the code reads them, against those of the changesets since.
+use Rattle.std.proofs.Common.{◌≡◌, ℕ, zero, suc, ◌<◌, List, [], ◌∷◌, length, refl, sym, ap, subst, ◌∙◌, arith}
+use Rattle.std.specs.Prelude.{Option, Some, option_map, slice_index_or}
 use Rattle.std.specs.Borrow.{Bor}
-use Rattle.changeset_model.specs.Path.{Path}
-use Rattle.changeset_model.specs.Changeset.{Changeset, touched_paths}
-use Rattle.history_model.specs.Pushrebase.{Fork, clash}
+use Rattle.std.proofs.lemmas.List.{length-map}
+use Rattle.changeset_model.specs.Path.{Path, rising}
+use Rattle.changeset_model.specs.Changeset.{Changeset}
+use Rattle.history_model.specs.Pushrebase.{clash}
 use Rattle.reply_model.specs.Reply as reply
-use Rattle.path_conflict.specs.Places.{paths_of, pair_at}
-use Rattle.path_conflict.specs.declared.least.Clash.{Clash}
+use Rattle.path_conflict.specs.Places.{paths_of}
+use Rattle.path_conflict.specs.Best.{IsBest, pair_of}
+use Rattle.path_conflict.specs.declared.lesser.Met.{Met}
 use Rattle.repo_calls.specs.declared.refusal.Refusal.TheVariants as refusals
-use Rattle.repo_machine.specs.Landings.{IsRefusal, paths_checked}
-use Rattle.repo_machine.proofs.LandingSteps.{refused_some, refused_none}
+use Rattle.repo_machine.specs.Landings.{IsRefusal}
+use Rattle.repo_machine.specs.Clashes.{edited_paths, apart_checked}
+use Rattle.repo_machine.proofs.LandingSteps.{refused_some}
 
-abbrev changesets_of : List (Bor Changeset) → List Changeset
-changesets_of cs = map (λ c. c.now) cs
+at_place : (ps : List (Bor Path)) (i : ℕ) (p : Bor Path) → i < length ps → p ≡ slice_index_or ps i p → slice_index_or (paths_of ps) i [] ≡ p.now
+at_place [] i p below is = absurd (omega arith)
+at_place (q ∷ ps) zero p below is = ap (λ p. p.now) (sym is)
+at_place (q ∷ ps) (suc i) p below is = at_place ps i p (omega arith) is
 
-pub touched_is : (slice items : List (Bor Path)) (given stack : List (Bor Changeset)) (cs : List Changeset) → slice ≡ items → paths_of items ≡ touched_paths (changesets_of given) → given ≡ stack → changesets_of stack ≡ cs → paths_of slice ≡ touched_paths cs
-touched_is slice items given stack cs same touched given_is stack_is = ap paths_of same ∙ touched ∙ ap (λ g. touched_paths (changesets_of g)) given_is ∙ ap touched_paths stack_is
+pub is_within : (outer : List (Bor Path)) (seen : List Path) (m : Met) → IsBest (paths_of outer) seen (Some m) → m.place < length outer
+is_within outer seen m best = let inside = best.0 in omega (arith, length-map outer (λ (p : Bor Path). p.now))
 
-module _ (f : Fork) (left right : List (Bor Path)) (left_is : paths_of left ≡ touched_paths f.stack) (right_is : paths_of right ≡ touched_paths f.range) where
-  by_places : clash (touched_paths f.stack) (touched_paths f.range) ≡ clash (paths_of left) (paths_of right)
-  by_places = λ i. clash (sym left_is i) (sym right_is i)
-
-  pub fine_paths : clash (paths_of left) (paths_of right) ≡ None → paths_checked f ≡ Ok tt
-  fine_paths none = refused_none (clash (touched_paths f.stack) (touched_paths f.range)) (λ pair. reply.Clash pair.0 pair.1) (by_places ∙ none)
-
-  at_place : (ps : List (Bor Path)) (i : ℕ) (p : Bor Path) → i < length ps → p ≡ slice_index_or ps i p → slice_index_or (paths_of ps) i [] ≡ p.now
-  at_place [] i p below is = absurd (omega arith)
-  at_place (q ∷ ps) zero p below is = ap (λ p. p.now) (sym is)
-  at_place (q ∷ ps) (suc i) p below is = at_place ps i p (omega arith) is
-
-  pub clashing_paths : (places : Clash) → places.left < length left → places.right < length right → clash (paths_of left) (paths_of right) ≡ Some (pair_at (paths_of left) (paths_of right) places) → (lefts rights : List (Bor Path)) → left ≡ lefts → right ≡ rights → (l r : Bor Path) → l ≡ slice_index_or lefts places.left l → r ≡ slice_index_or rights places.right r → (p q : Path) → p ≡ l.now → q ≡ r.now → IsRefusal (paths_checked f) (refusals.Clash p q)
-  clashing_paths places in_left in_right found lefts rights lefts_are rights_are l r l_is r_is p q p_is q_is =
-      let p_at : slice_index_or (paths_of left) places.left [] ≡ p = at_place left places.left l in_left (l_is ∙ ap (λ ps. slice_index_or ps places.left l) (sym lefts_are)) ∙ sym p_is in
-      let q_at : slice_index_or (paths_of right) places.right [] ≡ q = at_place right places.right r in_right (r_is ∙ ap (λ ps. slice_index_or ps places.right r) (sym rights_are)) ∙ sym q_is in
-      refused_some (clash (touched_paths f.stack) (touched_paths f.range)) (λ pair. reply.Clash pair.0 pair.1) (p, q) (refusals.Clash p q)
-      (by_places ∙ found ∙ (λ i. Some (p_at i, q_at i))) refl
+-- the least clash with the paths that are left of the list is that of the list
+module _ (paths : List Path) (outer : List (Bor Path)) (cs : List Changeset) (same : (met : Option Met) → IsBest (paths_of outer) (edited_paths cs) met → clash paths (rising (edited_paths cs)) ≡ option_map (pair_of (paths_of outer)) met) where
+  pub clashing_paths : (slice : List (Bor Path)) → slice ≡ outer → (met : Option Met) → IsBest (paths_of slice) (edited_paths cs) met → (m : Met) → met ≡ Some m → (o : Bor Path) → o ≡ slice_index_or outer m.place o → (p q : Path) → p ≡ o.now → q ≡ m.path.now → IsRefusal (apart_checked paths cs) (refusals.Clash p q)
+  clashing_paths slice is met of_slice m some o o_is p q p_is q_is =
+      let best : IsBest (paths_of outer) (edited_paths cs) met = subst (λ ps. IsBest (paths_of ps) (edited_paths cs) met) is of_slice in
+      let found : IsBest (paths_of outer) (edited_paths cs) (Some m) = subst (λ met. IsBest (paths_of outer) (edited_paths cs) met) some best in
+      let place = at_place outer m.place o (is_within outer (edited_paths cs) m found) o_is in
+      refused_some (clash paths (rising (edited_paths cs))) (λ pair. reply.Clash pair.0 pair.1) (p, q) (refusals.Clash p q)
+      (same met best ∙ ap (option_map (pair_of (paths_of outer))) some ∙ (λ i. Some ((place ∙ sym p_is) i, sym q_is i))) refl

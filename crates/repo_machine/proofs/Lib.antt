@@ -24,3 +24,5 @@ pub mod CountedEntries
 pub mod Cleared
 pub mod ClearedEntries
 pub mod Unseating
+pub mod Looking
+pub mod Renewed

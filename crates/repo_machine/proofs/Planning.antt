@@ -25,7 +25,7 @@ use Rattle.repo_machine.proofs.LandingEntry.{length-rewrite}
 -- ---- as the history grows
 
 -- the fork at a longer history
-fork_grows : (g t : List Entry) (old draft : Id) → is_known (known g) old ≡ true → is_known (known g) draft ≡ true → fork (known (g ++ t)) old draft ≡ fork (known g) old draft
+pub fork_grows : (g t : List Entry) (old draft : Id) → is_known (known g) old ≡ true → is_known (known g) draft ≡ true → fork (known (g ++ t)) old draft ≡ fork (known g) old draft
 fork_grows g t old draft old_known draft_known =
     let of_head = line_grows g t old old_known in
     let of_draft = line_grows g t draft draft_known in
@@ -51,7 +51,7 @@ stays_on g t name draft plan p at = record {
 pub plan_stays : (g h : List Entry) (name : List ℕ) (draft : Id) (plan : PlannedLanding) → IsPrefix g h → IsPlan g name draft plan → head h name ≡ Some plan.old → IsPlan h name draft plan
 plan_stays g h name draft plan begins p = subst (λ h. head h name ≡ Some plan.old → IsPlan h name draft plan) begins.1 (stays_on g begins.0 name draft plan p)
 
-prefix_on : (f g h : List Entry) → IsPrefix f g → IsPrefix g h → IsPrefix f h
+pub prefix_on : (f g h : List Entry) → IsPrefix f g → IsPrefix g h → IsPrefix f h
 prefix_on f g h first then = (first.0 ++ then.0, sym (append_assoc f first.0 then.0) ∙ ap (λ (l : List Entry). l ++ then.0) first.1 ∙ then.1)
 
 pub was_planned : (g h : List Entry) (r : RebasedLanding) → IsPrefix g h → WasPlanned g r → WasPlanned h r

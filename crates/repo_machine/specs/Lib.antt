@@ -13,3 +13,5 @@ pub mod Plans
 pub mod Recorded
 pub mod Counting
 pub mod Seats
+pub mod Clashes
+pub mod Again

@@ -7,12 +7,23 @@ ghost use Rattle.history_model.specs.History.{Entry, is_down};
 ghost use Rattle.history_model.specs.Journal.{Header};
 ghost use Rattle.history_model.specs.Pushrebase.{rewrite};
 ghost use Rattle.reply_model.specs.Reply.{LandDraft, judge, enter_landing};
+ghost use Rattle.repo_machine.specs.Again.{WasPlan};
 ghost use Rattle.repo_machine.specs.Plans.{PlannedLanding, RebasedLanding, IsPlan, WasPlanned};
 
 /// A plan is one at each longer history at which the bookmark has the planned head: it has the same fork there, so the
 /// same stack and the same range.
 pub fn plan_stays_at_its_head()
     ensures { (g h : List Entry) (name : List ℕ) (draft : Id) (plan : PlannedLanding) → IsPrefix g h → IsPlan g name draft plan → head h name ≡ Some plan.old → IsPlan h name draft plan }
+{}
+
+/// A plan can be made again at each longer history.
+pub fn plan_can_be_made_again()
+    ensures { (g h : List Entry) (name : List ℕ) (draft : Id) (plan : PlannedLanding) → IsPrefix g h → IsPlan g name draft plan → WasPlan h plan }
+{}
+
+/// What can be made again stays so as the history grows.
+pub fn plan_can_be_made_again_later()
+    ensures { (g h : List Entry) (plan : PlannedLanding) → IsPrefix g h → WasPlan g plan → WasPlan h plan }
 {}
 
 /// Where no disk failed, to land a planned draft is to enter its stack on the planned head.

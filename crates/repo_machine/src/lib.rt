@@ -3,6 +3,7 @@
 #![tactic(auto)]
 
 pub mod bookmarks;
+mod clashes;
 pub mod contents;
 pub mod counts;
 pub mod entering;
@@ -17,6 +18,7 @@ pub mod machine;
 pub mod place;
 pub mod plain;
 pub mod plan;
+pub mod plan_again;
 mod preparing;
 pub mod reads;
 pub mod rebased;

@@ -1,25 +1,31 @@
 //! Plans of landings: a draft is looked at against a bookmark's head, and nothing is changed.
-ghost use Rattle.std.specs.Prelude.{◌≡◌, ◌≤◌, true, false, length, map, IfOk, IfErr, OnOk};
+ghost use Rattle.std.specs.Prelude.{◌≡◌, ℕ, ◌+◌, ◌*◌, ◌^◌, ◌<◌, ◌≤◌, true, false, length, Some, IfOk, IfErr, OnOk};
+ghost use Rattle.byte_fields.specs.Bytes.{Id as ModelId};
 ghost use Rattle.changeset_model.specs.Changeset.{touched_paths};
+ghost use Rattle.changeset_store.specs.Store.{number_in, known_at};
 ghost use Rattle.changeset_store.specs.Fork.{IsFork, fork_between};
-ghost use Rattle.history_model.specs.History.{is_known, is_down};
+ghost use Rattle.history_model.specs.Bookmark.{head as head_of};
+ghost use Rattle.history_model.specs.History.{is_known, is_down, known};
+ghost use Rattle.history_model.specs.Pushrebase.{Fork as Parted, fork as parting};
 ghost use Rattle.reply_model.specs.Reply.{LandDraft, judge};
 ghost use Rattle.reply_model.specs.Legal.{IsLegal};
-ghost use Rattle.repo_machine.specs.Landings.{Steps, IsRefusal, forking, lengths_checked, paths_checked};
+ghost use Rattle.repo_machine.specs.Clashes.{edited_paths};
+ghost use Rattle.repo_machine.specs.Landings.{Steps as Gives, IsRefusal, forking, lengths_checked};
 ghost use Rattle.repo_machine.specs.Plans.{IsPlan};
 
+use crate::clashes::touched_apart;
 use crate::machine::Machine;
 use bonsai::Commit;
 use changeset_store::{ChangesetStore, Fork};
 use object_id::Id;
-use path_conflict::least_clash;
-use rebase_stack::touched;
 use repo_calls::Refusal;
 use repo_events::MOST_STACK;
 use repo_path::{BookName, RepoPath};
-use std::alloc::{AllocError, Global};
-use std::marker::Model;
+use std::alloc::Global;
+use std::marker::{Brand, Model};
 use std::sync::Arc;
+use std::sync::ledger::{Blank, Ledger};
+use step_count::Steps;
 
 /// The most changesets of a head's chain since the root.
 const MOST_RANGE: u32 = 10_000;
@@ -61,13 +67,33 @@ impl Machine {
         ensures err { IfErr result (IsRefusal (judge self.now.header self.now.history (LandDraft name.now draft))) }
         ensures legal { IsLegal self.now.header self.now.history }
     {
+        on_own_count::<Brand>(self, alloc, name, draft, Blank::new(1))
+    }
+
+    /// The same, with a count of steps, of which each is a comparison of two paths. There are at most three more than the
+    /// binary digits of the number of paths that the stack touches for each edit that the range makes.
+    pub fn plan_counted<L: Ledger>(
+        &self,
+        alloc: Global,
+        name: &BookName,
+        draft: Id,
+        steps: &mut Steps<L>,
+    ) -> Result<Plan, Refusal>
+        ensures ok { IfOk result (IsPlan self.now.history name.now draft) }
+        ensures up { OnOk result (is_down self.now.history ≡ false) }
+        ensures err { IfErr result (IsRefusal (judge self.now.header self.now.history (LandDraft name.now draft))) }
+        ensures legal { IsLegal self.now.header self.now.history }
+        ensures counted { steps.old ≤ steps.new }
+        ensures cost { (old : ModelId) (f : Parted) (digits : ℕ) → head_of self.now.history name.now ≡ Some old → parting (known self.now.history) old draft ≡ Some f →
+            length (touched_paths f.stack) < 2 ^ digits → steps.new ≤ steps.old + (digits + 3) * length (edited_paths f.range) }
+    {
         self.check_up()?;
         let Some(old) = self.head(name) else {
             return Err(Refusal::NoBookmark);
         };
         let fork = fork_from(&self.changesets, &old, &draft)?;
         check_lengths(&self.changesets, &fork)?;
-        let touched = touched_apart(&self.changesets, alloc, &fork)?;
+        let touched = touched_apart(&self.changesets, alloc, &fork, steps)?;
         let stack = self.changesets.shared_stack(alloc, &fork)?;
         let touched = Arc::new(alloc, touched)?;
         let name = name.copy(alloc)?;
@@ -81,11 +107,34 @@ impl Machine {
     }
 }
 
+// The plan, where nobody reads the count of steps.
+fn on_own_count<L: Ledger>(
+    machine: &Machine,
+    alloc: Global,
+    name: &BookName,
+    draft: Id,
+    blank: Blank,
+) -> Result<Plan, Refusal>
+    requires name { blank.name ≡ L.name }
+    requires parts { blank.parts ≡ L.parts }
+    requires some { 0 < blank.parts }
+    ensures ok { IfOk result (IsPlan machine.now.history name.now draft) }
+    ensures up { OnOk result (is_down machine.now.history ≡ false) }
+    ensures err { IfErr result (IsRefusal (judge machine.now.header machine.now.history (LandDraft name.now draft))) }
+    ensures legal { IsLegal machine.now.header machine.now.history }
+{
+    let mut steps = Steps::<L>::new(blank);
+    machine.plan_counted(alloc, name, draft, &mut steps)
+}
+
 // Where the draft's chain parts from that of the head.
-fn fork_from(store: &ChangesetStore, old: &Id, draft: &Id) -> Result<Fork, Refusal>
+pub(crate) fn fork_from(store: &ChangesetStore, old: &Id, draft: &Id) -> Result<Fork, Refusal>
     requires { is_known store.now.known old.now ≡ true }
-    ensures steps { Steps (fork_between store.now.known) (forking store.now.known old.now draft.now) result }
+    ensures steps { Gives (fork_between store.now.known) (forking store.now.known old.now draft.now) result }
     ensures is_fork { IfOk result (IsFork store.now.known) }
+    ensures of_head { IfOk result (λ f. (known_at store.now.known f.head).id ≡ old.now) }
+    ensures of_draft { IfOk result (λ f. (known_at store.now.known f.draft).id ≡ draft.now) }
+    ensures of_root { IfOk result (λ f. number_in store.now.known (known_at store.now.known f.root).id ≡ Some f.root) }
 {
     if !store.is_known(draft) {
         return Err(Refusal::NoChangeset { id: *draft });
@@ -96,9 +145,9 @@ fn fork_from(store: &ChangesetStore, old: &Id, draft: &Id) -> Result<Fork, Refus
     }
 }
 
-fn check_lengths(store: &ChangesetStore, fork: &Fork) -> Result<(), Refusal>
+pub(crate) fn check_lengths(store: &ChangesetStore, fork: &Fork) -> Result<(), Refusal>
     requires { IsFork store.now.known fork.now }
-    ensures { Steps (λ done. done) (lengths_checked (fork_between store.now.known fork.now)) result }
+    ensures { Gives (λ done. done) (lengths_checked (fork_between store.now.known fork.now)) result }
 {
     let distance = store.range_length(fork);
     if distance > MOST_RANGE {
@@ -112,41 +161,4 @@ fn check_lengths(store: &ChangesetStore, fork: &Fork) -> Result<(), Refusal>
         return Err(Refusal::StackTooLong { count });
     }
     Ok(())
-}
-
-// The paths that the stack touches, if none of them clashes with one that the range touches.
-fn touched_apart(
-    store: &ChangesetStore,
-    alloc: Global,
-    fork: &Fork,
-) -> Result<Vec<RepoPath>, Refusal>
-    requires { IsFork store.now.known fork.now }
-    ensures touched { IfOk result (λ paths. paths.items ≡ touched_paths (fork_between store.now.known fork.now).stack) }
-    ensures apart { Steps (λ _. tt) (paths_checked (fork_between store.now.known fork.now)) result }
-{
-    let stack = store.stack(alloc, fork)?;
-    let range = store.range(alloc, fork)?;
-    let of_stack = touched(alloc, stack.as_slice())?;
-    let of_range = touched(alloc, range.as_slice())?;
-    match least_clash(of_stack.as_slice(), of_range.as_slice()) {
-        Some(clash) => {
-            let left = of_stack[clash.left].copy(alloc)?;
-            let right = of_range[clash.right].copy(alloc)?;
-            Err(Refusal::Clash { left, right })
-        }
-        None => {
-            let paths = copies(alloc, of_stack.as_slice())?;
-            Ok(paths)
-        }
-    }
-}
-
-fn copies(alloc: Global, paths: &[&RepoPath]) -> Result<Vec<RepoPath>, AllocError>
-    ensures { IfOk result (λ copies. copies.items ≡ map (λ p. p.now) paths.now) }
-{
-    let mut copies = Vec::with_capacity(alloc, paths.len())?;
-    'paths: for path in paths {
-        copies.push(path.copy(alloc)?)?;
-    }
-    Ok(copies)
 }

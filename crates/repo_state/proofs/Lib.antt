@@ -8,3 +8,6 @@ pub mod Answered
 pub mod Storing
 pub mod Looking
 pub mod Heads
+pub mod Landed
+pub mod Stepping
+pub mod Crashing

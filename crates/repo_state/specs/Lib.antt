@@ -2,3 +2,5 @@ pub mod Images
 pub mod State
 pub mod Asking
 pub mod Exchanging
+pub mod Trees
+pub mod Cores

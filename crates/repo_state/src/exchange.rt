@@ -5,9 +5,11 @@ ghost use Rattle.disk_model.specs.Calls.{Kept};
 ghost use Rattle.history_model.specs.History.{Land};
 ghost use Rattle.repo_machine.specs.Held.{HasRoom};
 ghost use Rattle.repo_machine.specs.Plans.{WasPlanned, landing_in};
+ghost use Rattle.repo_state.specs.Cores.{ExchangesSo};
 ghost use Rattle.repo_state.specs.Exchanging.{Exchanges, meets_fault};
 ghost use Rattle.repo_state.specs.Images.{LeavesChange};
 ghost use Rattle.repo_state.specs.State.{IsSound};
+ghost use Rattle.repo_state.specs.Trees.{LandsSo};
 
 use crate::exchanged::Exchanged;
 use crate::state::RepoState;
@@ -37,6 +39,13 @@ impl<D: Disk> RepoState<D> {
 
         // The disk fails the landing only where a call of it failed.
         ensures faults { Counts self.old.disk.faults self.new.disk.faults (meets_fault result) }
+
+        // Where the stack lands, the new head's tree has what it sets, and else what the old head's has, in which no path that
+        // the stack touches was changed since the root.
+        ensures lands { LandsSo rebased.draft result self.old.history self.new.history }
+
+        // It is these steps of the repository of many seats.
+        ensures core { ExchangesSo self.old.header self.old.history who rebased result self.new.history }
     {
         if self.machine.down() {
             return Exchanged::Refused(Refusal::Down);

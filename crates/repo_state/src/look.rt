@@ -1,5 +1,5 @@
 //! Reads.
-ghost use Rattle.std.specs.Prelude.{◌≡◌, IsTrue, false};
+ghost use Rattle.std.specs.Prelude.{◌≡◌, IsTrue, false, not};
 ghost use Rattle.ports.specs.Faults.{Counts};
 ghost use Rattle.disk_model.specs.Images.{IsImage};
 ghost use Rattle.disk_model.specs.Calls.{Kept, LeavesOnly, Looked};
@@ -7,6 +7,7 @@ ghost use Rattle.reply_model.specs.After.{Answer, Answers, Looks, Replies, nothi
 ghost use Rattle.reply_model.specs.Reply.{ChangesetOf, ContentOf, LogFrom};
 ghost use Rattle.seat_calls.specs.Asking.{bytes_answer, is_bad_bytes, is_early, is_read_fault, IsAnswer, question_seen, reads_file};
 ghost use Rattle.repo_state.specs.Asking.{TellsDigest};
+ghost use Rattle.repo_state.specs.Cores.{LooksSo};
 ghost use Rattle.repo_state.specs.State.{IsSound};
 
 use crate::fill::{check, fill};
@@ -34,6 +35,9 @@ impl<D: Disk> RepoState<D> {
         // The disk isn't asked where something is missing, nor for what is known.
         ensures early { IsTrue (is_early result) → self.new.disk ≡ self.old.disk }
         ensures known { reads_file question.now ≡ false → self.new.disk ≡ self.old.disk }
+
+        // It is a step of the repository of many seats.
+        ensures core { LooksSo self.old.header self.old.history who (not (is_read_fault result)) self.new.history }
     {
         match *question {
             Question::Head(name) => Ok(Seen::Head(self.machine.head(name))),
@@ -93,6 +97,9 @@ impl<D: Disk> RepoState<D> {
 
         // Where there is no such content or no memory, the disk isn't asked.
         ensures early { IsTrue (is_early result) → self.new.disk ≡ self.old.disk }
+
+        // It is a step of the repository of many seats.
+        ensures core { LooksSo self.old.header self.old.history who (not (is_read_fault result)) self.new.history }
     {
         let Some(place) = self.machine.content_place(&id) else {
             return Err(AskFault::NoContent { id });

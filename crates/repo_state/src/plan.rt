@@ -5,6 +5,7 @@ ghost use Rattle.reply_model.specs.Reply.{LandDraft, judge};
 ghost use Rattle.repo_machine.specs.Held.{HasRoom};
 ghost use Rattle.repo_machine.specs.Landings.{IsRefusal};
 ghost use Rattle.repo_machine.specs.Plans.{IsPlan, landing_in};
+ghost use Rattle.repo_state.specs.Cores.{Plans};
 
 use crate::state::RepoState;
 use blob_disk::Disk;
@@ -20,6 +21,9 @@ impl<D: Disk> RepoState<D> {
         ensures ok { IfOk result (IsPlan self.now.history name.now draft) }
         ensures up { OnOk result (is_down self.now.history ≡ false) }
         ensures err { IfErr result (IsRefusal (judge self.now.header self.now.history (LandDraft name.now draft))) }
+
+        // It is a step of the repository of many seats, after which a seat has this plan.
+        ensures core { IfOk result (Plans self.now.header self.now.history name.now draft) }
     {
         self.machine.plan(alloc, name, draft)
     }

@@ -1,5 +1,6 @@
 //! A repository that is served alone.
 ghost use Rattle.reply_model.specs.After.{Replies};
+ghost use Rattle.turn_history.specs.Opening.{Opening};
 ghost use Rattle.seat_calls.proofs.Lawful.{alone};
 
 use crate::state::RepoState;
@@ -16,7 +17,9 @@ impl<D: Disk> Seat for RepoState<D> {
 
     ghost number = { λ _. 0 };
 
-    ghost opening = { λ s. s.opening };
+    ghost Home = { Opening };
+
+    ghost home = { λ s. s.opening };
 
     ghost replies = { Replies };
 

@@ -2,6 +2,8 @@
 ghost use Rattle.std.specs.Prelude.{◌≡◌, length};
 ghost use Rattle.history_model.specs.History.{is_down, stored};
 ghost use Rattle.reply_model.specs.Legal.{IsLegal};
+ghost use Rattle.core_model.specs.Core.{opened};
+ghost use Rattle.step_laws.specs.Steps.{Shows};
 ghost use Rattle.repo_journal.specs.Opened.{IsOpened};
 ghost use Rattle.repo_state.specs.State.{IsSound, opening_of};
 
@@ -50,6 +52,9 @@ impl<D: Disk> RepoState<D> {
         ensures disk { result.disk ≡ D.meaning disk }
         ensures opening { result.opening ≡ opening_of machine.header journal.opening (D.meaning disk) }
         ensures sound { IsSound result.opening result.history result.disk }
+
+        // As the repository of many seats begins.
+        ensures core { Shows result.history (opened result.history) }
     {
         let first = Snapshot::of(&disk);
         RepoState {

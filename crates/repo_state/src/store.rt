@@ -1,12 +1,14 @@
 //! Changes.
-ghost use Rattle.std.specs.Prelude.{◌≡◌, IsTrue, IfErr, false};
+ghost use Rattle.std.specs.Prelude.{◌≡◌, IsTrue, IfOk, false};
 ghost use Rattle.ports.specs.Faults.{Counts};
 ghost use Rattle.disk_model.specs.Calls.{Kept};
 ghost use Rattle.reply_model.specs.After.{Asks, Replies};
-ghost use Rattle.repo_calls.specs.Calls.{ask_seen};
+ghost use Rattle.repo_calls.specs.Calls.{ask_seen, granted_seen};
 ghost use Rattle.seat_calls.specs.Asking.{stored_answer, is_disk_fault};
+ghost use Rattle.repo_state.specs.Cores.{Stores};
 ghost use Rattle.repo_state.specs.Images.{LeavesChange};
 ghost use Rattle.repo_state.specs.State.{IsSound};
+ghost use Rattle.repo_state.specs.Trees.{LandsAs};
 
 use crate::state::RepoState;
 use blob_disk::Disk;
@@ -33,6 +35,13 @@ impl<D: Disk> RepoState<D> {
 
         // The disk fails the change only where a call of it failed.
         ensures faults { Counts self.old.disk.faults self.new.disk.faults (is_disk_fault result) }
+
+        // Where a stack lands, the new head's tree has what it sets, and else what the old head's has, in which no path that
+        // the stack touches was changed since the root.
+        ensures lands { IfOk result (λ granted. LandsAs (ask_seen ask.now) (granted_seen granted) self.old.history self.new.history) }
+
+        // It is these steps of the repository of many seats.
+        ensures core { Stores self.old.header self.old.history who (ask_seen ask.now) (stored_answer result) self.new.history }
     {
         let judged = match self.machine.judge(alloc, who, ask) {
             Ok(judged) => judged,

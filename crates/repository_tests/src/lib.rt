@@ -3,28 +3,24 @@
 #![tactic(auto)]
 
 #[cfg(test)]
-mod bookmarks;
-#[cfg(test)]
-mod counts;
+mod changes;
 #[cfg(test)]
 mod examples;
 #[cfg(test)]
-mod faults;
+mod heads;
 #[cfg(test)]
 mod landings;
-#[cfg(test)]
-mod log;
-#[cfg(test)]
-mod places;
 #[cfg(test)]
 mod plans;
 #[cfg(test)]
 mod replays;
 #[cfg(test)]
+mod rows;
+#[cfg(test)]
 mod stacks;
+#[cfg(test)]
+mod steps;
 #[cfg(test)]
 mod store;
 #[cfg(test)]
 mod trees;
-#[cfg(test)]
-mod uploads;

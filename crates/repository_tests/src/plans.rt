@@ -3,19 +3,25 @@
 ghost use mathlib.Core.List.{IsPrefix};
 ghost use Rattle.repo_machine.specs.Plans.{WasPlanned};
 
-use crate::examples::{ABC, EMPTY, id, main_name, move_main, put_edited, with_root};
+use crate::steps::{Run, id_at, new_run, run_lines};
 use object_id::Id;
 use repo_machine::{Machine, Rebased};
+use repo_path::BookName;
 use std::alloc::Global;
+use std::process::Abort;
 use std::test::Fail;
 
 // Moves `main` for seat 2 from wherever it stands.
-fn move_from_there(alloc: Global, machine: &mut Machine, to: Id) -> Result<(), Fail>
+fn move_from_there(
+    alloc: Global,
+    machine: &mut Machine,
+    main: &BookName,
+    to: Id,
+) -> Result<(), Fail>
     ensures { IsPrefix machine.old.history machine.new.history }
 {
-    let name = main_name(alloc)?;
-    let from = machine.head(&name);
-    match machine.set_bookmark(alloc, 2, &name, from, Some(to)) {
+    let from = machine.head(main);
+    match machine.set_bookmark(alloc, 2, main, from, Some(to)) {
         Ok(()) => Ok(()),
         Err(_) => Err(Fail::from("a move")),
     }
@@ -40,50 +46,61 @@ fn exchange(alloc: Global, machine: &mut Machine, rebased: Rebased) -> Result<bo
 fn land_between(
     alloc: Global,
     machine: &mut Machine,
+    main: &BookName,
     draft: Id,
     heads: (Id, Id),
 ) -> Result<bool, Fail> {
-    let name = main_name(alloc)?;
-    let Ok(plan) = machine.plan(alloc, &name, draft) else {
+    let Ok(plan) = machine.plan(alloc, main, draft) else {
         return Err(Fail::from("a plan"));
     };
     let rebased = plan.rebased(alloc)?;
-    move_from_there(alloc, machine, heads.0)?;
-    move_from_there(alloc, machine, heads.1)?;
+    move_from_there(alloc, machine, main, heads.0)?;
+    move_from_there(alloc, machine, main, heads.1)?;
     exchange(alloc, machine, rebased)
 }
 
-// `main` at a changeset that sets `x`, its root, and a draft beside it that sets `y`: the root, the head and the draft.
-fn with_draft(alloc: Global) -> Result<(Machine, Id, Id, Id), Fail> {
-    let (mut machine, root) = with_root(alloc, 65_536)?;
-    let x = put_edited(alloc, &mut machine, root, ("x", ABC))?;
-    let y = put_edited(alloc, &mut machine, root, ("y", EMPTY))?;
-    move_main(alloc, &mut machine, None, x)?;
-    Ok((machine, root, x, y))
+// `main` at a changeset that sets `x` (1), on a root (0), and a draft beside it that sets `y` (2).
+const DRAFT: &str = "\
+content abc
+content
+line - 1 0
+change 0 x:abc
+change 0 y:
+move 1";
+
+// Whether the draft was landed, after moves to the root and from there to this changeset.
+fn attempt(alloc: Global, run: &mut Run, last: &str) -> Result<bool, Fail> {
+    let draft = id_at(run, "2")?.ok_or("a draft")?;
+    let root = id_at(run, "0")?.ok_or("a root")?;
+    let last = id_at(run, last)?.ok_or("a head")?;
+    land_between(alloc, &mut run.machine, &run.main, draft, (root, last))
 }
 
-// Whether the draft was landed, the head then, and how many entries there are.
-fn attempt(alloc: Global, back: bool) -> Result<(bool, Option<Id>, u64), Fail> {
-    let (mut machine, root, x, y) = with_draft(alloc)?;
-    let heads = (root, if back { x } else { root });
-    let landed = land_between(alloc, &mut machine, y, heads)?;
-    let head = machine.head(&main_name(alloc)?);
-    Ok((landed, head, machine.history_length()))
+// Whether it was landed, and then how many entries there are, and the head.
+fn check(
+    rt: &(impl Abort + Alloc<A = Global>),
+    last: &str,
+    landed: bool,
+    script: &str,
+) -> Result<(), Fail> {
+    let mut run = new_run(rt.alloc(), 65_536)?;
+    run_lines(rt, rt.alloc(), &mut run, DRAFT)?;
+    assert!(rt; attempt(rt.alloc(), &mut run, last)? == landed);
+    run_lines(rt, rt.alloc(), &mut run, script)
 }
+
+// Six entries before the plan, two moves and a landing.
+const BACK: &str = "\
+?entries = false 9 9
+?head = 66018dae6dcd26aa7f15f755f702edd69b683e14a7531d0ba9293f9127fda14f";
+
+// One move, and the next to where it stands.
+const AWAY: &str = "\
+?entries = false 7 7
+?head = ffb74880ae0d3038b6e6e402ea0840634c79efb3c927e280d44f36567ece7169";
 
 #[test]
 fn a_plan_outlasts_moves_that_bring_its_head_back(rt: HostRuntime) -> Result<(), Fail> {
-    let alloc = rt.alloc();
-    let new = id("66018dae6dcd26aa7f15f755f702edd69b683e14a7531d0ba9293f9127fda14f")?;
-    let root = id("ffb74880ae0d3038b6e6e402ea0840634c79efb3c927e280d44f36567ece7169")?;
-    for (back, wanted) in [
-        // Six entries before the plan, two moves and a landing.
-        (true, (true, Some(new), 9)),
-        // One move, and the next to where it stands.
-        (false, (false, Some(root), 7)),
-    ] {
-        let found = attempt(alloc, back)?;
-        assert_eq!(rt; found, wanted);
-    }
-    Ok(())
+    check(&rt, "1", true, BACK)?;
+    check(&rt, "0", false, AWAY)
 }

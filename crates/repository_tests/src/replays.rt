@@ -1,136 +1,96 @@
 //! Payloads of entries, entered one after another.
-use crate::examples::{ABC, Example, first, main_name};
-use crate::log::log_text;
-use object_id::Id;
+ghost use Rattle.std.specs.Prelude.{◌≡◌};
+ghost use Rattle.history_model.specs.History.{stored};
+ghost use Rattle.reply_model.specs.Legal.{IsLegal};
+
+use crate::rows::same;
+use crate::steps::{log_text, new_run, run_lines};
 use replay::{ReplayFault, enter_payload};
-use repo_calls::Ask;
 use repo_machine::Machine;
-use std::alloc::{AllocError, Global};
+use std::alloc::Global;
+use std::process::Abort;
 use std::test::Fail;
 
-// Makes a change, and gives the payload of its entry.
-fn payload(alloc: Global, machine: &mut Machine, ask: &Ask) -> Result<Vec<u8>, Fail> {
-    let Ok(judged) = machine.judge(alloc, 1, ask) else {
-        return Err(Fail::from("a change"));
-    };
-    let Some([_, _, _, _, payload @ .., _]) = judged.frame() else {
-        return Err(Fail::from("an entry"));
-    };
-    let payload = Vec::from_slice(alloc, payload)?;
-    let _granted = machine.admit(judged);
-    Ok(payload)
+// Payloads of a content, of a root and of `main` at it, of two drafts upon it and of their landings, which another program
+// spelled. `+` is entered, and `-` doesn't come next: in turn the changeset isn't known yet, the content is there already,
+// the landing is upon another head, and the draft has to be rewritten.
+const PAYLOADS: &str = "\
+4d046d61696e0001ffb74880ae0d3038b6e6e402ea0840634c79efb3c927e280d44f36567ece7169 = -
+42616263 = +
+42616263 = -
+4301000001610000000000000000000000000000000000000000 = +
+4d046d61696e0001ffb74880ae0d3038b6e6e402ea0840634c79efb3c927e280d44f36567ece7169 = +
+430101ffb74880ae0d3038b6e6e402ea0840634c79efb3c927e280d44f36567ece7169000161000000000000000000000000000000000000000100017001000000000000000003ba7816bf8f01cfea414140de5dae2223b00361a396177a9cb410ff61f20015ad = +
+430101ffb74880ae0d3038b6e6e402ea0840634c79efb3c927e280d44f36567ece7169000161000000000000000000000000000000000000000100017101000000000000000003ba7816bf8f01cfea414140de5dae2223b00361a396177a9cb410ff61f20015ad = +
+4c046d61696ee8795b6f358309976a85a48b88590a7b77ffcdc1ce55d29a761853d4ff0669f04243386b11aa7329d903967cff1321973ab33d090cb7df2fd2a1cf366de0e921000100000067430101e8795b6f358309976a85a48b88590a7b77ffcdc1ce55d29a761853d4ff0669f0000161000000000000000000000000000000000000000100017101000000000000000003ba7816bf8f01cfea414140de5dae2223b00361a396177a9cb410ff61f20015ad = -
+4c046d61696effb74880ae0d3038b6e6e402ea0840634c79efb3c927e280d44f36567ece7169e8795b6f358309976a85a48b88590a7b77ffcdc1ce55d29a761853d4ff0669f0000100000067430101ffb74880ae0d3038b6e6e402ea0840634c79efb3c927e280d44f36567ece7169000161000000000000000000000000000000000000000100017001000000000000000003ba7816bf8f01cfea414140de5dae2223b00361a396177a9cb410ff61f20015ad = +
+4c046d61696ee8795b6f358309976a85a48b88590a7b77ffcdc1ce55d29a761853d4ff0669f04243386b11aa7329d903967cff1321973ab33d090cb7df2fd2a1cf366de0e921000100000067430101ffb74880ae0d3038b6e6e402ea0840634c79efb3c927e280d44f36567ece7169000161000000000000000000000000000000000000000100017101000000000000000003ba7816bf8f01cfea414140de5dae2223b00361a396177a9cb410ff61f20015ad = -
+4c046d61696ee8795b6f358309976a85a48b88590a7b77ffcdc1ce55d29a761853d4ff0669f04243386b11aa7329d903967cff1321973ab33d090cb7df2fd2a1cf366de0e921000100000067430101e8795b6f358309976a85a48b88590a7b77ffcdc1ce55d29a761853d4ff0669f0000161000000000000000000000000000000000000000100017101000000000000000003ba7816bf8f01cfea414140de5dae2223b00361a396177a9cb410ff61f20015ad = +";
+
+// The same changes.
+const CHANGES: &str = "\
+content abc
+line - 1 0
+move 0
+change 0 p:abc
+change 0 q:abc
+land 1 = 1 kept
+land 2 = 1 new";
+
+// Enters a payload in hex digits, if it is the entry that comes next.
+fn enter(alloc: Global, machine: &mut Machine, digits: &str) -> Result<&'static str, Fail>
+    requires legal { IsLegal machine.old.header machine.old.history }
+    requires stored { machine.old.history ≡ stored machine.old.history }
+    ensures legal { IsLegal machine.new.header machine.new.history }
+    ensures stored { machine.new.history ≡ stored machine.new.history }
+{
+    let payload = hex::decode(alloc, digits)?;
+    match enter_payload(alloc, machine, payload.as_slice()) {
+        Ok(()) => Ok("+"),
+        Err(ReplayFault::BadPayload) => Ok("-"),
+        Err(ReplayFault::Memory) => Err(Fail::from("memory")),
+    }
 }
 
-// A changeset upon a parent that sets this path to `abc`.
-fn child(alloc: Global, parent: Id, path: &str) -> Result<Vec<u8>, AllocError> {
-    let (parents, edits) = ([parent], [(path, ABC)]);
-    let example = Example {
-        parents: &parents,
-        edits: &edits,
-        ..first()
-    };
-    example.bytes(alloc)
+fn enter_all(rt: &impl Abort, alloc: Global, machine: &mut Machine, rows: &str) -> Result<(), Fail>
+    requires legal { IsLegal machine.old.header machine.old.history }
+    requires stored { machine.old.history ≡ stored machine.old.history }
+{
+    'rows: for row in rows.lines() {
+        let (digits, wanted) = row.split_once(" = ").unwrap_or((row, ""));
+        let told = enter(alloc, machine, digits)?;
+        same(rt, told, wanted, row);
+    }
+    Ok(())
 }
 
-// The payload of a landing on `main` of one changeset as it is, on this head.
-fn unwritten(alloc: Global, head: Id, draft: &[u8]) -> Result<Vec<u8>, AllocError> {
-    let mut payload = Vec::from_slice(alloc, b"L\x04main")?;
-    payload.extend_from_slice(head.as_bytes())?;
-    payload.extend_from_slice(Id::of(draft).as_bytes())?;
-    payload.extend_from_slice(&[0, 1, 0, 0, 0, draft.len().min(255) as u8])?;
-    payload.extend_from_slice(draft)?;
-    Ok(payload)
+// The counts and the log.
+fn state(alloc: Global, machine: &Machine) -> Result<String, Fail> {
+    let log = log_text(alloc, machine)?;
+    Ok(format!(in alloc; "{:?} {}", machine.counts(), log.as_str())?)
 }
 
-// The entries of a content, a root with `main` at it, two drafts upon it, and their landings.
-struct Entries {
-    content: Vec<u8>,
-    root: Vec<u8>,
-    movement: Vec<u8>,
-    left: Vec<u8>,
-    right: Vec<u8>,
-    first_landing: Vec<u8>,
-    second_landing: Vec<u8>,
+fn entered(rt: &impl Abort, alloc: Global) -> Result<String, Fail> {
+    let mut machine = Machine::new(alloc, 65_536);
+    enter_all(rt, alloc, &mut machine, PAYLOADS)?;
+    state(alloc, &machine)
 }
 
-fn make_entries(alloc: Global, machine: &mut Machine) -> Result<Entries, Fail> {
-    let name = main_name(alloc)?;
-    let root = first().bytes(alloc)?;
-    let root_id = Id::of(root.as_slice());
-    let left = child(alloc, root_id, "p")?;
-    let right = child(alloc, root_id, "q")?;
-    let [left_id, right_id] = [Id::of(left.as_slice()), Id::of(right.as_slice())];
-    Ok(Entries {
-        content: payload(alloc, machine, &Ask::PutContent(b"abc"))?,
-        root: payload(alloc, machine, &Ask::PutChangeset(root.as_slice()))?,
-        movement: payload(
-            alloc,
-            machine,
-            &Ask::SetBookmark {
-                name: &name,
-                from: None,
-                to: Some(root_id),
-            },
-        )?,
-        left: payload(alloc, machine, &Ask::PutChangeset(left.as_slice()))?,
-        right: payload(alloc, machine, &Ask::PutChangeset(right.as_slice()))?,
-        first_landing: payload(
-            alloc,
-            machine,
-            &Ask::Land {
-                name: &name,
-                draft: left_id,
-            },
-        )?,
-        second_landing: payload(
-            alloc,
-            machine,
-            &Ask::Land {
-                name: &name,
-                draft: right_id,
-            },
-        )?,
-    })
+fn changed(rt: &impl Abort, alloc: Global) -> Result<String, Fail> {
+    let mut run = new_run(alloc, 65_536)?;
+    run_lines(rt, alloc, &mut run, CHANGES)?;
+    state(alloc, &run.machine)
 }
 
 #[test]
 fn payloads_are_entered_where_they_come_next(rt: HostRuntime) -> Result<(), Fail> {
-    let alloc = rt.alloc();
-    let mut source = Machine::new(alloc, 65_536);
-    let Entries {
-        content,
-        root,
-        movement,
-        left,
-        right,
-        first_landing,
-        second_landing,
-    } = make_entries(alloc, &mut source)?;
-    let unwritten = unwritten(alloc, Id::of(left.as_slice()), right.as_slice())?;
-    let bad = Err(ReplayFault::BadPayload);
-    let mut machine = Machine::new(alloc, 65_536);
-    let found = [
-        enter_payload(alloc, &mut machine, movement.as_slice()),
-        enter_payload(alloc, &mut machine, content.as_slice()),
-        enter_payload(alloc, &mut machine, content.as_slice()),
-        enter_payload(alloc, &mut machine, root.as_slice()),
-        enter_payload(alloc, &mut machine, movement.as_slice()),
-        enter_payload(alloc, &mut machine, left.as_slice()),
-        enter_payload(alloc, &mut machine, right.as_slice()),
-        enter_payload(alloc, &mut machine, second_landing.as_slice()),
-        enter_payload(alloc, &mut machine, first_landing.as_slice()),
-        enter_payload(alloc, &mut machine, unwritten.as_slice()),
-        enter_payload(alloc, &mut machine, second_landing.as_slice()),
-    ];
-    // The changeset isn't known yet, the content is there already, the landing is upon another head, the draft has to be
-    // rewritten.
-    let done = Ok(());
-    let wanted = [bad, done, bad, done, done, done, done, bad, done, bad, done];
-    assert_eq!(rt; found, wanted);
-    assert_eq!(rt; machine.counts(), source.counts());
-    assert_eq!(rt;
-        log_text(alloc, &machine)?.as_str(),
-        log_text(alloc, &source)?.as_str()
+    let entered = entered(&rt, rt.alloc())?;
+    let changed = changed(&rt, rt.alloc())?;
+    same(
+        &rt,
+        entered.as_str(),
+        changed.as_str(),
+        "what is there then",
     );
     Ok(())
 }

@@ -1,8 +1,8 @@
 //! Stacks on another head, and the paths that they touch.
-use crate::examples::{ABC, Edit, Example, first, id, path};
+use crate::examples::{Example, first, id, path};
 use bonsai::{Changeset, Commit};
 use object_id::Id;
-use path_conflict::{Clash, least_clash};
+use path_conflict::{Clash, is_rising, least_clash_uncounted};
 use rebase_stack::{rebase, touched};
 use repo_path::RepoPath;
 use std::alloc::Global;
@@ -13,7 +13,7 @@ fn commit_on(
     author: u8,
     parent: Id,
     message: usize,
-    edits: &[Edit],
+    edits: &str,
 ) -> Result<Commit, Fail> {
     let parents = [parent];
     Example {
@@ -41,8 +41,8 @@ fn on_sevens(alloc: Global, stack: &[&Changeset]) -> Result<Vec<Id>, Fail> {
 
 fn rewritten(alloc: Global) -> Result<Vec<Id>, Fail> {
     let ones = Id::from_bytes([1; 32]);
-    let one = commit_on(alloc, b'a', ones, 3, &[("a/b", None), ("b", ABC)])?;
-    let two = commit_on(alloc, b'b', one.id(), 0, &[("a/b", ABC), ("a.b", None)])?;
+    let one = commit_on(alloc, b'a', ones, 3, "-a/b b:abc")?;
+    let two = commit_on(alloc, b'b', one.id(), 0, "a/b:abc -a.b")?;
     on_sevens(alloc, &[one.changeset(), two.changeset()])
 }
 
@@ -60,12 +60,12 @@ fn a_stack_on_another_head(rt: HostRuntime) -> Result<(), Fail> {
 // The paths that two changesets touch, each behind a blank.
 fn touched_texts(alloc: Global) -> Result<String, Fail> {
     let one = Example {
-        edits: &[("a/b", None), ("b", ABC)],
+        edits: "-a/b b:abc",
         ..first()
     }
     .commit(alloc)?;
     let two = Example {
-        edits: &[("a/b", ABC), ("a.b", None)],
+        edits: "a/b:abc -a.b",
         ..first()
     }
     .commit(alloc)?;
@@ -98,7 +98,10 @@ fn places(alloc: Global, left: &[&str], right: &[&str]) -> Result<Option<(usize,
     let right = paths(alloc, right)?;
     let lefts: Vec<&RepoPath> = left.iter().collect(alloc)?;
     let rights: Vec<&RepoPath> = right.iter().collect(alloc)?;
-    let found = least_clash(lefts.as_slice(), rights.as_slice());
+    if !is_rising(lefts.as_slice()) || !is_rising(rights.as_slice()) {
+        return Err(Fail::from("rising paths"));
+    }
+    let found = least_clash_uncounted(lefts.as_slice(), rights.as_slice());
     Ok(found.map(|Clash { left, right }| (left, right)))
 }
 

@@ -1,9 +1,11 @@
 //! A store of a line `a`, `b`, `c`, of `d` on `b`, and of `e` without a parent.
-use crate::examples::{Example, first, ids_of};
-use ancestry::Chain;
+use crate::examples::{Example, first};
+use crate::rows::same;
+use bonsai::Changeset;
 use changeset_store::ChangesetStore;
 use object_id::Id;
 use std::alloc::Global;
+use std::process::Abort;
 use std::sync::Arc;
 use std::test::Fail;
 
@@ -24,58 +26,120 @@ fn add(alloc: Global, store: &mut ChangesetStore, author: u8, parents: &[Id]) ->
     Ok(id)
 }
 
-// The store, and the ids of `a` to `e`.
-fn filled(alloc: Global) -> Result<(ChangesetStore, [Id; 5]), Fail> {
-    let mut store = ChangesetStore::new(alloc);
-    let a = add(alloc, &mut store, b'a', &[])?;
-    let b = add(alloc, &mut store, b'b', &[a])?;
-    let c = add(alloc, &mut store, b'c', &[b])?;
-    let d = add(alloc, &mut store, b'd', &[b])?;
-    let e = add(alloc, &mut store, b'e', &[])?;
-    Ok((store, [a, b, c, d, e]))
+// A store, and the ids of what it has.
+#[derive(Drop)]
+struct Filled {
+    store: ChangesetStore,
+    ids: Vec<Id>,
 }
 
-// The ids of what follows the fork in the chains of a draft and of a head, and the root's number.
-fn parted(
+// Adds the changeset of an author on the one with this number.
+fn put_on(alloc: Global, filled: &mut Filled, author: u8, parent: usize) -> Result<(), Fail> {
+    let parent = *filled.ids.get(parent).ok_or("a parent")?;
+    let id = add(alloc, &mut filled.store, author, &[parent])?;
+    Ok(filled.ids.push(id)?)
+}
+
+fn put_alone(alloc: Global, filled: &mut Filled, author: u8) -> Result<(), Fail> {
+    let id = add(alloc, &mut filled.store, author, &[])?;
+    Ok(filled.ids.push(id)?)
+}
+
+fn new_filled(alloc: Global) -> Result<Filled, Fail> {
+    let mut filled = Filled {
+        store: ChangesetStore::new(alloc),
+        ids: Vec::new(alloc),
+    };
+    put_alone(alloc, &mut filled, b'a')?;
+    put_on(alloc, &mut filled, b'b', 0)?;
+    put_on(alloc, &mut filled, b'c', 1)?;
+    put_on(alloc, &mut filled, b'd', 1)?;
+    put_alone(alloc, &mut filled, b'e')?;
+    Ok(filled)
+}
+
+// The id of the author of this letter.
+fn id_of(ids: &[Id], letter: &str) -> Result<Id, Fail> {
+    let number = letter.bytes().next().ok_or("a letter")?.wrapping_sub(b'a');
+    Ok(*ids.get(usize::from(number)).ok_or("a changeset")?)
+}
+
+fn letter_of(ids: &[Id], id: Id) -> char {
+    for (letter, other) in ('a'..='e').zip(ids.iter()) {
+        if *other == id {
+            return letter;
+        }
+    }
+    '?'
+}
+
+// The letters of changesets, behind a blank.
+fn put_letters(
+    alloc: Global,
+    ids: &[Id],
+    out: &mut String,
+    changesets: &[&Changeset],
+) -> Result<(), Fail> {
+    out.push(' ')?;
+    for changeset in changesets {
+        out.push(letter_of(ids, changeset.id(alloc)?))?;
+    }
+    Ok(())
+}
+
+// The root's number, and what follows the fork in the chains of a draft and of a head.
+fn put_parted(
     alloc: Global,
     store: &ChangesetStore,
+    ids: &[Id],
+    out: &mut String,
     head: &Id,
     draft: &Id,
-) -> Result<Option<(u32, Vec<Id>, Vec<Id>)>, Fail> {
+) -> Result<(), Fail> {
     if !store.is_known(head) || !store.is_known(draft) {
         return Err(Fail::from("known changesets"));
     }
     let Some(fork) = store.fork(head, draft) else {
-        return Ok(None);
+        return Ok(());
     };
-    let stack = store.stack(alloc, &fork)?;
-    let range = store.range(alloc, &fork)?;
-    let stack = ids_of(alloc, stack.as_slice())?;
-    let range = ids_of(alloc, range.as_slice())?;
-    Ok(Some((fork.root, stack, range)))
+    write!(out, "{}", fork.root)?;
+    put_letters(alloc, ids, out, store.stack(alloc, &fork)?.as_slice())?;
+    put_letters(alloc, ids, out, store.range(alloc, &fork)?.as_slice())
 }
+
+fn check_parted(rt: &impl Abort, alloc: Global, filled: &Filled, row: &str) -> Result<(), Fail> {
+    let (names, wanted) = row.split_once(" = ").ok_or("a row")?;
+    let (head, draft) = names.split_once(" ").ok_or("two names")?;
+    let head = id_of(filled.ids.as_slice(), head)?;
+    let draft = id_of(filled.ids.as_slice(), draft)?;
+    let mut out = String::new(alloc);
+    put_parted(
+        alloc,
+        &filled.store,
+        filled.ids.as_slice(),
+        &mut out,
+        &head,
+        &draft,
+    )?;
+    same(rt, out.as_str(), wanted.trim_end_matches("-"), row);
+    Ok(())
+}
+
+// A head and a draft, the root's number, the stack and the range. They share nothing where it is `-`.
+const PARTED: &str = "\
+c d = 1 d c
+d c = 1 c d
+a d = 0 bd -
+c a = 0  bc
+b b = 1  -
+c e = -
+e a = -";
 
 #[test]
 fn where_chains_part(rt: HostRuntime) -> Result<(), Fail> {
-    let alloc = rt.alloc();
-    let (store, [a, b, c, d, e]) = filled(alloc)?;
-    let table: [(Id, Id, Option<(u32, &[Id], &[Id])>); 7] = [
-        (c, d, Some((1, &[d], &[c]))),
-        (d, c, Some((1, &[c], &[d]))),
-        (a, d, Some((0, &[b, d], &[]))),
-        (c, a, Some((0, &[], &[b, c]))),
-        (b, b, Some((1, &[], &[]))),
-        (c, e, None),
-        (e, a, None),
-    ];
-    for (head, draft, wanted) in table {
-        let found = parted(alloc, &store, &head, &draft)?;
-        let found = found.as_ref().map(|(root, stack, range)| (
-            *root,
-            stack.as_slice(),
-            range.as_slice(),
-        ));
-        assert_eq!(rt; found, wanted, "{draft:?} on {head:?}");
+    let filled = new_filled(rt.alloc())?;
+    for row in PARTED.lines() {
+        check_parted(&rt, rt.alloc(), &filled, row)?;
     }
     Ok(())
 }
@@ -85,25 +149,5 @@ fn room_is_not_made_for_more_than_numbers_go(rt: HostRuntime) -> Result<(), Fail
     let mut store = ChangesetStore::new(rt.alloc());
     assert!(rt; store.reserve(2_147_483_649).is_err());
     assert!(rt; store.reserve(3).is_ok());
-    Ok(())
-}
-
-// The members of a line 0 - 1 - 2 that follow the first.
-fn following(alloc: Global) -> Result<Vec<u32>, Fail> {
-    let mut chain = Chain::new(alloc);
-    let root = chain.add(None)?;
-    let child = chain.add(Some(root))?;
-    let last = chain.add(Some(child))?;
-    if root < chain.len() && last < chain.len() && chain.is_ancestor(root, last) {
-        Ok(chain.following(alloc, root, last)?)
-    } else {
-        Err(Fail::from("an ancestor"))
-    }
-}
-
-#[test]
-fn members_that_follow_an_ancestor(rt: HostRuntime) -> Result<(), Fail> {
-    let members = following(rt.alloc())?;
-    assert_eq!(rt; members.as_slice(), [1, 2].as_slice());
     Ok(())
 }

@@ -4,7 +4,6 @@ ghost use Rattle.history_model.specs.History.{Entry};
 ghost use Rattle.history_model.specs.Journal.{Header};
 ghost use Rattle.reply_model.specs.After.{Call, Answer, Asks, Looks};
 ghost use Rattle.repo_calls.specs.Calls.{ask_seen};
-ghost use Rattle.turn_history.specs.Opening.{Opening};
 ghost use Rattle.seat_calls.specs.Asking.{IsAnswer, question_seen, stored_answer};
 ghost use Rattle.seat_calls.specs.Replying.{IsReplying};
 
@@ -23,8 +22,10 @@ pub trait Seat {
     /// The number under which its own entries stand.
     ghost number: { Self → ℕ };
 
-    // What no call changes.
-    ghost opening: { Self → Opening };
+    // What no call changes: where the seat belongs.
+    ghost Home: { Type 0 };
+
+    ghost home: { Self → Home };
 
     /// How a call is answered: the header, the front before, the seat's number, the call, the
     /// answer, and the front after.
@@ -35,14 +36,14 @@ pub trait Seat {
         ensures reply { replies (header self.old) (front self.old) (number self.old) (Asks (ask_seen ask.now)) (stored_answer result) (front self.new) }
         ensures header { header self.new ≡ header self.old }
         ensures number { number self.new ≡ number self.old }
-        ensures opening { opening self.new ≡ opening self.old };
+        ensures home { home self.new ≡ home self.old };
 
     /// Answers a read.
     fn look(&mut self, alloc: Global, question: &Question) -> Result<Seen, AskFault>
         ensures reply { (answer : Answer) × IsAnswer result answer × replies (header self.old) (front self.old) (number self.old) (Looks (question_seen question.now)) answer (front self.new) }
         ensures header { header self.new ≡ header self.old }
         ensures number { number self.new ≡ number self.old }
-        ensures opening { opening self.new ≡ opening self.old };
+        ensures home { home self.new ≡ home self.old };
 
     ghost lawful: { IsReplying replies };
 }

@@ -25,7 +25,9 @@ impl Seat for Spoiled {
 
     ghost number = { λ _. 0 };
 
-    ghost opening = { λ _. unopened };
+    ghost Home = { Unit {0} };
+
+    ghost home = { λ _. tt };
 
     ghost replies = { λ _ _ _ _ answer _. IsSpoiled answer };
 

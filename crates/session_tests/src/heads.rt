@@ -1,9 +1,12 @@
 //! Streams of requests: what is taken from them, what refuses a head, where it ends, and whether the session ends after
 //! it. Each line has a stream, how its session ends, and its responses.
-use crate::session::{cut, put_stream, status_of, streamed};
-use file_commands::Status;
+use crate::program::{same, status_of};
+use crate::session::{cut, put_responses, put_stream, session};
 use std::alloc::Global;
+use std::process::Abort;
+use std::sync::Wait;
 use std::test::Fail;
+use std::thread::Threads;
 
 const STREAMS: &str = r#" | done
 PUT /content HTTP/1.1~Content-Length: 3~~abc | done | 200 OK | {"code":"content","id":"ba7816bf8f01cfea414140de5dae2223b00361a396177a9cb410ff61f20015ad","size":3} | -
@@ -61,20 +64,53 @@ GET / HTTP/1.1^ | A:^ | 65 | B^^ | refused | 400 Bad Request | {"code":"bad-head
 GET / HTTP/1.1^ | A:^ | 5456 | ^ | refused | 431 Request Header Fields Too Large | {"code":"too-many-headers"} | Connection: close
  | ~ | 20000 | GET / HTTP/1.1~~ | done | 404 Not Found | {"code":"no-route"} | -"#;
 
-#[test]
-fn streams_are_taken_in_any_pieces(rt: HostRuntime) -> Result<(), Fail> {
-    for (script, piece) in [(STREAMS, 1), (STREAMS, 65_536), (HEADS, 7)] {
-        for line in script.lines() {
-            let (stream, rest) = cut(line);
-            let (end, responses) = cut(rest);
-            let mut bytes = Vec::new(rt.alloc());
-            put_stream(&mut bytes, stream)?;
-            let came = streamed(rt.alloc(), bytes.as_slice(), responses, piece)?;
-            assert_eq!(rt; came.status, status_of(end), "{line}");
-            assert_eq!(rt; came.written.as_slice(), came.wanted.as_slice(), "{line}");
-        }
+// Reads a stream in one session, which ends so and writes these responses.
+fn check<R: Abort + Threads + Wait + Sync>(
+    rt: &R,
+    alloc: Global,
+    stream: &[u8],
+    end: &str,
+    responses: &str,
+    piece: usize,
+) -> Result<(), Fail> {
+    let came = session(rt, alloc, stream, piece, &[], &[])?;
+    let mut wanted = Vec::new(alloc);
+    put_responses(alloc, &mut wanted, responses)?;
+    let found = (came.status, came.written.as_slice());
+    same(rt, found, (status_of(end), wanted.as_slice()), responses);
+    Ok(())
+}
+
+fn check_line<R: Abort + Threads + Wait + Sync>(
+    rt: &R,
+    alloc: Global,
+    line: &str,
+    piece: usize,
+) -> Result<(), Fail> {
+    let (stream, rest) = cut(line);
+    let (end, responses) = cut(rest);
+    let mut bytes = Vec::new(alloc);
+    put_stream(&mut bytes, stream)?;
+    check(rt, alloc, bytes.as_slice(), end, responses, piece)
+}
+
+fn check_all<R: Abort + Threads + Wait + Sync>(
+    rt: &R,
+    alloc: Global,
+    rows: &str,
+    piece: usize,
+) -> Result<(), Fail> {
+    for line in rows.lines() {
+        check_line(rt, alloc, line, piece)?;
     }
     Ok(())
+}
+
+#[test]
+fn streams_are_taken_in_any_pieces(rt: HostRuntime) -> Result<(), Fail> {
+    check_all(&rt, rt.alloc(), STREAMS, 1)?;
+    check_all(&rt, rt.alloc(), STREAMS, 65_536)?;
+    check_all(&rt, rt.alloc(), HEADS, 7)
 }
 
 // A front, a part so many times, and a back.
@@ -94,37 +130,37 @@ fn repeated(
     Ok(bytes)
 }
 
+fn check_bound<R: Abort + Threads + Wait + Sync>(
+    rt: &R,
+    alloc: Global,
+    line: &str,
+) -> Result<(), Fail> {
+    let (front, rest) = cut(line);
+    let (part, rest) = cut(rest);
+    let (times, rest) = cut(rest);
+    let (back, rest) = cut(rest);
+    let (end, responses) = cut(rest);
+    let stream = repeated(alloc, front, part, times.parse()?, back)?;
+    check(rt, alloc, stream.as_slice(), end, responses, 65_536)
+}
+
 #[test]
 fn heads_have_bounds(rt: HostRuntime) -> Result<(), Fail> {
     for line in BOUNDS.lines() {
-        let (front, rest) = cut(line);
-        let (part, rest) = cut(rest);
-        let (times, rest) = cut(rest);
-        let (back, rest) = cut(rest);
-        let (end, responses) = cut(rest);
-        let times = times.parse().map_err(|_| "no number")?;
-        let stream = repeated(rt.alloc(), front, part, times, back)?;
-        let came = streamed(rt.alloc(), stream.as_slice(), responses, 65_536)?;
-        assert_eq!(rt; came.status, status_of(end), "{line}");
-        assert_eq!(rt; came.written.as_slice(), came.wanted.as_slice(), "{line}");
+        check_bound(&rt, rt.alloc(), line)?;
     }
     Ok(())
 }
+
+// The repository has room for 65,536 bytes: a header of 17, and a record of 5 and the payload.
+const FULL: &str = r#"507 Insufficient Storage | {"code":"full","length":1048577,"size":17} | -"#;
 
 #[test]
 fn the_longest_body_is_taken_whole(rt: HostRuntime) -> Result<(), Fail> {
     let front = "PUT /content HTTP/1.1^Content-Length: 1048576^^";
     let stream = repeated(rt.alloc(), front, "0123456789abcdef", 65_536, "")?;
-    // The repository has room for 65,536 bytes: a header of 17, and a record of 5 and the payload.
-    let full = "507 Insufficient Storage | {\"code\":\"full\",\"length\":1048577,\"size\":17} | -";
-    let came = streamed(rt.alloc(), stream.as_slice(), full, 65_536)?;
-    assert_eq!(rt; came.status, Status::Done);
-    assert_eq!(rt; came.written.as_slice(), came.wanted.as_slice());
-
+    check(&rt, rt.alloc(), stream.as_slice(), "done", FULL, 65_536)?;
     // The same without its last four bytes: the request is cut.
     let cut = stream.as_slice().get(..1_048_619).ok_or("short")?;
-    let came = streamed(rt.alloc(), cut, "", 65_536)?;
-    assert_eq!(rt; came.status, Status::Cut);
-    assert!(rt; came.written.is_empty());
-    Ok(())
+    check(&rt, rt.alloc(), cut, "cut", "", 65_536)
 }

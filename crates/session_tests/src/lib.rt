@@ -3,8 +3,6 @@
 #![tactic(auto)]
 
 #[cfg(test)]
-mod commits;
-#[cfg(test)]
 mod files;
 #[cfg(test)]
 mod heads;
@@ -18,7 +16,5 @@ mod real_file;
 mod session;
 #[cfg(test)]
 mod stops;
-#[cfg(test)]
-mod targets;
 #[cfg(test)]
 mod words;

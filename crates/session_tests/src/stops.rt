@@ -1,10 +1,13 @@
 //! Disks that fail, and crashes.
-use crate::program::{Came, disk_of, link_of, run_line};
-use crate::session::{made, put_script};
-use blob_disk::CallKind;
+use crate::program::{Came, disk_of, link_of, made, run_line, run_on, same};
+use crate::session::{cut, script_of};
+use blob_disk::{CallKind, MemDisk};
 use file_commands::Status;
-use std::alloc::Global;
+use std::alloc::{AllocError, Global};
+use std::process::Abort;
+use std::sync::Wait;
 use std::test::Fail;
+use std::thread::Threads;
 
 const PUT: &str =
     r#"PUT /content | abc | 200 OK | {"code":"content","id":"ba7816bf8f01cfea414140de5dae2223b00361a396177a9cb410ff61f20015ad","size":3}"#;
@@ -24,196 +27,212 @@ const UNREAD: &str =
     r#"GET /content/ba7816bf8f01cfea414140de5dae2223b00361a396177a9cb410ff61f20015ad |  | 500 Internal Server Error | {"code":"read-fault"}
 GET /content/ba7816bf8f01cfea414140de5dae2223b00361a396177a9cb410ff61f20015ad |  | 200 OK | 0x616263"#;
 
-// Runs a session of this script on a file of these bytes, of which the listed calls fail. The file stays as a crash
-// leaves it that writes `fill` where nothing is sure.
-fn crashed(
+/// A call that is to fail: the kind and which one of it. No call fails for `None`.
+type Failing = Option<(CallKind, u64)>;
+
+fn failing_disk(alloc: Global, file: &[u8], failing: Failing) -> Result<MemDisk, AllocError> {
+    let mut calls = Vec::new(alloc);
+    if let Some(call) = failing {
+        calls.push(call)?;
+    }
+    disk_of(alloc, file, calls)
+}
+
+// Runs a session of this script on a file of these bytes. The file stays as a crash leaves it that writes `fill` where
+// nothing is sure.
+fn crashed<R: Abort + Threads + Wait + Sync>(
+    rt: &R,
     alloc: Global,
     file: &[u8],
-    failing: &[(CallKind, u64)],
-    script: &str,
+    failing: Failing,
+    lines: &str,
     status: Status,
     fill: u8,
-) -> Result<Option<Vec<u8>>, Fail> {
-    let mut input = Vec::new(alloc);
-    let mut wanted = Vec::new(alloc);
-    put_script(alloc, &mut input, &mut wanted, script)?;
-    let link = link_of(alloc, input.as_slice())?;
-    let disk = disk_of(alloc, file, failing)?;
-    let Came {
-        status: found,
-        written,
-        disk,
-    } = run_line(alloc, "hg_cli session repository", link, Some(disk))?;
-    let Some(disk) = disk else {
-        return Ok(None);
-    };
-    if found != status || written.as_slice() != wanted.as_slice() {
-        return Ok(None);
-    }
-    let left = disk.crash(fill);
-    Ok(Some(Vec::from_slice(alloc, left.bytes())?))
+) -> Result<MemDisk, Fail> {
+    let script = script_of(alloc, lines)?;
+    let disk = failing_disk(alloc, file, failing)?;
+    let came = run_line(
+        rt,
+        alloc,
+        "hg_cli session repository",
+        script.link(alloc)?,
+        Some(disk),
+    )?;
+    let found = (came.status, came.written.as_slice());
+    same(rt, found, (status, script.wanted.as_slice()), lines);
+    Ok(came.disk.ok_or("a file")?.crash(fill))
+}
+
+// What a session of this script, whose calls are done, leaves of the file.
+fn left<R: Abort + Threads + Wait + Sync>(
+    rt: &R,
+    alloc: Global,
+    file: &[u8],
+    lines: &str,
+) -> Result<MemDisk, Fail> {
+    crashed(rt, alloc, file, None, lines, Status::Done, 0)
 }
 
 // The file of a new repository.
-fn new_file(alloc: Global) -> Result<Vec<u8>, Fail> {
-    let mut file = Vec::new(alloc);
-    if let Some(disk) = made(alloc, 65_536)? {
-        file.extend_from_slice(disk.bytes())?;
+fn new_file<R: Threads + Wait + Sync>(rt: &R, alloc: Global) -> Result<MemDisk, Fail> {
+    Ok(made(rt, alloc, 65_536)?.ok_or("a file")?)
+}
+
+fn kind_of(word: &str) -> Result<CallKind, Fail> {
+    match word {
+        "size" => Ok(CallKind::Size),
+        "read" => Ok(CallKind::Read),
+        "write" => Ok(CallKind::Write),
+        "sync" => Ok(CallKind::Sync),
+        _ => Err(Fail::from("a call")),
     }
-    Ok(file)
 }
 
-// How many calls of the kind opening the file makes.
-fn calls_of_opening(alloc: Global, file: &[u8], kind: CallKind) -> Result<u64, Fail> {
-    let disk = disk_of(alloc, file, &[])?;
-    let Came {
-        status: _,
-        written: _,
-        disk,
-    } = run_line(
-        alloc,
-        "hg_cli fsck repository",
-        link_of(alloc, b"")?,
-        Some(disk),
-    )?;
-    let Some(disk) = disk else {
-        return Ok(0);
-    };
-    Ok(disk.calls(kind))
+// The call `KIND N`, or none for `-`.
+fn failing_of(text: &str) -> Result<Failing, Fail> {
+    match text.split_once(" ") {
+        Some((word, number)) => Ok(Some((kind_of(word)?, number.parse()?))),
+        None => Ok(None),
+    }
 }
 
-/// A call that fails in an upload, or none; what a crash writes then where nothing is sure; and how the file opens again.
-#[derive(Clone, Copy)]
-struct Stop {
-    failing: Option<(CallKind, u64)>,
-    fill: u8,
-    opens: &'static str,
-}
-
-const FAILED: &str = r#"PUT /content | abc | 500 Internal Server Error | {"code":"disk-fault"}"#;
+// A call that fails in an upload, what a crash writes then where nothing is sure, and how many contents the file has when
+// it is opened again. Opening syncs once, and an upload writes, syncs, writes the gate and syncs. What stopped it is that
+// the call after failed.
+const STOPS: &str = "\
+write 0 | 1 | 0
+sync 1 | 0 | 0
+sync 1 | 1 | 0
+write 1 | 0 | 0
+write 1 | 1 | 1
+sync 2 | 0 | 0
+sync 2 | 1 | 1
+- | 0 | 1";
 
 const OLD: &str = "entries 0 contents 0 changesets 0 bookmarks 0 size 17\n";
 
 const NEW: &str = "entries 1 contents 1 changesets 0 bookmarks 0 size 26\n";
 
-// Opening syncs once, and an upload writes, syncs, writes the gate and syncs. What stopped it is that the call after
-// failed.
-const STOPS: [Stop; 8] = [
-    Stop {
-        failing: Some((CallKind::Write, 0)),
-        fill: 1,
-        opens: OLD,
-    },
-    Stop {
-        failing: Some((CallKind::Sync, 1)),
-        fill: 0,
-        opens: OLD,
-    },
-    Stop {
-        failing: Some((CallKind::Sync, 1)),
-        fill: 1,
-        opens: OLD,
-    },
-    Stop {
-        failing: Some((CallKind::Write, 1)),
-        fill: 0,
-        opens: OLD,
-    },
-    Stop {
-        failing: Some((CallKind::Write, 1)),
-        fill: 1,
-        opens: NEW,
-    },
-    Stop {
-        failing: Some((CallKind::Sync, 2)),
-        fill: 0,
-        opens: OLD,
-    },
-    Stop {
-        failing: Some((CallKind::Sync, 2)),
-        fill: 1,
-        opens: NEW,
-    },
-    Stop {
-        failing: None,
-        fill: 0,
-        opens: NEW,
-    },
-];
+const FAILED: &str = r#"PUT /content | abc | 500 Internal Server Error | {"code":"disk-fault"}"#;
 
-// Whether the file opens so after the stop.
-fn opens_so(alloc: Global, file: &[u8], stop: &Stop) -> Result<bool, Fail> {
-    let mut failing = Vec::new(alloc);
-    if let Some(call) = stop.failing {
-        failing.push(call)?;
-    }
-    let (script, status) = if stop.failing.is_some() {
-        (FAILED, Status::DiskFault)
-    } else {
-        (PUT, Status::Done)
+// What an upload leaves of a new repository.
+fn stopped<R: Abort + Threads + Wait + Sync>(
+    rt: &R,
+    alloc: Global,
+    failing: Failing,
+    fill: u8,
+) -> Result<MemDisk, Fail> {
+    let file = new_file(rt, alloc)?;
+    let (lines, status) = match failing {
+        Some(_) => (FAILED, Status::DiskFault),
+        None => (PUT, Status::Done),
     };
-    let Some(left) = crashed(alloc, file, failing.as_slice(), script, status, stop.fill)? else {
-        return Ok(false);
-    };
-    let disk = disk_of(alloc, left.as_slice(), &[])?;
-    let line = "hg_cli fsck repository";
-    let came = run_line(alloc, line, link_of(alloc, b"")?, Some(disk))?;
-    Ok(came.written.as_slice() == stop.opens.as_bytes())
+    crashed(rt, alloc, file.bytes(), failing, lines, status, fill)
+}
+
+fn check_stop<R: Abort + Threads + Wait + Sync>(
+    rt: &R,
+    alloc: Global,
+    row: &str,
+) -> Result<(), Fail> {
+    let (failing, rest) = cut(row);
+    let (fill, contents) = cut(rest);
+    let left = stopped(rt, alloc, failing_of(failing)?, fill.parse()?)?;
+    let counted = run_on(rt, alloc, "hg_cli fsck repository", left.bytes())?;
+    let wanted = if contents == "0" { OLD } else { NEW };
+    let found = (counted.status, counted.written.as_slice());
+    same(rt, found, (Status::Done, wanted.as_bytes()), row);
+    Ok(())
 }
 
 #[test]
 fn a_crash_leaves_the_old_file_or_the_new(rt: HostRuntime) -> Result<(), Fail> {
-    let alloc = rt.alloc();
-    let file = new_file(alloc)?;
-    for stop in STOPS.iter() {
-        assert!(rt; opens_so(alloc, file.as_slice(), stop)?);
+    for row in STOPS.lines() {
+        check_stop(&rt, rt.alloc(), row)?;
     }
+    Ok(())
+}
+
+// How many calls of the kind opening the file makes.
+fn calls_of_opening<R: Threads + Wait + Sync>(
+    rt: &R,
+    alloc: Global,
+    file: &[u8],
+    kind: CallKind,
+) -> Result<u64, Fail> {
+    let came = run_on(rt, alloc, "hg_cli fsck repository", file)?;
+    Ok(came.disk.ok_or("a file")?.calls(kind))
+}
+
+// Runs the script on a file that a session of another one left, where the first call of this kind after opening fails.
+// Once the file is opened again, it takes changes.
+fn check_fault<R: Abort + Threads + Wait + Sync>(
+    rt: &R,
+    alloc: Global,
+    before: &str,
+    kind: CallKind,
+    lines: &str,
+    status: Status,
+) -> Result<(), Fail> {
+    let file = left(rt, alloc, new_file(rt, alloc)?.bytes(), before)?;
+    let number = calls_of_opening(rt, alloc, file.bytes(), kind)?;
+    let file = crashed(
+        rt,
+        alloc,
+        file.bytes(),
+        Some((kind, number)),
+        lines,
+        status,
+        0,
+    )?;
+    let _again = left(rt, alloc, file.bytes(), PUT)?;
     Ok(())
 }
 
 #[test]
 fn a_disk_fault_ends_changes_and_no_reads(rt: HostRuntime) -> Result<(), Fail> {
-    let alloc = rt.alloc();
-    let new = new_file(alloc)?;
-    for (before, kind, script, status) in [
-        (MAIN, CallKind::Sync, DOWN, Status::DiskFault),
-        (PUT, CallKind::Read, UNREAD, Status::Done),
-    ] {
-        let file = crashed(alloc, new.as_slice(), &[], before, Status::Done, 0)?;
-        let Some(file) = file else {
-            assert!(rt; false, "{before}");
-            continue;
-        };
-        let failing = (kind, calls_of_opening(alloc, file.as_slice(), kind)?);
-        let left = crashed(alloc, file.as_slice(), &[failing], script, status, 0)?;
-        assert!(rt; left.is_some(), "{script}");
-        // once it is opened again, it takes changes
-        if let Some(left) = left {
-            let again = crashed(alloc, left.as_slice(), &[], PUT, Status::Done, 0)?;
-            assert!(rt; again.is_some(), "{script}");
-        }
-    }
+    check_fault(
+        &rt,
+        rt.alloc(),
+        MAIN,
+        CallKind::Sync,
+        DOWN,
+        Status::DiskFault,
+    )?;
+    check_fault(&rt, rt.alloc(), PUT, CallKind::Read, UNREAD, Status::Done)
+}
+
+// Runs a command on a new repository, of which this call fails.
+fn opened<R: Threads + Wait + Sync>(
+    rt: &R,
+    alloc: Global,
+    failing: Failing,
+    line: &str,
+) -> Result<Came, Fail> {
+    let file = new_file(rt, alloc)?;
+    let disk = failing_disk(alloc, file.bytes(), failing)?;
+    run_line(rt, alloc, line, link_of(alloc, b"GET")?, Some(disk))
+}
+
+fn check_opening<R: Abort + Threads + Wait + Sync>(
+    rt: &R,
+    alloc: Global,
+    call: &str,
+) -> Result<(), Fail> {
+    let failing = failing_of(call)?;
+    let came = opened(rt, alloc, failing, "hg_cli fsck repository")?;
+    let found = (came.status, came.written.as_slice());
+    same(rt, found, (Status::DiskFault, b"disk fault\n"), call);
+    let came = opened(rt, alloc, failing, "hg_cli session repository")?;
+    let found = (came.status, came.written.as_slice());
+    same(rt, found, (Status::DiskFault, b""), call);
     Ok(())
 }
 
 #[test]
 fn a_disk_that_fails_in_opening_is_a_disk_fault(rt: HostRuntime) -> Result<(), Fail> {
-    let alloc = rt.alloc();
-    let file = new_file(alloc)?;
-    for failing in [
-        (CallKind::Size, 0),
-        (CallKind::Sync, 0),
-        (CallKind::Read, 0),
-    ] {
-        for (line, text) in [
-            ("hg_cli fsck repository", "disk fault\n"),
-            ("hg_cli session repository", ""),
-        ] {
-            let disk = disk_of(alloc, file.as_slice(), &[failing])?;
-            let came = run_line(alloc, line, link_of(alloc, b"GET")?, Some(disk))?;
-            assert_eq!(rt; came.status, Status::DiskFault, "{failing:?}");
-            assert_eq!(rt; came.written.as_slice(), text.as_bytes(), "{failing:?}");
-        }
+    for call in "size 0, sync 0, read 0".split(", ") {
+        check_opening(&rt, rt.alloc(), call)?;
     }
     Ok(())
 }

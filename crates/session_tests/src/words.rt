@@ -1,58 +1,94 @@
 //! The words of the command line, the lines that answer them, and the statuses.
-use crate::program::run_line;
+use crate::program::{Came, run_line, same, status_of};
+use crate::session::cut;
 use command_line::refuse_words;
 use file_commands::Status;
 use ports::MemLink;
 use program_words::texts::{HELP, VERSION};
+use std::alloc::Global;
 use std::io::ErrorKind;
+use std::process::Abort;
+use std::sync::Wait;
 use std::test::Fail;
+use std::thread::Threads;
 
 const USAGE: &str =
     "usage: hg_cli init FILE CAP | session FILE | serve FILE ADDR LANES DERIVERS CONNECTIONS | fsck FILE | gen SEED STACKS CLIENTS\n";
 
-#[test]
-fn words_that_open_no_file_get_their_text(rt: HostRuntime) -> Result<(), Fail> {
-    for (line, room, status, text) in [
-        ("", 4096, Status::Usage, USAGE),
-        ("hg_cli", 4096, Status::Usage, USAGE),
-        ("hg_cli session", 4096, Status::Usage, USAGE),
-        ("hg_cli Session repository", 4096, Status::Usage, USAGE),
-        ("hg_cli session repository more", 126, Status::Usage, USAGE),
-        ("hg_cli init repository 4095", 125, Status::Usage, ""),
-        (
-            "hg_cli serve repository 127.0.0.1:0 1 1 1",
-            4096,
-            Status::Usage,
-            USAGE,
-        ),
-        ("hg_cli gen 7 5 3", 4096, Status::Usage, USAGE),
-        ("hg_cli session --help", 4096, Status::Done, HELP),
-        ("hg_cli -V", 4096, Status::Done, VERSION),
-        ("hg_cli -V", 12, Status::StreamFault, ""),
-    ] {
-        let alloc = rt.alloc();
-        let bytes = Vec::from_slice(alloc, b"GET /")?;
-        let link = MemLink::new(alloc, bytes, 9, room, Vec::new(alloc), Vec::new(alloc))?;
-        let came = run_line(alloc, line, link, None)?;
-        assert_eq!(rt; came.status, status, "{line}");
-        assert_eq!(rt; came.written.as_slice(), text.as_bytes(), "{line}");
-        assert!(rt; came.disk.is_none(), "{line}");
+// Words, how many bytes can be written, the status, and the text that is written.
+const ROWS: &str = r#" | 4096 | usage | usage
+hg_cli | 4096 | usage | usage
+hg_cli session | 4096 | usage | usage
+hg_cli Session repository | 4096 | usage | usage
+hg_cli session repository more | 126 | usage | usage
+hg_cli init repository 4095 | 125 | usage | none
+hg_cli serve repository 127.0.0.1:0 1 9 1 | 4096 | usage | usage
+hg_cli gen 7 5 3 | 4096 | usage | usage
+hg_cli session --help | 4096 | done | help
+hg_cli -V | 4096 | done | version
+hg_cli -V | 12 | stream fault | none"#;
+
+fn text_of(word: &str) -> &'static str {
+    match word {
+        "usage" => USAGE,
+        "help" => HELP,
+        "version" => VERSION,
+        _ => "",
     }
+}
+
+// Runs the program without a file, where so many bytes can be written.
+fn came_of<R: Threads + Wait + Sync>(
+    rt: &R,
+    alloc: Global,
+    line: &str,
+    room: usize,
+) -> Result<Came, Fail> {
+    let bytes = Vec::from_slice(alloc, b"GET /")?;
+    let link = MemLink::new(alloc, bytes, 9, room, Vec::new(alloc), Vec::new(alloc))?;
+    run_line(rt, alloc, line, link, None)
+}
+
+fn check<R: Abort + Threads + Wait + Sync>(rt: &R, alloc: Global, row: &str) -> Result<(), Fail> {
+    let (line, rest) = cut(row);
+    let (room, rest) = cut(rest);
+    let (status, text) = cut(rest);
+    let came = came_of(rt, alloc, line, room.parse()?)?;
+    let found = (came.status, came.written.as_slice());
+    same(
+        rt,
+        found,
+        (status_of(status), text_of(text).as_bytes()),
+        row,
+    );
+    assert!(rt; came.disk.is_none(), "{row}");
     Ok(())
 }
 
 #[test]
-fn words_that_cannot_be_read_have_a_status(rt: HostRuntime) -> Result<(), Fail> {
-    for (kind, status, line) in [
-        (ErrorKind::OutOfMemory, Status::NoMemory, "no memory\n"),
-        (ErrorKind::InvalidData, Status::Usage, USAGE),
-    ] {
-        let alloc = rt.alloc();
-        let none = Vec::new(alloc);
-        let mut link = MemLink::new(alloc, none, 1, 4096, Vec::new(alloc), Vec::new(alloc))?;
-        assert_eq!(rt; refuse_words(kind, &mut link), status);
-        assert_eq!(rt; link.written(), line.as_bytes());
+fn words_that_open_no_file_get_their_text(rt: HostRuntime) -> Result<(), Fail> {
+    for row in ROWS.lines() {
+        check(&rt, rt.alloc(), row)?;
     }
+    Ok(())
+}
+
+// The line that is written where the words can't be read.
+fn refused(alloc: Global, kind: ErrorKind, wanted: Status) -> Result<String, Fail> {
+    let none = Vec::new(alloc);
+    let mut link = MemLink::new(alloc, none, 1, 4096, Vec::new(alloc), Vec::new(alloc))?;
+    if refuse_words(kind, &mut link) != wanted {
+        return Err(Fail::from("the status"));
+    }
+    Ok(String::from_str(alloc, str::from_utf8(link.written())?)?)
+}
+
+#[test]
+fn words_that_cannot_be_read_have_a_status(rt: HostRuntime) -> Result<(), Fail> {
+    let line = refused(rt.alloc(), ErrorKind::OutOfMemory, Status::NoMemory)?;
+    assert_eq!(rt; line.as_str(), "no memory\n");
+    let line = refused(rt.alloc(), ErrorKind::InvalidData, Status::Usage)?;
+    assert_eq!(rt; line.as_str(), USAGE);
     Ok(())
 }
 

@@ -1,1 +1,5 @@
 pub mod Cleared
+pub mod Fronts
+pub mod Landings
+pub mod Made
+pub mod Sending

@@ -2,6 +2,9 @@
 //! of one thread answers it, at the history that the seat has seen then.
 #![tactic(auto)]
 
+mod changes;
+mod landing;
+mod reads;
 mod repo;
 mod seat;
 mod served;

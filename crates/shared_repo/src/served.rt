@@ -1,11 +1,13 @@
 //! A seat with the repository that it is for.
-ghost use Rattle.std.specs.Prelude.{◌≡◌};
+ghost use Rattle.std.specs.Prelude.{◌≡◌, []};
+ghost use Rattle.bookmark_lock.specs.Place.{Place, with_front};
 ghost use Rattle.reply_model.specs.After.{After};
 ghost use Rattle.seat_calls.proofs.Lawful.{shared};
 
 use crate::repo::Repo;
 use crate::seat::RepoSeat;
 use blob_disk::Disk;
+use ports::Gate;
 use repo_calls::{Ask, Granted};
 use seat_calls::{AskFault, ChangeFault, Question, Seat, Seen};
 use std::alloc::Global;
@@ -14,13 +16,14 @@ use std::sync::Wait;
 
 /// A seat of a shared repository, to be served. Contracts see its place.
 #[derive(Drop)]
-pub struct Served<'a, R: Wait, D: Disk> {
+pub struct Served<'a, R: Wait, D: Disk, G: Gate> {
     rt: &'a R,
     repo: &'a Repo<D>,
     seat: RepoSeat,
+    gate: &'a G,
 }
 
-impl<'a, R: Wait, D: Disk> Model for Served<'a, R, D> {
+impl<'a, R: Wait, D: Disk, G: Gate> Model for Served<'a, R, D, G> {
     ghost use Rattle.std.specs.Prelude.{◌≡◌};
     ghost use Rattle.bookmark_lock.specs.Place.{Place};
 
@@ -31,13 +34,18 @@ impl<'a, R: Wait, D: Disk> Model for Served<'a, R, D> {
     ghost invariant = { λ s. s.seat.lock ≡ s.repo.now };
 }
 
-impl<'a, R: Wait, D: Disk> Served<'a, R, D> {
-    /// A seat of this repository, which waits for its turns by `rt`.
-    pub fn new(rt: &'a R, repo: &'a Repo<D>, seat: RepoSeat) -> Self
+impl<'a, R: Wait, D: Disk, G: Gate> Served<'a, R, D, G> {
+    /// A seat of this repository, which waits for its turns by `rt`, and whose landings pass `gate`.
+    pub fn new(rt: &'a R, repo: &'a Repo<D>, seat: RepoSeat, gate: &'a G) -> Self
         requires { seat.lock ≡ repo.now }
         ensures { result ≡ seat }
     {
-        Served { rt, repo, seat }
+        Served {
+            rt,
+            repo,
+            seat,
+            gate,
+        }
     }
 
     /// The seat.
@@ -48,20 +56,23 @@ impl<'a, R: Wait, D: Disk> Served<'a, R, D> {
     }
 }
 
-/// Each call is one turn.
-impl<'a, R: Wait, D: Disk> Seat for Served<'a, R, D> {
+/// Each call is one turn, but for landings.
+impl<'a, R: Wait, D: Disk, G: Gate> Seat for Served<'a, R, D, G> {
     ghost header = { λ s. s.lock.opening.header };
 
     ghost front = { λ s. s.front };
 
     ghost number = { λ s. s.number };
 
-    ghost opening = { λ s. s.lock.opening };
+    ghost Home = { Place };
+
+    ghost home = { λ s. with_front s [] };
 
     ghost replies = { After };
 
     fn change(&mut self, alloc: Global, ask: &Ask) -> Result<Granted, ChangeFault> {
-        self.repo.change(self.rt, alloc, &mut self.seat, ask)
+        self.repo
+            .change(self.rt, alloc, &mut self.seat, ask, self.gate)
     }
 
     fn look(&mut self, alloc: Global, question: &Question) -> Result<Seen, AskFault> {

@@ -1,14 +1,21 @@
 //! What a seat does with the repository in one turn, and whether it made an entry.
-ghost use Rattle.std.specs.Prelude.{◌≡◌, ◌≢◌, MatchBool};
+ghost use Rattle.std.specs.Prelude.{◌≡◌, ◌≢◌, IfOk, IfErr, IsSome, MatchBool, MatchOption, Some};
 ghost use Rattle.bookmark_lock.specs.Turns.{IsTurn};
-ghost use Rattle.reply_model.specs.After.{Answer, Asks, Looks, Replies};
-ghost use Rattle.repo_calls.specs.Calls.{ask_seen};
+ghost use Rattle.history_model.specs.Bookmark.{head};
+ghost use Rattle.reply_model.specs.After.{Answer, Answers, Asks, Looks, Replies, nothing};
+ghost use Rattle.reply_model.specs.Reply.{LandDraft};
+ghost use Rattle.repo_calls.specs.Calls.{ask_seen, refused};
+ghost use Rattle.repo_machine.specs.Plans.{IsPlan, WasPlanned};
 ghost use Rattle.seat_calls.specs.Asking.{IsAnswer, question_seen, stored_answer};
 ghost use Rattle.shared_repo.specs.Front.{IsFront, history_of, opening_of};
+ghost use Rattle.shared_repo.specs.Landing.{outcome_of};
 
 use blob_disk::Disk;
-use repo_calls::{Ask, Granted};
-use repo_state::RepoState;
+use object_id::Id;
+use repo_calls::{Ask, Granted, Refusal};
+use repo_machine::{Plan, Rebased};
+use repo_path::BookName;
+use repo_state::{Exchanged, RepoState};
 use seat_calls::{AskFault, ChangeFault, Question, Seen};
 use std::alloc::Global;
 
@@ -46,4 +53,79 @@ pub(crate) fn look_in<D: Disk>(
     let before = state.history_length();
     let answer = state.look(alloc, who, question);
     (differ(before, state.history_length()), answer)
+}
+
+#[tactic(auto, using(crate::proofs::Landings::refused_plan))]
+pub(crate) fn plan_in<D: Disk>(
+    state: &mut RepoState<D>,
+    alloc: Global,
+    name: &BookName,
+    draft: Id,
+) -> Result<Plan, Refusal>
+    ensures same { state.new.history ≡ state.old.history }
+    ensures opening { state.new.opening ≡ state.old.opening }
+    ensures ok { IfOk result (IsPlan state.old.history name.now draft) }
+    ensures err { IfErr result (λ e. Answers state.old.opening.header state.old.history (Asks (LandDraft name.now draft)) (refused e) nothing) }
+    ensures front { IsFront state.new.opening state.new.history }
+{
+    // It keeps its rules.
+    let _ = state.history_length();
+    state.plan(alloc, name, draft)
+}
+
+fn outcome(exchanged: Exchanged) -> Option<Result<Granted, ChangeFault>>
+    ensures { result ≡ outcome_of exchanged }
+{
+    match exchanged {
+        Exchanged::Landed(landed) => Some(Ok(Granted::Landing(landed))),
+        Exchanged::HeadMoved { found: _ } => None,
+        Exchanged::Refused(refusal) => Some(Err(ChangeFault::Refused(refusal))),
+        Exchanged::DiskFault => Some(Err(ChangeFault::DiskFault)),
+    }
+}
+
+// The landing's answer, or none where the bookmark's head isn't the planned one.
+#[tactic(auto, using(crate::proofs::Landings::outcome_replies, crate::proofs::Landings::outcome_there, crate::proofs::Landings::memory_replies))]
+pub(crate) fn exchange_in<D: Disk>(
+    state: &mut RepoState<D>,
+    alloc: Global,
+    who: u64,
+    rebased: Rebased,
+) -> (bool, Option<Result<Granted, ChangeFault>>)
+    requires { WasPlanned state.old.history rebased }
+    ensures reply { MatchOption result.1 (state.new.history ≡ state.old.history) (λ answer. Replies state.old.opening.header state.old.history who (Asks (LandDraft rebased.name rebased.draft)) (stored_answer answer) state.new.history) }
+    ensures there { head state.old.history rebased.name ≡ Some rebased.old → IsSome result.1 }
+    ensures turn { IsTurn history_of opening_of who state.old state.new result.0 }
+    ensures front { IsFront state.new.opening state.new.history }
+{
+    let before = state.history_length();
+    if state.reserve(alloc, &rebased).is_err() {
+        return (false, Some(Err(ChangeFault::Refused(Refusal::Memory))));
+    }
+    let answer = outcome(state.exchange(who, rebased));
+    (differ(before, state.history_length()), answer)
+}
+
+// A whole landing, during which the bookmark can't move.
+#[tactic(auto, using(crate::proofs::Fronts::planned_here, crate::proofs::Fronts::asked_for, crate::proofs::Landings::memory_replies))]
+pub(crate) fn land_in<D: Disk>(
+    state: &mut RepoState<D>,
+    alloc: Global,
+    who: u64,
+    name: &BookName,
+    draft: Id,
+) -> (bool, Result<Granted, ChangeFault>)
+    ensures reply { Replies state.old.opening.header state.old.history who (Asks (LandDraft name.now draft)) (stored_answer result.1) state.new.history }
+    ensures turn { IsTurn history_of opening_of who state.old state.new result.0 }
+    ensures front { IsFront state.new.opening state.new.history }
+{
+    let plan = match plan_in(state, alloc, name, draft) {
+        Ok(plan) => plan,
+        Err(refusal) => return (false, Err(ChangeFault::Refused(refusal))),
+    };
+    let Ok(rebased) = plan.rebased(alloc) else {
+        return (false, Err(ChangeFault::Refused(Refusal::Memory)));
+    };
+    let (added, answer) = exchange_in(state, alloc, who, rebased);
+    (added, answer.unwrap())
 }

@@ -7,7 +7,7 @@ invariant-turns g l = record {
   going : Going g.T.Seat.replies (record { header = g.T.Seat.header l.fn.seat; who = g.T.Seat.number l.fn.seat; history = g.T.Seat.front l.fn.seat; rest = g.L.Link.rest l.fn.link; written = g.L.Link.written l.fn.link }) (g.T.Seat.front l.seat) (g.L.Link.rest l.link) (g.L.Link.written l.link) l.state.cutter l.state.budget;
   header : g.T.Seat.header l.seat ≡ g.T.Seat.header l.fn.seat;
   number : g.T.Seat.number l.seat ≡ g.T.Seat.number l.fn.seat;
-  opening : g.T.Seat.opening l.seat ≡ g.T.Seat.opening l.fn.seat;
+  home : g.T.Seat.home l.seat ≡ g.T.Seat.home l.fn.seat;
   piece : vec_len l.state.piece ≡ 65536;
   faults : g.L.Link.faults l.fn.link ≤ g.L.Link.faults l.link;
 }

@@ -1,6 +1,9 @@
-use Rattle.std.proofs.Common.{refl, sym, ◌∙◌}
+use Rattle.std.proofs.Common.{false, List, [], ◌∷◌, ◌++◌, refl, sym, ap, ◌∙◌}
+use Rattle.history_model.specs.History.{Fault, Entry}
+use Rattle.reply_model.specs.After.{entry_by}
 use Rattle.repo_state.specs.State.{opening_of}
 use Rattle.repo_state.proofs.Looking.{read_as, holds_read, holds_read_failed, checked_replies, checked_found, checked_honest}
+use Rattle.repo_state.proofs.Stepping.{looks_fault}
 use Rattle.repo_state.proofs.state.RepoState.content.Goals as goal
 
 pub invariant_of-self-in-Ok-fill : goal.invariant_of-self-in-Ok-fill
@@ -46,3 +49,8 @@ returns-in-Err-clause-sound g c =
     let e = c.in-Err.ensures in
     (holds_read_failed c.self.inside.machine.header c.room.new.self.header c.fault.new.self.header c.self.inside.machine.history c.room.new.self.history c.fault.new.self.history c.args.who c.self.inside.journal _ _ _
     c.room.ensures.header c.fault.ensures.header c.room.ensures.history c.fault.ensures.history (read_as _ _ _ _ refl e.kept e.faults e.quiet e.looked e.leaves) c.self.invariant).0
+
+pub returns-in-Err-clause-core : goal.returns-in-Err-clause-core
+returns-in-Err-clause-core g c =
+    rw (← c.self.view_is)
+    (looks_fault c.self.inside.machine.header c.self.inside.machine.history c.fault.new.self.history c.args.who (c.fault.ensures.history ∙ ap (λ (h : List Entry). h ++ entry_by c.args.who (Fault false) ∷ []) c.room.ensures.history))

@@ -1,9 +1,14 @@
-use Rattle.std.proofs.Common.{inr, sym, ap, subst, refl}
+use Rattle.std.proofs.Common.{inr, sym, ap, subst, refl, ◌∙◌}
 use Rattle.std.specs.Prelude.{Err}
 use Rattle.reply_model.specs.Reply.{LandDraft}
 use Rattle.reply_model.specs.After.{Asks, Grants, Replies}
 use Rattle.repo_journal.specs.Answers.{is_disk_fault}
-use Rattle.repo_state.proofs.Heads.{is_there}
+use Rattle.repo_state.proofs.Heads.{is_there, is_moved}
+use Rattle.repo_state.specs.State.{State}
+use Rattle.repo_state.proofs.Landed.{lands_as}
+use Rattle.repo_state.proofs.Stepping.{exchanges, down_exchanges}
+use Rattle.repo_calls.specs.declared.refusal.Refusal.TheVariants.{Down}
+use Rattle.repo_state.specs.declared.exchanged.Exchanged.TheVariants.{Landed, HeadMoved, Refused, DiskFault}
 use Rattle.repo_state.proofs.Storing.{making, append_failed, outcome_appended, outcome_failed, refused_replies}
 use Rattle.repo_state.proofs.state.RepoState.exchange.Goals as goal
 
@@ -108,3 +113,31 @@ returns-in-Err-DiskFault-clause-leaves g c =
     refl c.fault.ensures.header refl c.fault.ensures.history made (e.broken fails)
     (append_failed _ _ _ _ _ fails e.kept e.faults e.quiet e.crash) c.self.invariant in
     rw (← c.self.view_is) out.leaves
+
+-- ---- the trees after it, and its steps
+
+pub returns-in-Landing-clause-lands : goal.returns-in-Landing-clause-lands
+returns-in-Landing-clause-lands g c =
+    lands_as _ _ _ _ (LandDraft c.args.rebased.name c.args.rebased.draft) _ _ (c.admit.ensures.header ∙ ap (λ (s : State). s.header) c.self.view_is) c.admit.ensures.legal (returns-in-Landing-clause-exchanged g c).1
+
+pub returns-in-Landing-clause-core : goal.returns-in-Landing-clause-core
+returns-in-Landing-clause-core g c = exchanges _ _ _ c.args.rebased (Landed c.in-Landing.landed) _ (returns-in-Landing-clause-exchanged g c)
+
+pub returns-in-Err-DiskFault-clause-core : goal.returns-in-Err-DiskFault-clause-core
+returns-in-Err-DiskFault-clause-core g c = exchanges _ _ _ c.args.rebased DiskFault _ (returns-in-Err-DiskFault-clause-exchanged g c)
+
+pub returns-in-Err-clause-core : goal.returns-in-Err-clause-core
+returns-in-Err-clause-core g c = exchanges _ _ _ c.args.rebased (Refused c.in-Err.refusal) _ (returns-in-Err-clause-exchanged g c)
+
+pub returns-then-down-clause-core : goal.returns-then-down-clause-core
+returns-then-down-clause-core g c =
+    let h = c.self.inside.machine.history in
+    rw (← c.self.view_is)
+    (exchanges c.self.inside.machine.header h c.args.who c.args.rebased (Refused Down) h (down_exchanges c.self.inside.machine.header h c.args.who c.args.rebased (sym c.down.ensures ∙ c.if-down.true)))
+
+pub returns-then-ne-clause-core : goal.returns-then-ne-clause-core
+returns-then-ne-clause-core g c =
+    let h = c.self.inside.machine.history in
+    let moved = is_moved h c.name.result.now c.args.rebased.name c.head-found.result c.old.result c.args.rebased.old c.ne.result c.name.ensures c.head-found.ensures c.old.ensures c.ne.ensures c.if-ne.true in
+    rw (← c.self.view_is)
+    (exchanges c.self.inside.machine.header h c.args.who c.args.rebased (HeadMoved c.head-found.result) h (sym c.down.ensures ∙ c.if-down.false, moved.0, moved.1, refl))

@@ -1,4 +1,5 @@
 use Rattle.repo_state.proofs.Sounds.{sound_opened, agrees_opened}
+use Rattle.repo_state.proofs.Stepping.{opened_as}
 use Rattle.repo_state.proofs.state.RepoState.new.Goals as goal
 
 pub invariant_of-result : goal.invariant_of-result
@@ -8,3 +9,6 @@ invariant_of-result g c =
 
 pub returns-clause-sound : goal.returns-clause-sound
 returns-clause-sound g c = rw c.of-first.ensures (sound_opened _ _ c.args.journal _ c.requires.opened c.requires.legal c.requires.unseated)
+
+pub returns-clause-core : goal.returns-clause-core
+returns-clause-core g c = opened_as c.args.machine.history c.requires.unseated

@@ -1,8 +1,11 @@
-use Rattle.std.proofs.Common.{ap, arith}
+use Rattle.std.proofs.Common.{ap, arith, ◌∙◌}
 use Rattle.std.specs.Prelude.{Err}
 use Rattle.repo_calls.specs.Calls.{ask_seen}
 use Rattle.repo_journal.specs.Answers.{is_disk_fault, is_full_answer}
 use Rattle.repo_state.proofs.Changes.{change_none}
+use Rattle.repo_state.specs.State.{State}
+use Rattle.repo_state.proofs.Landed.{lands_as}
+use Rattle.repo_state.proofs.Stepping.{stores}
 use Rattle.repo_state.proofs.Storing.{making, append_failed, granted_replies, outcome_appended, outcome_failed, always_fits, refused_replies}
 use Rattle.repo_state.proofs.state.RepoState.store.Goals as goal
 
@@ -126,3 +129,25 @@ pub returns-in-Err-clause-reply : goal.returns-in-Err-clause-reply
 returns-in-Err-clause-reply g c =
     rw (← c.self.view_is)
     (refused_replies c.self.inside.machine.header c.self.inside.machine.history c.judge.new.self.history c.args.who (ask_seen c.args.ask.now) c.in-Err.refusal c.judge.ensures.history c.in-Err.ensures.err)
+
+-- ---- the trees after it, and its steps
+
+pub returns-in_default-clause-lands : goal.returns-in_default-clause-lands
+returns-in_default-clause-lands g c =
+    lands_as _ _ _ _ _ _ _ (c.admit.ensures.header ∙ c.judge.ensures.header ∙ ap (λ (s : State). s.header) c.self.view_is) c.admit.ensures.legal (returns-in_default-clause-reply g c)
+
+pub returns-in-Ok-append-clause-lands : goal.returns-in-Ok-append-clause-lands
+returns-in-Ok-append-clause-lands g c =
+    lands_as _ _ _ _ _ _ _ (c.admit-in-Ok-append.ensures.header ∙ c.judge.ensures.header ∙ ap (λ (s : State). s.header) c.self.view_is) c.admit-in-Ok-append.ensures.legal (returns-in-Ok-append-clause-reply g c)
+
+pub returns-in-Err-clause-core : goal.returns-in-Err-clause-core
+returns-in-Err-clause-core g c = stores _ _ _ _ _ _ (returns-in-Err-clause-reply g c)
+
+pub returns-in_default-clause-core : goal.returns-in_default-clause-core
+returns-in_default-clause-core g c = stores _ _ _ _ _ _ (returns-in_default-clause-reply g c)
+
+pub returns-in-Ok-append-clause-core : goal.returns-in-Ok-append-clause-core
+returns-in-Ok-append-clause-core g c = stores _ _ _ _ _ _ (returns-in-Ok-append-clause-reply g c)
+
+pub returns-in-Err-DiskFault-clause-core : goal.returns-in-Err-DiskFault-clause-core
+returns-in-Err-DiskFault-clause-core g c = stores _ _ _ _ _ _ (returns-in-Err-DiskFault-clause-reply g c)

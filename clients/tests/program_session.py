@@ -1,0 +1,353 @@
+"""One session of the program: what it reads, and what the stand-in answers to that.
+
+`scripts/session-script` writes both beside the program, whose run the merge gate compares with
+them. The stand-in shares no code with the program.
+"""
+
+from __future__ import annotations
+
+import io
+from contextlib import nullcontext
+from types import SimpleNamespace
+
+from .harness import TOP
+from .stand_in.http import Service, Session
+from .stand_in.repository import Repository
+from .stand_in.spelling import digest
+
+PROGRAM = TOP / "crates" / "hg_cli"
+ABC = "ba7816bf8f01cfea414140de5dae2223b00361a396177a9cb410ff61f20015ad"
+"""The content that the program's file has at first (FIPS 180-4)."""
+
+MISSES = """
+PUT /content/
+PUT /contents
+PUT /conten
+PUT /%63ontent
+GET /
+GET //content
+GET /changeset/
+GET /changeset/{abc}/
+GET /bookmark/
+GET /bookmark
+PUT /bookmark/main/none/
+PUT /bookmark/main/none
+PUT /bookmark//none/{abc}
+PUT /bookmark/main/none/{abc}/x
+POST /land/main
+GET /log/
+GET /log/1/2
+PUT content
+PUT ?/content
+GET /changeset/{abc}
+GET /changeset/{ABC}
+GET /changeset/%62{abc[1:]}
+GET /changeset/{abc[:63]}
+GET /changeset/{abc}0
+GET /changeset/%FF
+GET /bookmark/main
+GET /bookmark/main?x
+GET /bookmark/ma%69n
+GET /bookmark/a%2Fb
+GET /bookmark/a%2
+GET /bookmark/%FF
+PUT /bookmark/main/none/{abc}
+PUT /bookmark/main/%6Eone/{abc}
+PUT /bookmark/main/{abc}/{abc}
+PUT /bookmark/main/{abc}/none
+PUT /bookmark/main/none/none
+PUT /bookmark/main/x/{abc}
+PUT /bookmark/main/none/b
+PUT /bookmark/a+b/x/y
+PUT /bookmark/main/None/{abc}
+POST /land/main/{abc}
+POST /land/main/none
+POST /land/m%20n/none
+GET /log/0
+GET /log/00
+GET /log/%31
+GET /log/9999999999999999999
+GET /log/10000000000000000000
+GET /log/00000000000000000000
+GET /log/x
+GET /log/+1
+GET /log/%FF
+DELETE /content
+put /content
+HEADS /content?x=1
+GET /changeset
+PUT /changeset/ID
+POST /bookmark/main
+GET /bookmark/main/none/ID
+PUT /bookmark/main
+GET /land/main/ID
+PUT /log/0
+"""
+"""Targets and methods that a repository of one content has nothing for, or refuses."""
+
+HEADS = [
+    b"PUT /content HTTP/1.1\r\nCONTENT-LENGTH: 3 \t\r\n\r\nabc",
+    b"\r\n\n\r\nGET /nowhere HTTP/1.1\n\n\n\r\nHEAD /content?x HTTP/1.1\nhost: x\r\n\n\r\n",
+    b"GET /nowhere HTTP/1.1\n\nGET content HTTP/1.1\r\n\r\n",
+    b"GET / HTTP/1.1\r\nConnection: closed\r\n\r\n",
+    b"GET / HTTP/1.1\r\nConnection: x close\r\n\r\n",
+    b"GET / HTTP/1.1\r\nConnections: close\r\n\r\n",
+    b"GET / HTTP/1.1\r\nConnection:\r\n\r\n",
+    b"GET / HTTP/1.1\r\nA:" + b" " * 16_364 + b"\n\n",
+    b"GET / HTTP/1.1\n" + b"A:\n" * 64 + b"\n",
+    b"\r\n" * 20_000,
+]
+"""Heads that are taken, and line ends before them."""
+
+LAST = (
+    b"GET /log/0 HTTP/1.1\r\nconnection: keep-alive , \t Close\t\r\n\r\n"
+    b"PUT /content HTTP/1.1\r\nContent-Length: 3\r\n\r\nabc"
+)
+"""A request that ends the session, and one that isn't read."""
+
+
+def request(line: str, body: bytes = b"") -> bytes:
+    return f"{line} HTTP/1.1\r\nContent-Length: {len(body)}\r\n\r\n".encode() + body
+
+
+def spelled(
+    *edits: bytes, parents: tuple[str, ...] = (), author: bytes = b"a", message: bytes = b""
+) -> bytes:
+    """The changeset at second 0 that docs/FORMATS.md lays out so."""
+    return b"".join([
+        b"\x43\x01",
+        bytes([len(parents)]),
+        *map(bytes.fromhex, parents),
+        len(author).to_bytes(2, "big") + author,
+        bytes(12),
+        len(message).to_bytes(4, "big") + message,
+        len(edits).to_bytes(4, "big"),
+        *edits,
+    ])
+
+
+def path_field(path: str) -> bytes:
+    return len(path).to_bytes(2, "big") + path.encode()
+
+
+def sets(path: str, content: bytes = b"abc", size: int | None = None) -> bytes:
+    length = len(content) if size is None else size
+    return path_field(path) + b"\x01\x00" + length.to_bytes(8, "big") + digested(content)
+
+
+def deletes(path: str) -> bytes:
+    return path_field(path) + b"\x00"
+
+
+def digested(content: bytes) -> bytes:
+    return bytes.fromhex(digest(content))
+
+
+class Script:
+    """The requests so far, their responses, and the repository after them."""
+
+    def __init__(self) -> None:
+        file = (PROGRAM / "data" / "repository").read_bytes()
+        self.repository = Repository(int.from_bytes(file[8:16], "big"))
+        self.repository.put_content(b"abc")
+        assert self.repository.size == len(file) and digest(b"abc") == ABC
+        self.service = Service(self.repository, has_manifests=True)
+        self.read = b""
+        self.written = b""
+
+    def say(self, data: bytes) -> None:
+        """Reads some whole requests, and answers them."""
+        session = Session.__new__(Session)
+        session.rfile, session.wfile = io.BytesIO(data), io.BytesIO()
+        session.server = SimpleNamespace(lanes=nullcontext(), service=self.service)
+        session.handle()
+        self.read += data
+        self.written += session.wfile.getvalue()
+
+    def ask(self, *lines: str) -> None:
+        for line in lines:
+            self.say(request(line))
+
+    def put(self, data: bytes) -> str:
+        """Stores a content, and gives its id."""
+        self.say(request("PUT /content", data))
+        return digest(data)
+
+    def commit(self, data: bytes) -> str:
+        """Stores a changeset, and gives its id."""
+        self.say(request("PUT /changeset", data))
+        return digest(data)
+
+    def leave(self, room: int) -> None:
+        """Stores a content after which so many bytes of the capacity are left."""
+        self.put(b"x" * (self.repository.capacity - self.repository.size - room - 6))
+        assert self.repository.capacity - self.repository.size == room
+
+
+def misses(script: Script) -> None:
+    for line in MISSES.split("\n")[1:-1]:
+        # the ids stand in braces, so that each line is seen as it is sent
+        for mark, text in [
+            ("{abc}", ABC),
+            ("{ABC}", ABC.upper()),
+            ("{abc[1:]}", ABC[1:]),
+            ("{abc[:63]}", ABC[:63]),
+        ]:
+            line = line.replace(mark, text)
+        script.ask(line)
+
+
+def contents(script: Script) -> None:
+    script.put(b"abc")
+    script.ask("GET /log/0", "GET /log/1", f"GET /content/{ABC}", f"GET /content/{digest(b'')}")
+
+
+def changesets(script: Script) -> tuple[str, str]:
+    """Uploads, known ones and refused ones: the ids of one that sets `p`, and of an empty one."""
+    alone = script.commit(spelled(sets("p")))
+    script.ask(f"PUT /bookmark/main/none/{alone}", "GET /bookmark/ma%69n")
+    script.put(b"")
+    root = script.commit(spelled())
+    script.commit(spelled())
+    for refused in [
+        spelled(author=b""),
+        spelled(deletes("b"), deletes("a")),
+        spelled(sets("a"), sets("a/b")),
+        spelled(sets("x"), parents=(digest(spelled(sets("x"), parents=(root,))),)),
+        spelled(parents=(root, alone)),
+        spelled(sets("p", b"xyz")),
+        spelled(sets("p", size=4)),
+    ]:
+        script.commit(refused)
+    script.ask(
+        "GET /bookmark/a%2Fb",
+        "GET /changeset/ba78",
+        f"GET /changeset/{root.upper()}",
+        f"GET /changeset/{ABC}",
+        f"GET /changeset/{alone}",
+    )
+    return alone, root
+
+
+def landings(script: Script, alone: str, root: str) -> None:
+    """Drafts on the head, beside it and apart from it."""
+    script.ask(
+        f"PUT /bookmark/main/none/{root}",
+        f"PUT /bookmark/main/{alone}/{root}",
+        f"PUT /bookmark/main/{root}/{root}",
+        "GET /bookmark/dev",
+        f"PUT /bookmark/dev/none/{ABC}",
+    )
+    child = script.commit(spelled(sets("p"), parents=(root,)))
+    script.commit(spelled(sets("p"), parents=(root,)))
+    left = script.commit(spelled(sets("x"), parents=(root,)))
+    right = script.commit(spelled(sets("y", b""), parents=(root,)))
+    empty = script.commit(spelled(parents=(root,)))
+    script.ask(
+        f"GET /changeset/{child}",
+        f"POST /land/dev/{child}",
+        f"POST /land/dev/{'07' * 32}",
+        f"POST /land/main/{'07' * 32}",
+        f"POST /land/main/{alone}",
+        f"POST /land/main/{root}",
+        f"POST /land/main/{child}",
+        f"POST /land/main/{child}",
+        f"PUT /bookmark/main/{child}/{left}",
+        f"POST /land/main/{right}",
+        f"POST /land/main/{right}",
+        f"POST /land/main/{empty}",
+        f"POST /land/main/{empty}",
+    )
+    script.ask(f"PUT /bookmark/main/{script.repository.head('main')}/none")
+    script.ask("GET /log/0", "GET /log/16", "GET /log/17", "GET /log/x")
+
+
+def moves(script: Script, root: str) -> None:
+    """A bookmark from where it is said to be, and where it stands then."""
+    child = digest(spelled(sets("p"), parents=(root,)))
+    for old, new in [
+        ("none", ABC),
+        (root, "none"),
+        ("none", root),
+        ("none", child),
+        (root, root),
+        (root, child),
+        (child, "none"),
+        ("none", "none"),
+        ("none", child),
+    ]:
+        script.ask(f"PUT /bookmark/moves/{old}/{new}", "GET /bookmark/moves", "GET /log/999")
+
+
+def clashes(script: Script, root: str) -> None:
+    """A file and a directory at one path, and files side by side."""
+    lib = script.commit(spelled(sets("lib"), parents=(root,)))
+    head = script.commit(spelled(deletes("lib"), parents=(lib,)))
+    under = script.commit(spelled(sets("lib/x"), parents=(lib,)))
+    script.ask(
+        f"PUT /bookmark/trunk/none/{head}",
+        "GET /log/0",
+        f"POST /land/trunk/{under}",
+        "GET /log/0",
+        f"PUT /bookmark/trunk/{head}/none",
+    )
+    file = script.commit(spelled(sets("a"), parents=(root,)))
+    head = script.commit(spelled(sets("a/c"), parents=(file,)))
+    beside = script.commit(spelled(sets("a/b"), parents=(file,)))
+    script.ask(f"PUT /bookmark/trunk/none/{head}", f"POST /land/trunk/{beside}")
+    apart = script.commit(spelled(message=b"x"))
+    script.ask(f"POST /land/trunk/{apart}")
+    replaced = script.commit(spelled(deletes("a"), sets("a/b"), parents=(root,)))
+    script.ask(f"GET /changeset/{replaced}")
+
+
+def pages(script: Script) -> None:
+    """The log as it passes a hundred entries."""
+    while len(script.repository.entries) < 101:
+        script.put(b"y" * (len(script.repository.entries) - 1))
+    script.ask(*(f"GET /log/{start}" for start in (0, 1, 2, 100, 101, 9_999_999_999_999_999_999)))
+
+
+def little_room(script: Script, root: str) -> None:
+    """A landing of 184 bytes where 183 are left, then uploads where 34 are, and then none."""
+    draft = script.commit(spelled(sets("p"), parents=(root,)))
+    script.ask(f"PUT /bookmark/full/none/{root}")
+    script.leave(183)
+    script.ask(f"POST /land/full/{draft}", "GET /bookmark/full")
+    script.leave(34)
+    other = digest(b"other")
+    for refused in [
+        spelled(parents=(other, root)),
+        spelled(sets("p", b"other"), parents=(other,)),
+        spelled(sets("p", b"other")),
+        spelled(sets("a"), sets("a/b")),
+        spelled(message=b"xxxx"),
+        spelled(author=b"\x00"),
+    ]:
+        script.commit(refused)
+    fits = script.commit(spelled(message=b"xxx"))
+    assert script.repository.size == script.repository.capacity
+    script.put(b"q")
+    script.commit(spelled(author=b"q"))
+    script.ask(f"PUT /bookmark/last/none/{fits}")
+    # what is known makes no entry
+    script.put(b"abc")
+    script.commit(spelled(message=b"xxx"))
+    script.ask(f"PUT /bookmark/full/{root}/{root}", f"GET /content/{digest(b'q')}")
+
+
+def made() -> Script:
+    """The whole session."""
+    script = Script()
+    misses(script)
+    contents(script)
+    alone, root = changesets(script)
+    landings(script, alone, root)
+    moves(script, root)
+    clashes(script, root)
+    for head in HEADS:
+        script.say(head)
+    pages(script)
+    little_room(script, root)
+    script.say(LAST)
+    return script

@@ -1,0 +1,7 @@
+//! Tests of ancestors by number, as tables.
+#![tactic(auto)]
+
+#[cfg(test)]
+mod counted;
+#[cfg(test)]
+mod lines;

@@ -1,0 +1,9 @@
+//! What a command came to.
+use file_commands::Status;
+
+/// What a command came to: its status, and the file that it opened.
+#[derive(Drop)]
+pub struct Came<D> {
+    pub status: Status,
+    pub disk: Option<D>,
+}

@@ -1,0 +1,76 @@
+-- A derivation from its directories.
+use Rattle.std.proofs.Common.{◌≡◌, ◌⊎◌, inl, inr, ℕ, Bool, true, false, ◌||◌, List, [], ◌∷◌, ◌++◌, length, reverse, refl, sym, ap, subst, ◌∙◌, arith, append-nil}
+use Rattle.std.specs.Prelude.{Contains, flat_map, Some, ◌==◌}
+use mathlib.Core.List.{reverse-cons}
+use Rattle.std.specs.List.{AllByRecursion, list_any}
+use Rattle.std.specs.List.Sorted.{IsStrictlySortedBy}
+use Rattle.std.specs.BTreeMap.{BTreeMap}
+use Rattle.std.specs.BTreeSet.{BTreeSet}
+use Rattle.std.proofs.lemmas.Bool.{ne_eqb}
+use Rattle.std.proofs.lemmas.Grind.{flat_map-append}
+use Rattle.std.proofs.lemmas.List.{length-map}
+use Rattle.changeset_model.specs.Path.{Path, path_cmp, is_strict_prefix}
+use Rattle.history_model.specs.History.{Known}
+use Rattle.manifest_model.specs.Unode.{is_renewed}
+use Rattle.node_table.specs.Parts.{nodes_seen}
+use Rattle.derive_step.specs.declared.job.Job.{Job}
+use Rattle.derive_step.specs.declared.done.Done.{Done}
+use Rattle.derive_step.specs.declared.made.Made.{Made}
+use Rattle.derive_step.specs.Views.{roots_before}
+use Rattle.derive_step.specs.Jobs.{IsJobOf, IsDoneOf, all_nodes_on}
+use Rattle.derive_step.specs.Renewal.{dir_nodes, roots_at, AreTouched, AreRenewed, IsMadeUnder}
+use Rattle.derive_step.proofs.Gone.{above_any, renewed_there, above_some}
+use Rattle.derive_step.proofs.Members.{Has, any_has, has_left, has_right}
+use Rattle.derive_step.proofs.AllNodes.{all_right, all_whole}
+use Rattle.derive_step.proofs.Few.{few_put}
+
+has_reverse : (xs : List Path) (x : Path) → Has xs x → Has (reverse xs) x
+has_reverse [] x h = absurd h
+has_reverse (y ∷ xs) x (inl e) = subst (λ ys. Has ys x) (sym (reverse-cons y xs)) (has_right (reverse xs) (y ∷ []) x (inl e))
+has_reverse (y ∷ xs) x (inr h) = subst (λ ys. Has ys x) (sym (reverse-cons y xs)) (has_left (reverse xs) (y ∷ []) x (has_reverse xs x h))
+
+under_root : (b c : Bool) → b ≡ false → (b || c) ≡ true → c ≡ true
+under_root true c none h = absurd (cc)
+under_root false c none h = h
+
+module _ (c : Known) (older : List Known) (job : Job) (of : IsJobOf c older job) (dirs : BTreeSet Path) (touched : AreTouched c dirs) where
+  abbrev ds : List Path
+  ds = reverse dirs.keys ++ [] ∷ []
+
+  abbrev put : List (List ℕ)
+  put = flat_map (dir_nodes c older) ds
+
+  -- what is under the root was gone through
+  pub under_root_made : (made : BTreeMap Path Made) (had mid : List (List ℕ)) → AreRenewed c older dirs made had mid → IsMadeUnder c older made []
+  under_root_made made had mid renewed n h = renewed.noted (n ∷ []) (touched (n ∷ []) ∙ above_any (n ∷ []) c.changeset.changes (omega arith) h)
+
+  inside : (d : Path) → is_renewed c.changeset d ≡ true → Has ds d
+  inside [] h = has_right (reverse dirs.keys) ([] ∷ []) [] (inl refl)
+  inside (e ∷ d) h =
+      has_left (reverse dirs.keys) ([] ∷ []) (e ∷ d) (has_reverse dirs.keys (e ∷ d) (any_has dirs.keys (e ∷ d) (
+      touched (e ∷ d) ∙ above_any (e ∷ d) c.changeset.changes (omega arith) (under_root (length (e ∷ d) == 0) (list_any (λ x. is_strict_prefix (e ∷ d) x.0) c.changeset.changes) (ne_eqb (length (e ∷ d)) 0 (λ z. absurd (omega arith))) h))))
+
+  pub done_of : (done : Done) (made : BTreeMap Path Made) (had mid : List (List ℕ)) → IsStrictlySortedBy path_cmp dirs.keys → done.number ≡ job.number → done.parent ≡ roots_before job.parent → had ≡ [] → AreRenewed c older dirs made had mid
+      → done.roots ≡ roots_at (c ∷ older) [] → nodes_seen done.nodes.items ≡ mid ++ dir_nodes c older [] → IsDoneOf c older job done
+  done_of done made had mid ordered number parent none renewed roots nodes = record {
+    number = number;
+    parent = parent ∙ of.roots;
+    roots = ap Some roots;
+    right = subst (AllByRecursion (Contains (all_nodes_on (c ∷ older)))) (sym are_put) (all_right c older of.right ds inside);
+    whole = λ n h. found n (all_whole c older of.right ds inside n h);
+    few = (
+        let count = length-map done.nodes.items (λ n. n.items) in
+        let same = ap length are in
+        let most = few_put c older dirs.keys ordered (λ p h. (above_some p c.changeset.changes (sym (touched p) ∙ h), renewed_there c older dirs touched had p h)) in
+        omega (arith, count, same, most));
+  }
+    where
+      are : nodes_seen done.nodes.items ≡ flat_map (dir_nodes c older) (reverse dirs.keys) ++ dir_nodes c older []
+      are = nodes ∙ ap (λ ns. ns ++ dir_nodes c older []) (renewed.nodes ∙ ap (λ ns. ns ++ flat_map (dir_nodes c older) (reverse dirs.keys)) none)
+
+      are_put : nodes_seen done.nodes.items ≡ put
+      are_put = are ∙ ap (λ ns. flat_map (dir_nodes c older) (reverse dirs.keys) ++ ns) (sym (append-nil (dir_nodes c older []))) ∙ sym (flat_map-append (dir_nodes c older) (reverse dirs.keys) ([] ∷ []))
+
+      found : (n : List ℕ) → Contains put n ⊎ Contains (all_nodes_on older) n → Contains (nodes_seen done.nodes.items) n ⊎ Contains (all_nodes_on older) n
+      found n (inl h) = inl (subst (λ ns. Contains ns n) (sym are_put) h)
+      found n (inr h) = inr h

@@ -1,0 +1,13 @@
+pub mod Paths
+pub mod Edits
+pub mod Sums
+pub mod Above
+pub mod Entries
+pub mod Laws
+pub mod FileNodes
+pub mod Renewed
+pub mod Gone
+pub mod Members
+pub mod AllNodes
+pub mod Few
+pub mod Derived

@@ -1,0 +1,149 @@
+-- What is put to the nodes for a directory, and what is noted of it.
+use Rattle.std.proofs.Common.{◌≡◌, ℕ, Bool, true, false, cond, List, [], ◌∷◌, ◌++◌, map, length, refl, sym, ap, ◌∙◌, arith, append_assoc, append-nil}
+use Rattle.std.specs.Prelude.{Option, Some, None, option_map, Result, Ok, Err, IfOk, OnOk, ◌==◌}
+use Rattle.std.specs.declared.alloc.AllocError.{AllocError}
+use mathlib.Core.Bool.{true≢false}
+use Rattle.std.proofs.lemmas.Bool.{ne_eqb}
+use Rattle.std.specs.Option.{option_to_list}
+use Rattle.std.specs.Borrow.{Bor}
+use Rattle.std.specs.BTreeMap.{BTreeMap, get, Updates}
+use Rattle.byte_fields.specs.Bytes.{Id}
+use Rattle.changeset_model.specs.Path.{Path, path_cmp}
+use Rattle.changeset_model.specs.Changeset.{File, FileChange}
+use Rattle.history_model.specs.History.{Known}
+use Rattle.history_model.specs.Tree.{is_dir}
+use Rattle.manifest_model.specs.Fsnode.{Fsnode, FsDir, fs_dir, fsnode, fsnode_bytes, fsnode_id, are_entries, is_summary}
+use Rattle.manifest_model.specs.Unode.{Unode, UnodeDir, unode, unode_bytes, unode_id, is_renewed}
+use Rattle.manifest_laws.specs.Changes.{files_in, is_covered}
+use Rattle.manifest_laws.specs.Summaries.{summary_by}
+use Rattle.manifest_laws.specs.Entries.{fs_entry_at, unode_entry_at}
+use Rattle.manifest_laws.proofs.Directories.{empty_is}
+use Rattle.node_table.specs.declared.roots.Roots.{Roots}
+use Rattle.fsnode.specs.declared.entry.FsChild.{FsChild}
+use Rattle.fsnode.specs.declared.node.Fsnode.{Fsnode as RustFsnode}
+use Rattle.fsnode.specs.Parts.{summary_seen, entry_seen as fs_entry_seen, children_seen as fs_children_seen}
+use Rattle.fsnode.specs.Views.{fsnode_seen}
+use Rattle.unode.specs.declared.manifest.UnodeManifest.{UnodeManifest}
+use Rattle.unode.specs.Parts.{entry_seen as unode_entry_seen, children_seen as unode_children_seen}
+use Rattle.unode.specs.Views.{manifest_seen}
+use Rattle.derive_step.specs.declared.job.Job.{Job}
+use Rattle.derive_step.specs.declared.job.DirNodes.{DirNodes}
+use Rattle.derive_step.specs.declared.made.Made.{Made}
+use Rattle.derive_step.specs.Views.{nodes_before}
+use Rattle.derive_step.specs.Jobs.{IsJobOf, nodes_on}
+use Rattle.derive_step.specs.Steps.{fs_before, fs_after, unode_before, unode_after, set_nodes}
+use Rattle.derive_step.specs.Manifests.{parent_before}
+use Rattle.derive_step.specs.Renewal.{IsMadeUnder, IsStep, IsRenewed, before_of, nodes_there, dir_nodes, roots_at, files_set_in}
+use Rattle.derive_step.proofs.Above.{by_test}
+use Rattle.derive_step.proofs.Laws.{rise, uncovered_dir, is_before, fs_entries, same_entries, same_node, unode_entries, same_unode}
+use Rattle.derive_step.proofs.FileNodes.{all_found, file_nodes}
+
+ok_with : {P Q : Type 0} (r : Result Roots AllocError) (a b : Roots) → IfOk r (λ x. x ≡ a) → a ≡ b → OnOk r P → (P → Q) → IfOk r (λ x. (x ≡ b) × Q)
+ok_with (Ok x) a b h e p f = (h ∙ e, f p)
+ok_with (Err x) a b h e p f = tt
+
+module _ (c : Known) (older : List Known) (job : Job) (d : Path) (made : BTreeMap Path Made) (b : Option (Bor DirNodes)) (step : IsStep c older job d made b) (dir : is_dir (files_in (c ∷ older)) d ≡ true)
+    (link : Id) (es : List (Path × FileChange)) (is_link : link ≡ c.id) (are_edits : es ≡ c.changeset.changes) where
+  pub unode_is : (m : UnodeManifest) → ((n : List ℕ) → unode_entry_at (manifest_seen m) n ≡ unode_after link made d es (unode_before b) n) → are_entries (unode_children_seen m.entries.items) ≡ true
+      → option_to_list m.parent ≡ parent_before b → m.linknode ≡ link → manifest_seen m ≡ unode (c ∷ older) d
+  unode_is m found rule parent linked =
+      same_unode c older step.right d m step.renewed dir rule
+      (λ n. found n ∙ (λ i. unode_after (is_link i) made d (are_edits i) (unode_before b) n) ∙ unode_entries c older step.right d made b step.before step.under dir n)
+      (parent ∙ step.before.parent (uncovered_dir c older step.right d dir))
+      (linked ∙ is_link)
+
+  pub files_are : set_nodes link made d es (unode_before b) ≡ map (λ p. unode_bytes (unode (c ∷ older) p)) (files_set_in d c.changeset.changes)
+  files_are =
+      (λ i. set_nodes (is_link i) made d (are_edits i) (unode_before b))
+      ∙ file_nodes c older step.right d made c.changeset.changes (unode_before b) (rise c older step.right) (all_found c.changeset.changes (rise c older step.right))
+      (λ n h. step.before.unode (uncovered_dir c older step.right d dir) n)
+
+  pub put_all : (r : Result Roots AllocError) (fs : Fsnode) (un : Unode) (old mid new : List (List ℕ)) → fs ≡ fsnode (files_in (c ∷ older)) d → un ≡ unode (c ∷ older) d
+      → IfOk r (λ roots. roots ≡ record { fsnode = fsnode_id fs; unode = unode_id un }) → mid ≡ old ++ set_nodes link made d es (unode_before b)
+      → OnOk r (new ≡ mid ++ fsnode_bytes fs ∷ unode_bytes un ∷ [])
+      → IfOk r (λ roots. (roots ≡ roots_at (c ∷ older) d) × (new ≡ old ++ dir_nodes c older d))
+  put_all r fs un old mid new same_fs same_un ids files own =
+      ok_with r (record { fsnode = fsnode_id fs; unode = unode_id un }) (roots_at (c ∷ older) d) ids (λ i. record { fsnode = fsnode_id (same_fs i); unode = unode_id (same_un i) }) own
+      (λ h. h ∙ (λ i. files i ++ fsnode_bytes (same_fs i) ∷ unode_bytes (same_un i) ∷ [])
+      ∙ append_assoc old (set_nodes link made d es (unode_before b)) (fsnode_bytes (fsnode (files_in (c ∷ older)) d) ∷ unode_bytes (unode (c ∷ older) d) ∷ [])
+      ∙ (λ i. old ++ (files_are i ++ fsnode_bytes (fsnode (files_in (c ∷ older)) d) ∷ unode_bytes (unode (c ∷ older) d) ∷ []))
+      ∙ ap (λ v. old ++ cond v (nodes_there c older d) []) (sym dir))
+
+none_seen : (cs : List FsChild) → fs_children_seen cs ≡ [] → cs ≡ []
+none_seen [] h = refl
+none_seen (x ∷ cs) h = absurd (cc)
+
+-- ---- from a job
+
+pub step_from : (c : Known) (older : List Known) (job : Job) (d : Path) (made : BTreeMap Path Made) (b : Option (Bor DirNodes)) → IsJobOf c older job → is_renewed c.changeset d ≡ true → IsMadeUnder c older made d
+    → before_of b ≡ cond (is_covered c.changeset d) None (nodes_on older d) → IsStep c older job d made b
+step_from c older job d made b of renewed under e = record { right = of.right; changeset = of.changeset; id = of.id; renewed = renewed; before = is_before c older d b e; under = under }
+
+pub root_seen : (c : Known) (older : List Known) (job : Job) (b : Option (Bor DirNodes)) → IsJobOf c older job → before_of b ≡ nodes_before job.parent [] → before_of b ≡ cond (is_covered c.changeset []) None (nodes_on older [])
+root_seen c older job b of e = e ∙ of.nodes [] refl ∙ sym (ap (λ v. cond v None (nodes_on older [])) (uncovered_dir c older of.right [] refl))
+
+pub dir_seen : (c : Known) (older : List Known) (job : Job) (d : Path) (b : Option (Bor DirNodes)) → IsJobOf c older job → is_renewed c.changeset d ≡ true → before_of b ≡ cond (is_covered job.commit d) None (nodes_before job.parent d)
+    → before_of b ≡ cond (is_covered c.changeset d) None (nodes_on older d)
+dir_seen c older job d b of renewed e = e ∙ (λ i. cond (is_covered (of.changeset i) d) None (of.nodes d renewed i))
+
+module _ (c : Known) (older : List Known) (job : Job) (d : Path) (made : BTreeMap Path Made) (b : Option (Bor DirNodes)) (step : IsStep c older job d made b)
+    (es : List (Path × FileChange)) (are_edits : es ≡ c.changeset.changes) (node : RustFsnode) (found : (n : List ℕ) → fs_entry_at (fsnode_seen node) n ≡ fs_after made d es (fs_before b) n) (rule : are_entries (fs_children_seen node.entries.items) ≡ true) where
+  abbrev now : List (Path × File)
+  now = files_in (c ∷ older)
+
+  found_after : (n : List ℕ) → fs_entry_at (fsnode_seen node) n ≡ fs_entry_at (fsnode now d) n
+  found_after n = found n ∙ ap (λ q. fs_after made d q (fs_before b) n) are_edits ∙ fs_entries c older step.right d made b step.before step.under n
+
+  entries_are : fs_children_seen node.entries.items ≡ (fsnode now d).entries
+  entries_are = same_entries c older step.right d (fs_children_seen node.entries.items) rule found_after
+
+  pub node_is : (is_summary (summary_by (fs_children_seen node.entries.items)) ≡ true → summary_seen node.summary ≡ summary_by (fs_children_seen node.entries.items)) → is_dir now d ≡ true → fsnode_seen node ≡ fsnode now d
+  node_is sums dir = same_node c older step.right d node rule found_after sums dir
+
+  pub not_there : (length d == 0) ≡ false → node.entries.items ≡ [] → is_dir now d ≡ false
+  not_there deep empty = (empty_is now d deep).0 (sym entries_are ∙ ap fs_children_seen empty)
+
+  pub there : (length d == 0) ≡ false → (node.entries.items ≡ [] → ⊥) → is_dir now d ≡ true
+  there deep some = by_test (is_dir now d) (λ h. h) (λ h. absurd (some (none_seen node.entries.items (entries_are ∙ (empty_is now d deep).1 h))))
+
+  -- ---- where it isn't there
+
+  pub left_out : (put : List (List ℕ)) → is_dir now d ≡ false → get path_cmp made d ≡ None → IsRenewed c older d made made put put
+  left_out put none new = record {
+    nodes = sym (append-nil put) ∙ ap (λ v. put ++ cond v (nodes_there c older d) []) (sym none);
+    here = (
+      ap (option_map (λ x. fs_entry_seen x.fsnode)) new ∙ ap (λ v. cond v (Some (fs_dir (fsnode now d))) None) (sym none),
+      ap (option_map (λ x. unode_entry_seen x.unode)) new ∙ ap (λ v. cond v (Some (UnodeDir (unode_id (unode (c ∷ older) d)))) None) (sym none),
+    );
+    others = λ p apart. refl;
+  }
+
+  -- ---- where it is there
+
+  pub noted : (after : BTreeMap Path Made) (had put : List (List ℕ)) (m : Made) (roots : Roots) → is_dir now d ≡ true → fsnode_seen node ≡ fsnode now d
+      → Updates path_cmp made after d (Some m) → fs_entry_seen m.fsnode ≡ FsDir roots.fsnode (summary_seen node.summary) → unode_entry_seen m.unode ≡ UnodeDir roots.unode
+      → roots ≡ roots_at (c ∷ older) d → put ≡ had ++ dir_nodes c older d → IsRenewed c older d made after had put
+  noted after had put m roots dir same updates fs un ids puts = record {
+    nodes = puts;
+    here = (
+      ap (option_map (λ x. fs_entry_seen x.fsnode)) updates.1
+          ∙ ap Some (fs ∙ (λ i. FsDir (ids i).fsnode (same i).summary))
+          ∙ ap (λ v. cond v (Some (fs_dir (fsnode now d))) None) (sym dir),
+      ap (option_map (λ x. unode_entry_seen x.unode)) updates.1
+          ∙ ap Some (un ∙ (λ i. UnodeDir (ids i).unode))
+          ∙ ap (λ v. cond v (Some (UnodeDir (unode_id (unode (c ∷ older) d)))) None) (sym dir),
+    );
+    others = λ p apart. updates.2 p apart;
+  }
+
+-- ---- whether a directory has entries
+
+empty_length : {X : Type 0} (xs : List X) → (length xs == 0) ≡ true → xs ≡ []
+empty_length [] h = refl
+empty_length (x ∷ xs) h = absurd (true≢false (sym h ∙ ne_eqb (length (x ∷ xs)) 0 (λ e. absurd (omega arith))))
+
+pub is_empty_list : {X : Type 0} (xs : List X) (b : Bool) → b ≡ (length xs == 0) → b ≡ true → xs ≡ []
+is_empty_list xs b e h = empty_length xs (sym e ∙ h)
+
+pub is_some_list : {X : Type 0} (xs : List X) (b : Bool) → b ≡ (length xs == 0) → b ≡ false → xs ≡ [] → ⊥
+is_some_list xs b e h empty = absurd (true≢false (sym (ap (λ ys. length ys == 0) empty) ∙ sym e ∙ h))

@@ -1,0 +1,20 @@
+//! The manifests of a changeset from those of its parent: only the directories above its change paths are made anew,
+//! and all other nodes are shared by id.
+#![tactic(auto)]
+
+mod covering;
+pub mod derivation;
+pub mod done;
+mod fsnodes;
+pub mod job;
+mod made;
+mod nodes;
+mod place;
+mod renewal;
+mod summing;
+mod touched;
+mod unodes;
+
+pub use derivation::derive;
+pub use done::Done;
+pub use job::{DirNodes, Job, Parent};

@@ -1,0 +1,109 @@
+//! Where a path lies, seen from a directory.
+ghost use Rattle.std.specs.Prelude.{◌≡◌, ◌<◌, ◌++◌, ◌∷◌, [], List, ℕ, length, drop, false, IfOk, IfSome, IfNone, IsTrue, option_map};
+ghost use Rattle.changeset_model.specs.Path.{Path, elements, is_path, is_strict_prefix};
+ghost use Rattle.derive_step.specs.Places.{dir_of, is_in, IsPlace};
+
+use repo_path::{PathFault, RepoPath};
+use std::alloc::{AllocError, Global};
+
+/// Where a path lies, seen from a directory.
+#[derive(Clone, Copy)]
+pub(crate) enum Place<'a> {
+    Outside,
+    /// Directly in the directory, under this name.
+    Here(&'a str),
+    /// Under the directory of this name, and the text of the path from there.
+    Under(&'a str, &'a str),
+}
+
+/// Where a path lies, seen from a directory or the root.
+pub(crate) fn place_in<'a>(path: &'a RepoPath, dir: Option<&RepoPath>) -> Place<'a>
+    ensures { IsPlace result (dir_of dir.entry) path.now }
+{
+    let Some(text) = text_in(path, dir) else {
+        return Place::Outside;
+    };
+    let (name, rest) = parted(text);
+    match rest {
+        None => Place::Here(name),
+        Some(rest) => Place::Under(name, rest),
+    }
+}
+
+// The first element of a path, and the rest if there is one.
+fn parted(text: &str) -> (&str, Option<&str>)
+    ensures alone { IfNone result.1 (elements text.now ≡ result.0.now ∷ []) }
+    ensures more { IfSome result.1 (λ rest. elements text.now ≡ result.0.now ∷ elements rest.now) }
+{
+    match text.split_once('/') {
+        None => (text, None),
+        Some((name, rest)) => (name, Some(rest)),
+    }
+}
+
+// The text of a path from a directory on, if it lies in it.
+fn text_in<'a>(path: &'a RepoPath, dir: Option<&RepoPath>) -> Option<&'a str>
+    ensures inside { IfSome result (λ text. path.now ≡ dir_of dir.entry ++ elements text.now) }
+    ensures outside { IfNone result (is_in dir.entry path.now ≡ false) }
+    ensures path { IsTrue (is_path path.now) }
+{
+    match dir {
+        Some(dir) => text_under(path, dir),
+        None => Some(path.as_str()),
+    }
+}
+
+fn text_under<'a>(path: &'a RepoPath, dir: &RepoPath) -> Option<&'a str>
+    ensures inside { IfSome result (λ text. path.now ≡ dir.now ++ elements text.now) }
+    ensures outside { IfNone result (is_strict_prefix dir.now path.now ≡ false) }
+    ensures path { IsTrue (is_path path.now) }
+{
+    let Some(rest) = path.as_str().strip_prefix(dir.as_str()) else {
+        return None;
+    };
+    rest.strip_prefix('/')
+}
+
+/// The directory above a path, unless that is the root.
+pub(crate) fn text_above(text: &str) -> Option<&str>
+    ensures inside { IfSome result (λ above. (name : List ℕ) × (elements text.now ≡ elements above.now ++ name ∷ [])) }
+    ensures outside { IfNone result (elements text.now ≡ text.now ∷ []) }
+{
+    match text.rsplit_once('/') {
+        Some((above, _)) => Some(above),
+        None => None,
+    }
+}
+
+/// The directory that a path lies under, which the rest of the path follows.
+pub(crate) fn dir_before(alloc: Global, path: &RepoPath, rest: &str) -> Result<RepoPath, AllocError>
+    requires { (d : Path) × (0 < length d) × (path.now ≡ d ++ elements rest.now) }
+    ensures { (d : Path) → path.now ≡ d ++ elements rest.now → IfOk result (λ dir. dir ≡ d) }
+{
+    let Some(front) = path.as_str().strip_suffix(rest) else {
+        unreachable!()
+    };
+    let Some(text) = front.strip_suffix('/') else {
+        unreachable!()
+    };
+    path_of(alloc, text)
+}
+
+/// A path whose text is known to be one.
+pub(crate) fn path_of(alloc: Global, text: &str) -> Result<RepoPath, AllocError>
+    requires { IsTrue (is_path (elements text.now)) }
+    ensures { IfOk result (λ path. path ≡ elements text.now) }
+{
+    match RepoPath::parse(alloc, text) {
+        Ok(path) => Ok(path),
+        Err(PathFault::Memory) => Err(AllocError),
+        Err(PathFault::BadPath { .. }) => unreachable!(),
+    }
+}
+
+/// A path has elements.
+pub(crate) fn has_elements(path: &RepoPath)
+    ensures { 0 < length path.now }
+{
+    let _text = path.as_str();
+}

@@ -1,0 +1,42 @@
+//! The directories that a changeset touches: those above its change paths.
+ghost use Rattle.std.specs.Prelude.{◌≡◌, ◌==◌, ◌&&◌, ◌||◌, not, true, length, OnOk, IfOk, IsTrue};
+ghost use Rattle.std.specs.List.{list_any};
+ghost use Rattle.std.specs.BTreeSet.{contains};
+ghost use Rattle.bonsai.specs.View.{edits_view};
+ghost use Rattle.changeset_model.specs.Path.{Path, elements, is_path, is_strict_prefix, path_cmp};
+ghost use Rattle.derive_step.specs.Touched.{is_above, IsWhole};
+
+use crate::place::{path_of, text_above};
+use bonsai::Edit;
+use repo_path::RepoPath;
+use std::alloc::{AllocError, Global};
+use std::collections::BTreeSet;
+
+/// The directories above the paths of edits, without the root.
+pub(crate) fn touched_dirs(alloc: Global, edits: &[Edit]) -> Result<BTreeSet<RepoPath>, AllocError>
+    ensures { IfOk result (λ dirs. (p : Path) → contains path_cmp dirs p ≡ list_any (λ e. is_above p e.0) (edits_view edits.now)) }
+{
+    let mut dirs = BTreeSet::new(alloc);
+    for edit in edits {
+        add_above(alloc, edit.path.as_str(), &mut dirs)?;
+    }
+    Ok(dirs)
+}
+
+// Adds the directories above a path. Where one is there, all above it are.
+fn add_above(alloc: Global, path: &str, dirs: &mut BTreeSet<RepoPath>) -> Result<(), AllocError>
+    requires path { IsTrue (is_path (elements path.now)) }
+    requires whole { IsWhole dirs.old }
+    ensures added { OnOk result ((p : Path) → contains path_cmp dirs.new p ≡ (contains path_cmp dirs.old p || is_above p (elements path.now))) }
+    ensures whole { OnOk result (IsWhole dirs.new) }
+{
+    let mut text = path;
+    while let Some(above) = text_above(text) {
+        let dir = path_of(alloc, above)?;
+        if !dirs.insert(dir)? {
+            return Ok(());
+        }
+        text = above;
+    }
+    Ok(())
+}

@@ -1,0 +1,3 @@
+pub mod Inverting
+pub mod Collisions
+pub mod Landing

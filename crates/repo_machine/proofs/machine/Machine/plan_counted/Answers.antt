@@ -1,0 +1,32 @@
+use Rattle.std.proofs.Common.{sym, ap, ◌∙◌}
+use Rattle.repo_machine.specs.Held.{repository}
+use Rattle.repo_machine.proofs.Judging.{passes_refusal}
+use Rattle.repo_machine.proofs.LandingSteps.{no_bookmark}
+use Rattle.repo_machine.proofs.LandingPlans.{head_known, planned, fork_refused_as, lengths_refused_as, paths_refused_as}
+use Rattle.repo_machine.proofs.machine.Machine.plan_counted.Goals as goal
+
+pub returns-in_default-clause-err : goal.returns-in_default-clause-err
+returns-in_default-clause-err g c = no_bookmark c.args.self.now.header c.args.self.now.history c.args.name.now c.args.draft c.in_ok-check_up.ensures.ok (sym c.head.ensures ∙ c.in_default.is)
+
+pub fork_from-requires : goal.fork_from-requires
+fork_from-requires g c = head_known c.self.invariant.1 (repository c.args.self.now) (ap repository c.self.view_is) c.in_ok-check_up.ensures.ok c.args.name.now c.in-Some.old (sym c.head.ensures ∙ c.in-Some.is)
+
+pub returns-in_err-fork-clause-err : goal.returns-in_err-fork-clause-err
+returns-in_err-fork-clause-err g c =
+    passes_refusal _ c.from_residual-in_err-fork.result _ c.from_residual-in_err-fork.ensures.1 (fork_refused_as c.self.invariant.1 (repository c.args.self.now) (ap repository c.self.view_is) c.in_ok-check_up.ensures.ok c.args.name.now c.in-Some.old (sym c.head.ensures ∙ c.in-Some.is) c.args.draft _ c.in_err-fork.ensures.steps)
+
+pub returns-in_err-check_lengths-clause-err : goal.returns-in_err-check_lengths-clause-err
+returns-in_err-check_lengths-clause-err g c =
+    passes_refusal _ c.from_residual-in_err-check_lengths.result _ c.from_residual-in_err-check_lengths.ensures.1
+    (lengths_refused_as c.self.invariant.1 (repository c.args.self.now) (ap repository c.self.view_is) c.in_ok-check_up.ensures.ok c.args.name.now c.in-Some.old (sym c.head.ensures ∙ c.in-Some.is) c.args.draft c.in_ok-fork.fork c.in_ok-fork.ensures.is_fork c.in_ok-fork.ensures.steps _ c.in_err-check_lengths.ensures)
+
+pub returns-in_err-touched-clause-err : goal.returns-in_err-touched-clause-err
+returns-in_err-touched-clause-err g c =
+    passes_refusal _ c.from_residual-in_err-touched.result _ c.from_residual-in_err-touched.ensures.1
+    (paths_refused_as c.self.invariant.1 (repository c.args.self.now) (ap repository c.self.view_is) c.in_ok-check_up.ensures.ok c.args.name.now c.in-Some.old (sym c.head.ensures ∙ c.in-Some.is) c.args.draft c.in_ok-fork.fork c.in_ok-fork.ensures.is_fork c.in_ok-fork.ensures.steps c.in_ok-check_lengths.ensures _ c.in_err-touched.ensures.apart)
+
+pub returns-clause-ok : goal.returns-clause-ok
+returns-clause-ok g c =
+    planned c.self.invariant.1 (repository c.args.self.now) (ap repository c.self.view_is) c.in_ok-check_up.ensures.ok c.args.name.now c.in-Some.old (sym c.head.ensures ∙ c.in-Some.is)
+    c.args.draft c.in_ok-fork.fork c.in_ok-fork.ensures.is_fork c.in_ok-fork.ensures.steps c.in_ok-check_lengths.ensures
+    _ c.in_ok-name.ensures _ c.in_ok-stack.ensures _ (ap (λ v. v.items) c.in_ok-touched-2.ensures.ok ∙ c.in_ok-touched.ensures.touched) c.in_ok-touched.ensures.apart

@@ -1,0 +1,131 @@
+//! The paths that a stack touches, against those of the changesets that a head has since. No list of the latter is made.
+ghost use Rattle.std.specs.Prelude.{◌≡◌, ℕ, ◌+◌, ◌*◌, ◌^◌, ◌<◌, ◌≤◌, ◌++◌, List, length, map, IfOk};
+ghost use Rattle.changeset_model.specs.Path.{Path, IsRising};
+ghost use Rattle.changeset_model.specs.Changeset.{touched_paths};
+ghost use Rattle.changeset_store.specs.Fork.{IsAncestor, IsFork, following_at, fork_between};
+ghost use Rattle.path_conflict.specs.Places.{paths_of, AreApart};
+ghost use Rattle.path_conflict.specs.Best.{IsBest};
+ghost use Rattle.repo_machine.specs.Landings.{Steps as Gives, paths_checked};
+ghost use Rattle.repo_machine.specs.Clashes.{edited_paths, apart_checked};
+
+use bonsai::Edit;
+use changeset_store::{ChangesetStore, Fork};
+use path_conflict::{Met, lesser_clash, outermost};
+use rebase_stack::touched;
+use repo_calls::Refusal;
+use repo_path::RepoPath;
+use std::alloc::{AllocError, Global};
+use std::sync::ledger::Ledger;
+use step_count::Steps;
+
+/// The paths that the stack touches, if none of them clashes with one that the range touches. A step is a comparison of two
+/// paths. There are at most three more than the binary digits of the number of these paths for each edit of the range.
+pub(crate) fn touched_apart<L: Ledger>(
+    store: &ChangesetStore,
+    alloc: Global,
+    fork: &Fork,
+    steps: &mut Steps<L>,
+) -> Result<Vec<RepoPath>, Refusal>
+    requires { IsFork store.now.known fork.now }
+    ensures touched { IfOk result (λ paths. paths.items ≡ touched_paths (fork_between store.now.known fork.now).stack) }
+    ensures apart { Gives (λ _. tt) (paths_checked (fork_between store.now.known fork.now)) result }
+    ensures counted { steps.old ≤ steps.new }
+    ensures cost { let f = fork_between store.now.known fork.now in (digits : ℕ) → length (touched_paths f.stack) < 2 ^ digits →
+        steps.new ≤ steps.old + (digits + 3) * length (edited_paths f.range) }
+{
+    let stack = store.stack(alloc, fork)?;
+    let of_stack = touched(alloc, stack.as_slice())?;
+    check_apart(
+        store,
+        alloc,
+        of_stack.as_slice(),
+        fork.root,
+        fork.head,
+        steps,
+    )?;
+    let paths = copies(alloc, of_stack.as_slice())?;
+    Ok(paths)
+}
+
+/// Refuses rising paths of which one clashes with a path that the changesets touch which follow an ancestor in a chain.
+pub(crate) fn check_apart<L: Ledger>(
+    store: &ChangesetStore,
+    alloc: Global,
+    paths: &[&RepoPath],
+    ancestor: u32,
+    last: u32,
+    steps: &mut Steps<L>,
+) -> Result<(), Refusal>
+    requires rising { IsRising (paths_of paths.now) }
+    requires ancestor { IsAncestor store.now.known ancestor last }
+    ensures apart { Gives (λ done. done) (apart_checked (paths_of paths.now) (following_at store.now.known ancestor last)) result }
+    ensures counted { steps.old ≤ steps.new }
+    ensures cost { (digits : ℕ) → length paths.now < 2 ^ digits →
+        steps.new ≤ steps.old + (digits + 3) * length (edited_paths (following_at store.now.known ancestor last)) }
+{
+    let outer = outermost(alloc, paths)?;
+    match least_since(store, outer.as_slice(), ancestor, last, steps) {
+        Some(met) => {
+            let left = outer[met.place].copy(alloc)?;
+            let right = met.path.copy(alloc)?;
+            Err(Refusal::Clash { left, right })
+        }
+        None => Ok(()),
+    }
+}
+
+// The least clash with the paths that the changesets touch which follow an ancestor. They are looked at newest first.
+fn least_since<'a, L: Ledger>(
+    store: &'a ChangesetStore,
+    outer: &[&RepoPath],
+    ancestor: u32,
+    last: u32,
+    steps: &mut Steps<L>,
+) -> Option<Met<'a>>
+    requires ancestor { IsAncestor store.now.known ancestor last }
+    requires rising { IsRising (paths_of outer.now) }
+    requires apart { AreApart (paths_of outer.now) }
+    ensures best { IsBest (paths_of outer.now) (edited_paths (following_at store.now.known ancestor last)) result }
+    ensures counted { steps.old ≤ steps.new }
+    ensures cost { (digits : ℕ) → length outer.now < 2 ^ digits →
+        steps.new ≤ steps.old + (digits + 3) * length (edited_paths (following_at store.now.known ancestor last)) }
+{
+    let mut least = None;
+    let mut number = last;
+    'range: while let Some(earlier) = store.previous(ancestor, number) {
+        let edits = store.at(number).changeset().edits();
+        least = least_with(outer, least, edits, steps);
+        number = earlier;
+    }
+    least
+}
+
+// The least clash with what was looked at so far and the paths of some edits.
+fn least_with<'a, L: Ledger>(
+    outer: &[&RepoPath],
+    least: Option<Met<'a>>,
+    edits: &'a [Edit],
+    steps: &mut Steps<L>,
+) -> Option<Met<'a>>
+    requires rising { IsRising (paths_of outer.now) }
+    requires apart { AreApart (paths_of outer.now) }
+    ensures best { (seen : List Path) → IsBest (paths_of outer.now) seen least.entry → IsBest (paths_of outer.now) (seen ++ map (λ e. e.path) edits.now) result }
+    ensures counted { steps.old ≤ steps.new }
+    ensures cost { (digits : ℕ) → length outer.now < 2 ^ digits → steps.new ≤ steps.old + (digits + 3) * length edits.now }
+{
+    let mut least = least;
+    'edits: for edit in edits {
+        least = lesser_clash(outer, least, &edit.path, steps);
+    }
+    least
+}
+
+fn copies(alloc: Global, paths: &[&RepoPath]) -> Result<Vec<RepoPath>, AllocError>
+    ensures { IfOk result (λ copies. copies.items ≡ map (λ p. p.now) paths.now) }
+{
+    let mut copies = Vec::with_capacity(alloc, paths.len())?;
+    'paths: for path in paths {
+        copies.push(path.copy(alloc)?)?;
+    }
+    Ok(copies)
+}

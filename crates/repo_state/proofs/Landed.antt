@@ -1,0 +1,23 @@
+-- The trees after a landing, by the reply to it.
+use Rattle.std.proofs.Common.{ℕ, List, ◌≡◌, subst}
+use Rattle.history_model.specs.History.{Entry}
+use Rattle.history_model.specs.Journal.{Header}
+use Rattle.reply_model.specs.Legal.{IsLegal}
+use Rattle.reply_model.specs.Reply.{Ask, PutContent, PutChangeset, SetBookmark, LandDraft, Granted, ContentPut, ChangesetPut, BookmarkSet, Landed}
+use Rattle.reply_model.specs.After.{Asks, Grants, Replies}
+use Rattle.seat_calls.proofs.Lawful.{alone}
+use Rattle.landing_laws.proofs.Landing.{replied_trees}
+use Rattle.repo_state.specs.Trees.{LandsAs}
+
+lands_at : (header : Header) (h : List Entry) (who : ℕ) (ask : Ask) (granted : Granted) (new : List Entry) → IsLegal header new → Replies header h who (Asks ask) (Grants granted) new → LandsAs ask granted h new
+lands_at header h who (PutContent bytes) granted new legal r = tt
+lands_at header h who (PutChangeset bytes) granted new legal r = tt
+lands_at header h who (SetBookmark name from to) granted new legal r = tt
+lands_at header h who (LandDraft name draft) (ContentPut x) new legal r = absurd (alone.fits header h who (LandDraft name draft) (ContentPut x) new r)
+lands_at header h who (LandDraft name draft) (ChangesetPut x) new legal r = absurd (alone.fits header h who (LandDraft name draft) (ChangesetPut x) new r)
+lands_at header h who (LandDraft name draft) BookmarkSet new legal r = absurd (alone.fits header h who (LandDraft name draft) BookmarkSet new r)
+lands_at header h who (LandDraft name draft) (Landed old ids) new legal r = replied_trees header h who name draft old ids new legal r
+
+-- the header of the history after it is named otherwise
+pub lands_as : (header now : Header) (h : List Entry) (who : ℕ) (ask : Ask) (granted : Granted) (new : List Entry) → now ≡ header → IsLegal now new → Replies header h who (Asks ask) (Grants granted) new → LandsAs ask granted h new
+lands_as header now h who ask granted new same legal r = lands_at header h who ask granted new (subst (λ header. IsLegal header new) same legal) r

@@ -1,0 +1,28 @@
+-- The trees after a landing.
+--     LandsAs ask granted before after      where the change is a landing, it is granted as one, and the trees are so
+--     LandsSo draft result before after      where the stack was landed, the trees are so
+use Rattle.std.specs.Prelude.{List}
+use Rattle.byte_fields.specs.Bytes.{Id}
+use Rattle.history_model.specs.History.{Entry, known}
+use Rattle.reply_model.specs.Reply.{Ask, PutContent, PutChangeset, SetBookmark, LandDraft, Granted, ContentPut, ChangesetPut, BookmarkSet, Landed}
+use Rattle.repo_machine.specs.Landings.{IsLanding}
+use Rattle.repo_state.specs.declared.exchanged.Exchanged.{Exchanged}
+use Rattle.repo_state.specs.declared.exchanged.Exchanged.TheVariants as exchanges
+
+abbrev pub LandsGranted : Id → Granted → List Entry → List Entry → Type 0
+LandsGranted draft (ContentPut x) before after = ⊥
+LandsGranted draft (ChangesetPut x) before after = ⊥
+LandsGranted draft BookmarkSet before after = ⊥
+LandsGranted draft (Landed old ids) before after = IsLanding (known before) (known after) old draft ids
+
+abbrev pub LandsAs : Ask → Granted → List Entry → List Entry → Type 0
+LandsAs (PutContent bytes) granted before after = Unit {0}
+LandsAs (PutChangeset bytes) granted before after = Unit {0}
+LandsAs (SetBookmark name from to) granted before after = Unit {0}
+LandsAs (LandDraft name draft) granted before after = LandsGranted draft granted before after
+
+abbrev pub LandsSo : Id → Exchanged → List Entry → List Entry → Type 0
+LandsSo draft (exchanges.Landed landed) before after = IsLanding (known before) (known after) landed.old draft landed.ids.items
+LandsSo draft (exchanges.HeadMoved found) before after = Unit {0}
+LandsSo draft (exchanges.Refused e) before after = Unit {0}
+LandsSo draft exchanges.DiskFault before after = Unit {0}

@@ -1,0 +1,8 @@
+//! Runs of the program as a server, over memory and over a socket, from the words, the file and the connections to the
+//! status, the line written and the file left.
+#![tactic(auto)]
+
+#[cfg(test)]
+mod given;
+#[cfg(test)]
+mod servers;

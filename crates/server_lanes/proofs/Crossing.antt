@@ -1,0 +1,28 @@
+-- What a lane has may cross to another thread. Each lemma is of one type by those of its parts, since one search through all of them runs out of steps.
+use denote.RattleType.{RattleType}
+use denote.Ref.{NamedLft}
+use denote.Param.Send.{IsSend, IsSync, sendable}
+use Rattle.std.proofs.Crossing.{crosses}
+use Rattle.std.proofs.sync.ledger.Share.TheSendSync as shares
+use Rattle.std.specs.declared.sync.ledger.Ledger as ledgers
+use Rattle.blob_disk.specs.declared.disk.Disk as disks
+use Rattle.ports.specs.declared.link.Link as links
+use Rattle.shared_repo.proofs.Sending.{repo_sync, seat_send}
+use Rattle.shared_repo.specs.contracts.served.Served as Served
+use Rattle.http_front.specs.contracts.connection.ServedLinks as Links
+use Rattle.server_lanes.specs.declared.run.Run as runs
+use Rattle.server_lanes.specs.contracts.tally.Tally as Tally
+use Rattle.server_lanes.specs.contracts.lane.Lane as Lane
+
+pub served_send : (l : NamedLft) (R D G : RattleType) (d : disks.Ghosts D.Denot) → IsSync R → IsSend D → IsSync G → IsSend (Served.the_row l R D G d)
+served_send l R D G d r may gate = let seat = seat_send in let repo = repo_sync D d may in search sendable depth 20
+
+pub links_send : (L : RattleType) → IsSend L → IsSend (Links.the_row L)
+links_send L may = search (crosses, sendable) depth 20
+
+module _ (L K E : RattleType) (l : links.Ghosts L.Denot) (r : runs.Ghosts K.Denot) (k : ledgers.Ghosts K.Denot) (e : ledgers.Ghosts E.Denot) (may_l : IsSend L) (may_k : IsSend K) (may_e : IsSend E) where
+  pub tally_send : IsSend (Tally.the_row L K E l r k e)
+  tally_send = let served = links_send L may_l in search (shares.the_send, sendable) depth 20
+
+  pub lane_send : (life : NamedLft) (R D G : RattleType) (d : disks.Ghosts D.Denot) → IsSync R → IsSend D → IsSync G → IsSend (Lane.the_row life R D G L K E d l r k e)
+  lane_send life R D G d rt may gate = let seat = served_send life R D G d rt may gate in let tally = tally_send in search sendable depth 20

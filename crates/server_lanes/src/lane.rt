@@ -1,0 +1,88 @@
+//! What one thread serves links with.
+ghost use Rattle.std.specs.Prelude.{◌≡◌, ◌<◌, []};
+ghost use Rattle.std.specs.Bool.{OnFalse};
+ghost use Rattle.bookmark_lock.specs.Place.{with_front};
+ghost use Rattle.server_lanes.specs.Lanes.{HasRun};
+
+use crate::door::Door;
+use crate::run::Run;
+use crate::tally::Tally;
+use blob_disk::Disk;
+use ports::{Accept, Gate, Link};
+use routes::Routes;
+use shared_repo::{RepoSeat, Served};
+use std::alloc::Global;
+use std::marker::Model;
+use std::sync::ledger::Ledger;
+use std::sync::{Mutex, Wait};
+
+/// A seat, and how many links were served at it.
+#[derive(Drop)]
+pub(crate) struct Lane<'a, R: Wait, D: Disk, G: Gate, L: Link, K: Run, E: Ledger> {
+    seat: Served<'a, R, D, G>,
+    tally: Tally<L, K, E>,
+}
+
+impl<'a, R: Wait, D: Disk, G: Gate, L: Link, K: Run, E: Ledger> Model
+    for Lane<'a, R, D, G, L, K, E> {
+    ghost use Rattle.server_lanes.specs.Lanes.{LaneView};
+
+    ghost Value = { LaneView };
+
+    ghost view = { λ l. record { place = l.seat; tally = l.tally } };
+}
+
+impl<'a, R: Wait, D: Disk, G: Gate, L: Link, K: Run, E: Ledger> Lane<'a, R, D, G, L, K, E> {
+    /// A lane at this seat.
+    pub(crate) fn new(seat: Served<'a, R, D, G>, tally: Tally<L, K, E>) -> Self
+        ensures { result ≡ record { place = seat.entry; tally = tally } }
+    {
+        Lane { seat, tally }
+    }
+
+    // Takes a link of the door and serves it to its end. Says whether there was one.
+    fn serve_next<A: Accept<L>>(
+        &mut self,
+        rt: &R,
+        alloc: Global,
+        routes: &Routes,
+        door: &Mutex<Door<A, L, K, E>>,
+    ) -> bool
+        requires { 0 < self.old.tally.parts }
+        ensures home { with_front self.new.place [] ≡ with_front self.old.place [] }
+        ensures parts { self.new.tally.parts ≡ self.old.tally.parts }
+        ensures told { OnFalse result (0 < self.new.tally.told) }
+    {
+        self.tally
+            .serve_next(rt, alloc, routes, door, &mut self.seat)
+    }
+
+    /// Its seat, and its tally.
+    pub(crate) fn into_parts(self) -> (RepoSeat, Tally<L, K, E>)
+        ensures seat { result.0 ≡ self.entry.place }
+        ensures tally { result.1 ≡ self.entry.tally }
+    {
+        (self.seat.into_seat(), self.tally)
+    }
+}
+
+/// The lane takes links of the door, one after another, and serves each to its end, however that is,
+/// until no more will come.
+pub(crate) fn serve_links<R: Wait, D: Disk, G: Gate, L: Link, K: Run, E: Ledger, A: Accept<L>>(
+    rt: &R,
+    alloc: Global,
+    routes: &Routes,
+    door: &Mutex<Door<A, L, K, E>>,
+    lane: &mut Lane<'_, R, D, G, L, K, E>,
+)
+    requires { 0 < lane.old.tally.parts }
+    ensures { HasRun lane.old lane.new }
+{
+    for _ in rt.forever() {
+        let served = lane.serve_next(rt, alloc, routes, door);
+        if !served {
+            return;
+        }
+    }
+    unreachable!()
+}

@@ -1,0 +1,14 @@
+//! Many connections on one repository: lanes take links from one accept, and each serves its own at a
+//! seat of its own, at once with the others.
+#![tactic(auto)]
+
+mod closing;
+mod door;
+mod lane;
+mod lanes;
+mod run;
+mod serving;
+mod tally;
+
+pub use closing::Closing;
+pub use serving::serve_all;

@@ -1,0 +1,61 @@
+-- From the turns of a landing to its answer.
+use Rattle.std.proofs.Common.{◌≡◌, ℕ, List, [], Option, None, Some, refl, ap, sym, ◌∙◌, subst, append-nil}
+use Rattle.std.specs.Prelude.{MatchOption}
+use mathlib.Core.List.{IsPrefix}
+use Rattle.byte_fields.specs.Bytes.{Id}
+use Rattle.history_model.specs.History.{Entry}
+use Rattle.history_model.specs.Journal.{Header}
+use Rattle.bookmark_lock.specs.Place.{Place, with_front}
+use Rattle.bookmark_lock.proofs.Prefixes.{prefix_self, prefix_trans}
+use Rattle.reply_model.specs.Reply.{Ask, LandDraft}
+use Rattle.reply_model.specs.After.{Call, Asks, Answer, Answers, After, nothing}
+use Rattle.repo_machine.specs.Plans.{PlannedLanding, RebasedLanding, IsPlan, WasPlanned, rebased_of}
+use Rattle.shared_repo.specs.Landing.{SeesMore}
+
+pub sees_nothing : (h : List Entry) (who : ℕ) → SeesMore h who h
+sees_nothing h who = record { begins = prefix_self h; own = refl }
+
+pub sees_twice : (old between new : List Entry) (who : ℕ) → SeesMore old who between → SeesMore between who new → SeesMore old who new
+sees_twice old between new who s t = record { begins = prefix_trans old between new s.begins t.begins; own = t.own ∙ s.own }
+
+-- a turn without an entry, and then the call
+pub after_more : (header : Header) (old between new : List Entry) (who : ℕ) (call : Call) (answer : Answer) → SeesMore old who between → After header between who call answer new → After header old who call answer new
+after_more header old between new who call answer s a = record {
+  before = a.before;
+  made = a.made;
+  grows = record { begins = prefix_trans old between a.before s.begins a.grows.begins; own = a.grows.own ∙ s.own; new_is = a.grows.new_is };
+  answers = a.answers;
+}
+
+-- a turn without an entry, at whose end the call is answered so
+pub after_nothing : (header : Header) (old new : List Entry) (who : ℕ) (call : Call) (answer : Answer) → SeesMore old who new → Answers header new call answer nothing → After header old who call answer new
+after_nothing header old new who call answer s a = record {
+  before = new;
+  made = nothing;
+  grows = record { begins = s.begins; own = s.own; new_is = sym (append-nil new) };
+  answers = a;
+}
+
+-- a plan that was made here
+pub planned_here : (h : List Entry) (name : List ℕ) (draft : Id) (plan : PlannedLanding) (r : RebasedLanding) → IsPlan h name draft plan → r ≡ rebased_of plan → WasPlanned h r
+planned_here h name draft plan r p is = record {
+  then = h;
+  begins = prefix_self h;
+  plan = plan;
+  planned = subst (λ (t : List ℕ × Id). IsPlan h t.0 t.1 plan) (λ i. (sym (ap (λ (r : RebasedLanding). r.name) is ∙ p.names) i, sym (ap (λ (r : RebasedLanding). r.draft) is ∙ p.drafts) i)) p;
+  rebased_is = is;
+}
+
+pub asked_for : (h : List Entry) (name : List ℕ) (draft : Id) (plan : PlannedLanding) (r : RebasedLanding) → IsPlan h name draft plan → r ≡ rebased_of plan → LandDraft r.name r.draft ≡ LandDraft name draft
+asked_for h name draft plan r p is = (λ i. LandDraft ((ap (λ (r : RebasedLanding). r.name) is ∙ p.names) i) ((ap (λ (r : RebasedLanding). r.draft) is ∙ p.drafts) i))
+
+-- an attempt in two turns
+pub after_attempt : {X : Type 0} (header : Header) (old between new : List Entry) (who number : ℕ) (ask wanted : Ask) (answer_of : X → Answer) (result : Option X) → SeesMore old who between → number ≡ who → ask ≡ wanted
+    → MatchOption result (SeesMore between number new) (λ x. After header between number (Asks ask) (answer_of x) new) → MatchOption result (SeesMore old who new) (λ x. After header old who (Asks wanted) (answer_of x) new)
+after_attempt header old between new who number ask wanted answer_of None s n a r = sees_twice old between new who s (subst (λ (w : ℕ). SeesMore between w new) n r)
+after_attempt header old between new who number ask wanted answer_of (Some x) s n a r =
+    after_more header old between new who (Asks wanted) (answer_of x) s (subst (λ (t : ℕ × Ask). After header between t.0 (Asks t.1) (answer_of x) new) (λ i. (n i, a i)) r)
+
+-- a seat that belongs where another does has its place, but for its front
+pub same_place : (a b : Place) → with_front a [] ≡ with_front b [] → a ≡ with_front b a.front
+same_place a b e = ap (λ (p : Place). with_front p a.front) e

@@ -1,0 +1,63 @@
+-- A repository that seats share may be shared among threads where its disk may cross to another, and so may a seat.
+--     Each lemma is of one type by those of its parts, since one search through all of them runs out of steps.
+use denote.RattleType.{RattleType}
+use denote.Param.Send.{IsSend, IsSync, sendable, view_send, view_sync}
+use denote.Param.SendFields.{declared_send, declared_sync, as_row_send, as_row_sync}
+use Rattle.std.proofs.Crossing as own
+use Rattle.std.proofs.MapsCrossing as maps
+use Rattle.blob_disk.specs.declared.disk.Disk as disks
+use Rattle.bonsai.specs.contracts.commit.Commit as Commit
+use Rattle.changeset_store.specs.contracts.store.ChangesetStore as Store
+use Rattle.repo_journal.specs.contracts.journal.Journal as Journal
+use Rattle.repo_machine.specs.contracts.machine.Machine as Machine
+use Rattle.std.specs.contracts.snapshot.Snapshot as Snapshot
+use Rattle.repo_state.specs.contracts.state.RepoState as State
+use Rattle.shared_repo.specs.contracts.repo.Repo as Repo
+use Rattle.shared_repo.specs.contracts.seat.RepoSeat as RepoSeat
+use Rattle.atomic_table.proofs.badge.Badge.TheSendSync as badges
+use Rattle.bookmark_lock.specs.contracts.lock.TurnLock as Lock
+use Rattle.turn_history.specs.declared.value.Recorded as recorded
+use Rattle.atomic_table.proofs.shared.Shared.TheSendSync as shares
+use Rattle.atomic_table.proofs.send_lease.SendLease.TheSendSync as leases
+use Rattle.atomic_table.specs.declared.shared.TableRule as rules
+use Rattle.atomic_table.specs.contracts.owned.Table as Table
+use Rattle.std.specs.contracts.option.Option as Option
+use Rattle.std.specs.contracts.alloc.Global as Heap
+use Rattle.std.specs.contracts.impls.GlobalAllocator.TheImpl.{ghosts}
+
+pub commit_send : IsSend Commit.the_row
+commit_send = search (own.crosses, sendable) depth 60
+
+pub commit_sync : IsSync Commit.the_row
+commit_sync = search (own.crosses, sendable) depth 60
+
+pub store_send : IsSend Store.the_row
+store_send = search (commit_send, commit_sync, own.crosses, maps.crosses, sendable) depth 60
+
+pub machine_send : IsSend Machine.the_row
+machine_send = search (store_send, own.crosses, maps.crosses, sendable) depth 60
+
+pub journal_send : IsSend Journal.the_row
+journal_send = search (own.crosses, sendable) depth 60
+
+pub table_sync : (S V K P : RattleType) (g : rules.Ghosts P.Denot S.Denot V.Denot K.Denot) → IsSend S → IsSync (Table.the_field S V K P Heap.the_row g ghosts).row
+table_sync S V K P g s = let h = own.send in let y = own.sync in let f = own.frees in let a = shares.the_sync S V K P g s in search (leases.the_sync, sendable) depth 20
+
+pub option_send : (T : RattleType) → IsSend T → IsSend (Option.the_row T)
+option_send T s = search sendable depth 20
+
+pub lock_sync : (T : RattleType) (g : recorded.Ghosts T.Denot) → IsSend T → IsSync (Lock.the_row T g)
+lock_sync T g s = let o = option_send T s in search (table_sync, sendable) depth 20
+
+module _ (D : RattleType) (disk : disks.Ghosts D.Denot) (may : IsSend D) where
+  pub snapshot_send : IsSend (Snapshot.the_row D)
+  snapshot_send = search (own.crosses, sendable) depth 60
+
+  pub state_send : IsSend (State.the_row D disk)
+  state_send = let m = machine_send in let j = journal_send in let s = snapshot_send in search sendable depth 20
+
+  pub repo_sync : IsSync (Repo.the_row D disk)
+  repo_sync = let s = state_send in search (lock_sync, sendable) depth 20
+
+pub seat_send : IsSend RepoSeat.the_row
+seat_send = search (badges.the_send, sendable) depth 30

@@ -1,0 +1,22 @@
+-- What a seat knows between the turns of a landing.
+--     SeesMore old who new      the seat has seen more, and made no entry
+--     outcome_of exchanged      the answer to a planned landing, unless the bookmark's head has moved
+use Rattle.std.specs.Prelude.{◌≡◌, ℕ, List, Option, None, Some, Result, Ok, Err}
+use mathlib.Core.List.{IsPrefix}
+use Rattle.history_model.specs.History.{Entry, entries_by}
+use Rattle.repo_calls.specs.declared.ask.Granted.{Granted}
+use Rattle.repo_calls.specs.declared.ask.Granted.TheVariants.{Landing}
+use Rattle.repo_state.specs.declared.exchanged.Exchanged.{Exchanged}
+use Rattle.repo_state.specs.declared.exchanged.Exchanged.TheVariants.{Landed, HeadMoved, Refused, DiskFault}
+use Rattle.seat_calls.specs.declared.calls.ChangeFault.{ChangeFault}
+use Rattle.seat_calls.specs.declared.calls.ChangeFault.TheVariants as faults
+
+pub record SeesMore (old : List Entry) (who : ℕ) (new : List Entry) : Type 0 where
+  pub begins : IsPrefix old new
+  pub own : entries_by who new ≡ entries_by who old
+
+abbrev pub outcome_of : Exchanged → Option (Result Granted ChangeFault)
+outcome_of (Landed landed) = Some (Ok (Landing landed))
+outcome_of (HeadMoved found) = None
+outcome_of (Refused refusal) = Some (Err (faults.Refused refusal))
+outcome_of DiskFault = Some (Err faults.DiskFault)

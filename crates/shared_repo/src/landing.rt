@@ -1,0 +1,169 @@
+//! Landings: planned under one turn, rebased outside of every turn, and entered under another.
+ghost use Rattle.std.specs.Prelude.{◌≡◌, IfOk, IfErr, MatchOption, false};
+ghost use Rattle.bookmark_lock.specs.Place.{with_front};
+ghost use Rattle.bookmark_lock.specs.Turns.{IsTurn};
+ghost use Rattle.reply_model.specs.Reply.{LandDraft};
+ghost use Rattle.reply_model.specs.After.{After, Answers, Asks, Replies, nothing};
+ghost use Rattle.repo_calls.specs.Calls.{refused};
+ghost use Rattle.repo_machine.specs.Plans.{IsPlan, WasPlanned};
+ghost use Rattle.seat_calls.specs.Asking.{stored_answer};
+ghost use Rattle.shared_repo.specs.Front.{IsFront, history_of, opening_of};
+ghost use Rattle.shared_repo.specs.Landing.{SeesMore};
+
+use crate::repo::Repo;
+use crate::seat::RepoSeat;
+use crate::turns::{exchange_in, land_in, plan_in};
+use blob_disk::Disk;
+use object_id::Id;
+use ports::Gate;
+use repo_calls::{Granted, Refusal};
+use repo_machine::{Plan, Rebased};
+use repo_path::BookName;
+use repo_state::RepoState;
+use seat_calls::ChangeFault;
+use std::alloc::Global;
+use std::sync::Wait;
+
+// How often a landing is tried in two turns.
+const MOST_ATTEMPTS: u32 = 99;
+
+impl<D: Disk> Repo<D> {
+    /// Lands a draft on a bookmark. An attempt plans under one turn, then rebases the stack and
+    /// passes the gate outside of every turn, and enters the landing under another turn. Where the
+    /// bookmark's head has moved meanwhile it is made again, at most 99 times in all. After that one
+    /// turn is kept from the plan to the entry, and no gate is passed.
+    #[tactic(auto, using(crate::proofs::Fronts::sees_nothing, crate::proofs::Fronts::sees_twice, crate::proofs::Fronts::after_more))]
+    pub fn land<R: Wait, G: Gate>(
+        &self,
+        rt: &R,
+        alloc: Global,
+        seat: &mut RepoSeat,
+        name: &BookName,
+        draft: Id,
+        gate: &G,
+    ) -> Result<Granted, ChangeFault>
+        requires place { seat.old.lock ≡ self.now }
+        ensures seat { seat.new ≡ with_front seat.old seat.new.front }
+        ensures after { After self.now.opening.header seat.old.front seat.old.number (Asks (LandDraft name.now draft)) (stored_answer result) seat.new.front }
+        ensures front { IsFront self.now.opening seat.new.front }
+    {
+        for attempt in 0..MOST_ATTEMPTS {
+            if let Some(answer) = self.attempt(rt, alloc, seat, name, draft, gate, attempt) {
+                return answer;
+            }
+        }
+        self.land_in_one_turn(rt, alloc, seat, name, draft)
+    }
+
+    // One attempt in two turns: the landing's answer, or none where the head moved between them.
+    #[tactic(auto, using(crate::proofs::Fronts::after_nothing, crate::proofs::Fronts::planned_here))]
+    fn attempt<R: Wait, G: Gate>(
+        &self,
+        rt: &R,
+        alloc: Global,
+        seat: &mut RepoSeat,
+        name: &BookName,
+        draft: Id,
+        gate: &G,
+        attempt: u32,
+    ) -> Option<Result<Granted, ChangeFault>>
+        requires place { seat.old.lock ≡ self.now }
+        ensures seat { seat.new ≡ with_front seat.old seat.new.front }
+        ensures after { MatchOption result (SeesMore seat.old.front seat.old.number seat.new.front) (λ answer. After self.now.opening.header seat.old.front seat.old.number (Asks (LandDraft name.now draft)) (stored_answer answer) seat.new.front) }
+        ensures front { IsFront self.now.opening seat.new.front }
+    {
+        let plan = match self.plan(rt, alloc, seat, name, draft) {
+            Ok(plan) => plan,
+            Err(refusal) => return Some(Err(ChangeFault::Refused(refusal))),
+        };
+        let Ok(rebased) = plan.rebased(alloc) else {
+            return Some(Err(ChangeFault::Refused(Refusal::Memory)));
+        };
+        gate.between(seat.number(), attempt);
+        self.exchange(rt, alloc, seat, rebased)
+    }
+
+    // The first turn of an attempt.
+    fn plan<R: Wait>(
+        &self,
+        rt: &R,
+        alloc: Global,
+        seat: &mut RepoSeat,
+        name: &BookName,
+        draft: Id,
+    ) -> Result<Plan, Refusal>
+        requires place { seat.old.lock ≡ self.now }
+        ensures seat { seat.new ≡ with_front seat.old seat.new.front }
+        ensures more { SeesMore seat.old.front seat.old.number seat.new.front }
+        ensures ok { IfOk result (IsPlan seat.new.front name.now draft) }
+        ensures err { IfErr result (λ e. Answers self.now.opening.header seat.new.front (Asks (LandDraft name.now draft)) (refused e) nothing) }
+        ensures front { IsFront self.now.opening seat.new.front }
+    {
+        self.lock.enter(
+            rt,
+            &mut seat.inner,
+            |state: &mut RepoState<D>| -> (bool, Result<Plan, Refusal>)
+                ensures same { state.new.history ≡ state.old.history }
+                ensures opening { state.new.opening ≡ state.old.opening }
+                ensures none { result.0 ≡ false }
+                ensures ok { IfOk result.1 (IsPlan state.old.history name.entry.now draft) }
+                ensures err { IfErr result.1 (λ e. Answers state.old.opening.header state.old.history (Asks (LandDraft name.entry.now draft)) (refused e) nothing) }
+                ensures front { IsFront state.new.opening state.new.history }
+            { (false, plan_in(state, alloc, name, draft)) },
+        )
+    }
+
+    // The second turn of an attempt: the landing's answer, or none where the head has moved.
+    #[tactic(auto, using(repo_machine::proofs::Planning::was_planned))]
+    fn exchange<R: Wait>(
+        &self,
+        rt: &R,
+        alloc: Global,
+        seat: &mut RepoSeat,
+        rebased: Rebased,
+    ) -> Option<Result<Granted, ChangeFault>>
+        requires place { seat.old.lock ≡ self.now }
+        requires planned { WasPlanned seat.old.front rebased }
+        ensures seat { seat.new ≡ with_front seat.old seat.new.front }
+        ensures after { MatchOption result (SeesMore seat.old.front seat.old.number seat.new.front) (λ answer. After self.now.opening.header seat.old.front seat.old.number (Asks (LandDraft rebased.name rebased.draft)) (stored_answer answer) seat.new.front) }
+        ensures front { IsFront self.now.opening seat.new.front }
+    {
+        let who = seat.inner.number();
+        self.lock.enter(
+            rt,
+            &mut seat.inner,
+            |state: &mut RepoState<D>| -> (bool, Option<Result<Granted, ChangeFault>>)
+                requires { WasPlanned state.old.history rebased }
+                ensures reply { MatchOption result.1 (state.new.history ≡ state.old.history) (λ answer. Replies state.old.opening.header state.old.history who (Asks (LandDraft rebased.name rebased.draft)) (stored_answer answer) state.new.history) }
+                ensures turn { IsTurn history_of opening_of who state.old state.new result.0 }
+                ensures front { IsFront state.new.opening state.new.history }
+            { exchange_in(state, alloc, who, rebased) },
+        )
+    }
+
+    // The last attempt: the bookmark can't move from its plan to its entry.
+    fn land_in_one_turn<R: Wait>(
+        &self,
+        rt: &R,
+        alloc: Global,
+        seat: &mut RepoSeat,
+        name: &BookName,
+        draft: Id,
+    ) -> Result<Granted, ChangeFault>
+        requires place { seat.old.lock ≡ self.now }
+        ensures seat { seat.new ≡ with_front seat.old seat.new.front }
+        ensures after { After self.now.opening.header seat.old.front seat.old.number (Asks (LandDraft name.now draft)) (stored_answer result) seat.new.front }
+        ensures front { IsFront self.now.opening seat.new.front }
+    {
+        let who = seat.inner.number();
+        self.lock.enter(
+            rt,
+            &mut seat.inner,
+            |state: &mut RepoState<D>| -> (bool, Result<Granted, ChangeFault>)
+                ensures reply { Replies state.old.opening.header state.old.history who (Asks (LandDraft name.entry.now draft)) (stored_answer result.1) state.new.history }
+                ensures turn { IsTurn history_of opening_of who state.old state.new result.0 }
+                ensures front { IsFront state.new.opening state.new.history }
+            { land_in(state, alloc, who, name, draft) },
+        )
+    }
+}
