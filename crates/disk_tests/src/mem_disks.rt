@@ -29,13 +29,11 @@ fn put_done(out: &mut String, is_done: bool) -> Result<(), AllocError> {
 }
 
 fn put_read(out: &mut String, bytes: Option<[u8; 2]>) -> Result<(), AllocError> {
-    match bytes {
-        Some([first, second]) => {
-            out.push(char::from(first))?;
-            out.push(char::from(second))
-        }
-        None => out.push('-'),
-    }
+    let Some(bytes) = bytes else {
+        return out.push('-');
+    };
+    out.push(char::from(bytes[0]))?;
+    out.push(char::from(bytes[1]))
 }
 
 fn put_size(out: &mut String, size: Option<u64>) -> Result<(), Fail> {
