@@ -1,11 +1,13 @@
 //! Reads.
-ghost use Rattle.std.specs.Prelude.{◌≡◌, IsTrue, false, not};
+ghost use Rattle.std.specs.Prelude.{◌≡◌, IsTrue, false, not, Some, IfOk, IfErr};
+ghost use Rattle.std.specs.Arc.{arc_value};
 ghost use Rattle.ports.specs.Faults.{Counts};
 ghost use Rattle.disk_model.specs.Images.{IsImage};
 ghost use Rattle.disk_model.specs.Calls.{Kept, LeavesOnly, Looked};
+ghost use Rattle.history_model.specs.History.{changeset_of, known};
 ghost use Rattle.reply_model.specs.After.{Answer, Answers, Looks, Replies, nothing};
 ghost use Rattle.reply_model.specs.Reply.{ChangesetOf, ContentOf, LogFrom};
-ghost use Rattle.seat_calls.specs.Asking.{bytes_answer, is_bad_bytes, is_early, is_read_fault, IsAnswer, question_seen, reads_file};
+ghost use Rattle.seat_calls.specs.Asking.{bytes_answer, fault_answer, is_bad_bytes, is_early, is_read_fault, IsAnswer, question_seen, reads_file};
 ghost use Rattle.repo_state.specs.Asking.{TellsDigest};
 ghost use Rattle.repo_state.specs.Cores.{LooksSo};
 ghost use Rattle.repo_state.specs.State.{IsSound};
@@ -13,10 +15,11 @@ ghost use Rattle.repo_state.specs.State.{IsSound};
 use crate::fill::{check, fill};
 use crate::state::RepoState;
 use blob_disk::Disk;
-use bonsai::encode;
+use bonsai::{Commit, encode};
 use object_id::Id;
 use seat_calls::{AskFault, Question, Seen};
 use std::alloc::Global;
+use std::sync::Arc;
 
 impl<D: Disk> RepoState<D> {
     /// Answers a read of the seat `who`. A content is read from the file, and all else is known.
@@ -68,11 +71,23 @@ impl<D: Disk> RepoState<D> {
         ensures sound { IsSound self.now.opening self.now.history self.now.disk }
         ensures read { (is_read_fault result ≡ false) × (is_bad_bytes result ≡ false) }
     {
-        let Some(commit) = self.machine.changeset(&id) else {
-            return Err(AskFault::NoChangeset { id });
-        };
+        let commit = self.changeset(id)?;
         match encode(alloc, commit.changeset()) {
             Ok(bytes) => Ok(Seen::Bytes(bytes)),
+            Err(_) => Err(AskFault::Memory),
+        }
+    }
+
+    /// The changeset with this id, shared, so that it can be encoded where nobody waits for the repository.
+    pub fn changeset(&self, id: Id) -> Result<Arc<Commit>, AskFault>
+        ensures ok { IfOk result (λ commit. changeset_of (known self.now.history) id ≡ Some (arc_value commit)) }
+        ensures err { IfErr result (λ fault. Answers self.now.header self.now.history (Looks (ChangesetOf id)) (fault_answer fault) nothing) }
+        ensures read { (is_read_fault result ≡ false) × (is_bad_bytes result ≡ false) }
+        ensures sound { IsSound self.now.opening self.now.history self.now.disk }
+    {
+        match self.machine.shared_changeset(&id) {
+            Ok(Some(commit)) => Ok(commit),
+            Ok(None) => Err(AskFault::NoChangeset { id }),
             Err(_) => Err(AskFault::Memory),
         }
     }

@@ -1,22 +1,26 @@
 //! Reads of a repository that many seats share, each one turn.
-ghost use Rattle.std.specs.Prelude.{◌≡◌};
+ghost use Rattle.std.specs.Prelude.{◌≡◌, false, Some, IfOk, IfErr};
+ghost use Rattle.std.specs.Arc.{arc_value};
 ghost use Rattle.bookmark_lock.specs.Place.{with_front};
 ghost use Rattle.bookmark_lock.specs.Turns.{IsTurn};
 ghost use Rattle.reply_model.specs.Reply.{HeadOf, ContentOf, ChangesetOf, LogFrom};
-ghost use Rattle.reply_model.specs.After.{After, Answer, Looks, Replies};
-ghost use Rattle.seat_calls.specs.Asking.{IsAnswer, question_seen};
+ghost use Rattle.history_model.specs.History.{changeset_of, known};
+ghost use Rattle.reply_model.specs.After.{After, Answer, Answers, Looks, Replies, nothing};
+ghost use Rattle.seat_calls.specs.Asking.{IsAnswer, fault_answer, question_seen};
 ghost use Rattle.shared_repo.specs.Front.{IsFront, history_of, opening_of};
+ghost use Rattle.shared_repo.specs.Landing.{SeesMore};
 
 use crate::repo::Repo;
 use crate::seat::RepoSeat;
-use crate::turns::look_in;
+use crate::turns::{changeset_in, look_in};
 use blob_disk::Disk;
+use bonsai::{Commit, encode};
 use object_id::Id;
 use repo_path::BookName;
 use repo_state::RepoState;
 use seat_calls::{AskFault, Question, Seen};
 use std::alloc::Global;
-use std::sync::Wait;
+use std::sync::{Arc, Wait};
 
 impl<D: Disk> Repo<D> {
     /// The head of a bookmark.
@@ -69,7 +73,8 @@ impl<D: Disk> Repo<D> {
         )
     }
 
-    /// The encoding of a changeset.
+    /// The encoding of a changeset, which is made outside of the turn.
+    #[tactic(auto, using(crate::proofs::Fronts::after_nothing))]
     pub fn changeset<R: Wait>(
         &self,
         rt: &R,
@@ -82,15 +87,41 @@ impl<D: Disk> Repo<D> {
         ensures after { (answer : Answer) × IsAnswer result answer × After self.now.opening.header seat.old.front seat.old.number (Looks (ChangesetOf id)) answer seat.new.front }
         ensures front { IsFront self.now.opening seat.new.front }
     {
-        let who = seat.inner.number();
+        let commit = match self.shared_changeset(rt, seat, id) {
+            Ok(commit) => commit,
+            Err(fault) => return Err(fault),
+        };
+        match encode(alloc, commit.changeset()) {
+            Ok(bytes) => Ok(Seen::Bytes(bytes)),
+            Err(_) => Err(AskFault::Memory),
+        }
+    }
+
+    // The turn of a changeset's read, which hands the changeset out.
+    fn shared_changeset<R: Wait>(
+        &self,
+        rt: &R,
+        seat: &mut RepoSeat,
+        id: Id,
+    ) -> Result<Arc<Commit>, AskFault>
+        requires place { seat.old.lock ≡ self.now }
+        ensures seat { seat.new ≡ with_front seat.old seat.new.front }
+        ensures more { SeesMore seat.old.front seat.old.number seat.new.front }
+        ensures ok { IfOk result (λ commit. changeset_of (known seat.new.front) id ≡ Some (arc_value commit)) }
+        ensures err { IfErr result (λ fault. Answers self.now.opening.header seat.new.front (Looks (ChangesetOf id)) (fault_answer fault) nothing) }
+        ensures front { IsFront self.now.opening seat.new.front }
+    {
         self.lock.enter(
             rt,
             &mut seat.inner,
-            |state: &mut RepoState<D>| -> (bool, Result<Seen, AskFault>)
-                ensures reply { (answer : Answer) × IsAnswer result.1 answer × Replies state.old.opening.header state.old.history who (Looks (ChangesetOf id)) answer state.new.history }
-                ensures turn { IsTurn history_of opening_of who state.old state.new result.0 }
+            |state: &mut RepoState<D>| -> (bool, Result<Arc<Commit>, AskFault>)
+                ensures same { state.new.history ≡ state.old.history }
+                ensures opening { state.new.opening ≡ state.old.opening }
+                ensures none { result.0 ≡ false }
+                ensures ok { IfOk result.1 (λ commit. changeset_of (known state.old.history) id ≡ Some (arc_value commit)) }
+                ensures err { IfErr result.1 (λ fault. Answers state.old.opening.header state.old.history (Looks (ChangesetOf id)) (fault_answer fault) nothing) }
                 ensures front { IsFront state.new.opening state.new.history }
-            { look_in(state, alloc, who, &Question::Changeset(id)) },
+            { (false, changeset_in(state, id)) },
         )
     }
 
