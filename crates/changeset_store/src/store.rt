@@ -127,7 +127,7 @@ impl ChangesetStore {
 
     /// The same, shared: it outlives the store's borrow.
     pub fn get_shared(&self, id: &Id) -> Result<Option<Arc<Commit>>, AllocError>
-        ensures found { IfOk result (λ found. option_map arc_value found ≡ changeset_of self.now.known id.now) }
+        ensures { IfOk result (λ found. option_map arc_value found ≡ changeset_of self.now.known id.now) }
     {
         match self.number_of(id) {
             Some(number) => Ok(Some(self.shared_at(number)?)),

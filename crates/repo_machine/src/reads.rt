@@ -31,7 +31,7 @@ impl Machine {
 
     /// The same, shared: it outlives the machine's borrow.
     pub fn shared_changeset(&self, id: &Id) -> Result<Option<Arc<Commit>>, AllocError>
-        ensures found { IfOk result (λ found. option_map arc_value found ≡ changeset_of (known self.now.history) id.now) }
+        ensures { IfOk result (λ found. option_map arc_value found ≡ changeset_of (known self.now.history) id.now) }
     {
         self.changesets.get_shared(id)
     }

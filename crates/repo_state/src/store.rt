@@ -44,6 +44,8 @@ impl<D: Disk> RepoState<D> {
         // It is these steps of the repository of many seats.
         ensures core { Stores self.old.header self.old.history who (ask_seen ask.now) (stored_answer result) self.new.history }
     {
+        // It keeps its rules.
+        let _ = &self.disk;
         match prepare(alloc, ask) {
             Ok(prepared) => self.store_prepared(alloc, who, prepared),
             Err(_) => Err(ChangeFault::Refused(Refusal::Memory)),

@@ -1,10 +1,10 @@
 //! Reads of a repository that many seats share, each one turn.
-ghost use Rattle.std.specs.Prelude.{◌≡◌, false, Some, IfOk, IfErr};
+ghost use Rattle.std.specs.Prelude.{◌≡◌, false, length, Some, IfOk, IfErr};
 ghost use Rattle.std.specs.Arc.{arc_value};
 ghost use Rattle.bookmark_lock.specs.Place.{with_front};
 ghost use Rattle.bookmark_lock.specs.Turns.{IsTurn};
 ghost use Rattle.reply_model.specs.Reply.{HeadOf, ContentOf, ChangesetOf, LogFrom};
-ghost use Rattle.history_model.specs.History.{changeset_of, known};
+ghost use Rattle.history_model.specs.History.{changeset_of, content_len, known};
 ghost use Rattle.reply_model.specs.After.{After, Answer, Answers, Looks, Replies, nothing};
 ghost use Rattle.seat_calls.specs.Asking.{IsAnswer, fault_answer, question_seen};
 ghost use Rattle.shared_repo.specs.Front.{IsFront, history_of, opening_of};
@@ -12,12 +12,12 @@ ghost use Rattle.shared_repo.specs.Landing.{SeesMore};
 
 use crate::repo::Repo;
 use crate::seat::RepoSeat;
-use crate::turns::{changeset_in, look_in};
+use crate::turns::{changeset_in, content_in, look_in};
 use blob_disk::Disk;
 use bonsai::{Commit, encode};
 use object_id::Id;
 use repo_path::BookName;
-use repo_state::RepoState;
+use repo_state::{RepoState, check_digest};
 use seat_calls::{AskFault, Question, Seen};
 use std::alloc::Global;
 use std::sync::{Arc, Wait};
@@ -48,7 +48,8 @@ impl<D: Disk> Repo<D> {
         )
     }
 
-    /// The bytes of a content.
+    /// The bytes of a content, which are hashed outside of the turn.
+    #[tactic(auto, using(crate::proofs::Fronts::after_nothing, crate::proofs::Contents::checked))]
     pub fn content<R: Wait>(
         &self,
         rt: &R,
@@ -61,15 +62,40 @@ impl<D: Disk> Repo<D> {
         ensures after { (answer : Answer) × IsAnswer result answer × After self.now.opening.header seat.old.front seat.old.number (Looks (ContentOf id)) answer seat.new.front }
         ensures front { IsFront self.now.opening seat.new.front }
     {
+        let bytes = match self.content_unchecked(rt, alloc, seat, id) {
+            Ok(bytes) => bytes,
+            Err(fault) => return Err(fault),
+        };
+        match check_digest(bytes, id) {
+            Ok(bytes) => Ok(Seen::Bytes(bytes)),
+            Err(fault) => Err(fault),
+        }
+    }
+
+    // The turn of a content's read.
+    fn content_unchecked<R: Wait>(
+        &self,
+        rt: &R,
+        alloc: Global,
+        seat: &mut RepoSeat,
+        id: Id,
+    ) -> Result<Vec<u8>, AskFault>
+        requires place { seat.old.lock ≡ self.now }
+        ensures seat { seat.new ≡ with_front seat.old seat.new.front }
+        ensures ok { IfOk result (λ bytes. SeesMore seat.old.front seat.old.number seat.new.front × (content_len seat.new.front id ≡ Some (length bytes.items))) }
+        ensures err { IfErr result (λ fault. After self.now.opening.header seat.old.front seat.old.number (Looks (ContentOf id)) (fault_answer fault) seat.new.front) }
+        ensures front { IsFront self.now.opening seat.new.front }
+    {
         let who = seat.inner.number();
         self.lock.enter(
             rt,
             &mut seat.inner,
-            |state: &mut RepoState<D>| -> (bool, Result<Seen, AskFault>)
-                ensures reply { (answer : Answer) × IsAnswer result.1 answer × Replies state.old.opening.header state.old.history who (Looks (ContentOf id)) answer state.new.history }
+            |state: &mut RepoState<D>| -> (bool, Result<Vec<u8>, AskFault>)
+                ensures ok { IfOk result.1 (λ bytes. (state.new.history ≡ state.old.history) × (content_len state.old.history id ≡ Some (length bytes.items))) }
+                ensures err { IfErr result.1 (λ fault. Replies state.old.opening.header state.old.history who (Looks (ContentOf id)) (fault_answer fault) state.new.history) }
                 ensures turn { IsTurn history_of opening_of who state.old state.new result.0 }
                 ensures front { IsFront state.new.opening state.new.history }
-            { look_in(state, alloc, who, &Question::Content(id)) },
+            { content_in(state, alloc, who, id) },
         )
     }
 

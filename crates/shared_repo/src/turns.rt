@@ -1,11 +1,11 @@
 //! What a seat does with the repository in one turn, and whether it made an entry.
-ghost use Rattle.std.specs.Prelude.{◌≡◌, ◌≢◌, IfOk, IfErr, IsSome, MatchBool, MatchOption, Some};
+ghost use Rattle.std.specs.Prelude.{◌≡◌, ◌≢◌, IfOk, IfErr, IsSome, length, MatchBool, MatchOption, Some};
 ghost use Rattle.std.specs.Arc.{arc_value};
 ghost use Rattle.bookmark_lock.specs.Turns.{IsTurn};
 ghost use Rattle.history_model.specs.Bookmark.{head};
-ghost use Rattle.history_model.specs.History.{changeset_of, known};
+ghost use Rattle.history_model.specs.History.{changeset_of, content_len, known};
 ghost use Rattle.reply_model.specs.After.{Answer, Answers, Asks, Looks, Replies, nothing};
-ghost use Rattle.reply_model.specs.Reply.{ChangesetOf, LandDraft};
+ghost use Rattle.reply_model.specs.Reply.{ChangesetOf, ContentOf, LandDraft};
 ghost use Rattle.repo_calls.specs.Calls.{refused};
 ghost use Rattle.repo_machine.specs.Plans.{IsPlan, WasPlanned};
 ghost use Rattle.seat_calls.specs.Asking.{IsAnswer, fault_answer, question_seen, stored_answer};
@@ -56,6 +56,23 @@ pub(crate) fn look_in<D: Disk>(
 {
     let before = state.history_length();
     let answer = state.look(alloc, who, question);
+    (differ(before, state.history_length()), answer)
+}
+
+// The bytes in the file for a content, before their digest is compared.
+pub(crate) fn content_in<D: Disk>(
+    state: &mut RepoState<D>,
+    alloc: Global,
+    who: u64,
+    id: Id,
+) -> (bool, Result<Vec<u8>, AskFault>)
+    ensures ok { IfOk result.1 (λ bytes. (state.new.history ≡ state.old.history) × (content_len state.old.history id ≡ Some (length bytes.items))) }
+    ensures err { IfErr result.1 (λ fault. Replies state.old.opening.header state.old.history who (Looks (ContentOf id)) (fault_answer fault) state.new.history) }
+    ensures turn { IsTurn history_of opening_of who state.old state.new result.0 }
+    ensures front { IsFront state.new.opening state.new.history }
+{
+    let before = state.history_length();
+    let answer = state.content_unchecked(alloc, who, id);
     (differ(before, state.history_length()), answer)
 }
 
