@@ -28,9 +28,6 @@ pub length-rewrite : (stack : List Changeset) (head : Id) → length (rewrite st
 length-rewrite [] head = refl
 length-rewrite (c ∷ cs) head = let rest = length-rewrite cs (id_of (on_parent head c)) in omega arith
 
-pub rewritten : (given items : List (Bor Changeset)) (stack : List Changeset) (head : Id) (new : List Changeset) → new ≡ rewrite (map (λ c. c.now) given) head → given ≡ items → map (λ c. c.now) items ≡ stack → new ≡ rewrite stack head
-rewritten given items stack head new is same are = is ∙ (λ i. rewrite (map (λ (c : Bor Changeset). c.now) (same i)) head) ∙ ap (λ cs. rewrite cs head) are
-
 -- ---- the entry
 
 adding_some : (ks : List model.Known) (cs : List Changeset) → (more : List model.Known) × (adding ks cs ≡ ks ++ more)

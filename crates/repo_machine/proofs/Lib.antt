@@ -28,3 +28,4 @@ pub mod Looking
 pub mod Renewed
 pub mod GrantedIds
 pub mod Preparing
+pub mod Rebasing

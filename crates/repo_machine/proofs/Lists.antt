@@ -17,12 +17,6 @@ ids_more xs i x below is items after id so_far grows id_is =
     grows ∙ (λ j. so_far j ++ id_is j ∷ [])
     ∙ sym (ap (map id_of) (next_taken xs i x below is) ∙ map-append id_of (take i xs) (x ∷ []))
 
--- one changeset more is borrowed
-pub borrowed_more : {Z : Type 0} (shared : List (Arc Changeset Z)) (i : ℕ) (one : Arc Changeset Z) → i < length shared → one ≡ get_or shared i one → (found after : List (Bor Changeset)) (b : Bor Changeset) → map (λ c. c.now) found ≡ take i (values shared) → after ≡ found ++ b ∷ [] → b.now ≡ arc_value one → map (λ c. c.now) after ≡ take (i + 1) (values shared)
-borrowed_more shared i one below is found after b so_far grows b_is =
-    ap (map (λ (c : Bor Changeset). c.now)) grows ∙ map-append (λ (c : Bor Changeset). c.now) found (b ∷ []) ∙ (λ j. so_far j ++ b_is j ∷ [])
-    ∙ sym (next_taken (values shared) i (arc_value one) (values_below shared i below) (value_is shared i one below is))
-
 -- ---- the last
 
 last_by : {X : Type 0} (o : Option X) (x : X) (xs : List X) → slice_get (x ∷ xs) (length xs) ≡ last_or o (x ∷ xs)
