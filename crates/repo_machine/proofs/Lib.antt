@@ -27,5 +27,5 @@ pub mod Unseating
 pub mod Looking
 pub mod Renewed
 pub mod GrantedIds
-pub mod Preparing
 pub mod Rebasing
+pub mod MadeReady
