@@ -29,9 +29,11 @@ REASONS = {
     422: "Unprocessable Content",
     431: "Request Header Fields Too Large",
     501: "Not Implemented",
+    503: "Service Unavailable",
     507: "Insufficient Storage",
 }
 REQUEST_LINE = re.compile(rb"([!#$%&'*+.^_`|~0-9A-Za-z-]+) ([!-~\x80-\xff]+) HTTP/1\.([01])")
+HEAD_END = re.compile(rb"\r?\n\r?\n\Z")
 HEADER = re.compile(rb"([!#$%&'*+.^_`|~0-9A-Za-z-]+):[ \t]*([\t -~\x80-\xff]*?)[ \t]*")
 ROUTES = [
     (r"/content", "PUT", "put_content"),
@@ -75,7 +77,7 @@ class Head:
     """A request's head: its method, target, version and what its headers ask for."""
 
     def __init__(self, data: bytes):
-        lines = re.split(rb"\r?\n", data.rstrip(b"\r\n"))
+        lines = re.split(rb"\r?\n", HEAD_END.sub(b"", data))
         request = REQUEST_LINE.fullmatch(lines[0])
         headers = [HEADER.fullmatch(line) for line in lines[1:]]
         if request is None or None in headers:

@@ -9,20 +9,13 @@ ghost use Rattle.recovery.specs.Settling.{Spares};
 
 use crate::fault::OpenFault;
 use blob_disk::Disk;
-
-// `BONSAI` and the version.
-const MARK: [u8; 8] = *b"BONSAI\x00\x01";
+use repo_journal::{LEAST_CAPACITY, MARK, MOST_CAPACITY};
 
 // Where the capacity stands.
 const CAPACITY_AT: u64 = 8;
 
 // A header and a gate.
 const LEAST: u64 = 17;
-
-// The limits of a capacity, in bytes.
-const LEAST_CAPACITY: u64 = 4_096;
-
-const MOST_CAPACITY: u64 = 34_359_738_368;
 
 /// Reads the capacity that the header of a file of this size tells, in bytes.
 pub(crate) fn read_capacity<D: Disk>(disk: &mut D, size: u64) -> Result<u64, OpenFault>

@@ -14,6 +14,7 @@ ghost use Rattle.recovery.specs.Settling.{Spares};
 use crate::fault::OpenFault;
 use blob_disk::Disk;
 use replay::{ReplayFault, enter_payload};
+use repo_events::MOST_PAYLOAD;
 use repo_journal::{Scanner, Span, Step};
 use repo_machine::Machine;
 use std::alloc::Global;
@@ -21,9 +22,6 @@ use std::alloc::Global;
 // No record that may count ends behind this place: its gate stands within the capacity, and its
 // payload has less than 2^32 bytes.
 const MOST_READ: u64 = 68_719_476_736;
-
-// The most bytes of a payload.
-const MOST_PAYLOAD: u32 = 16_777_216;
 
 /// The history that the records of a file of this size stand for, with this capacity.
 pub(crate) fn read_records<D: Disk>(
@@ -122,7 +120,7 @@ fn enter_record<D: Disk>(
     ensures spares { Spares (D.meaning disk.old) (D.meaning disk.new) (is_disk_fault result) }
     ensures quiet { IsSome (D.meaning disk.old).quiet → is_disk_fault result ≡ false }
 {
-    if span.length > MOST_PAYLOAD {
+    if span.length as usize > MOST_PAYLOAD {
         return Err(OpenFault::Damaged { at: gate });
     }
     scanner.hold(disk, span)?;

@@ -12,11 +12,9 @@ ghost use Rattle.repo_journal.specs.Payloads.{blank_file, unmarked_file};
 ghost use Rattle.repo_journal.specs.Sealing.{Makes};
 
 use crate::fault::InitFault;
+use crate::header::MARK;
 use blob_disk::Disk;
 use ports::Failed;
-
-// `BONSAI` and the version.
-const MARK: [u8; 8] = *b"BONSAI\x00\x01";
 
 /// Makes the file of a new repository in an empty file: a header and a closed gate. The mark at its
 /// head is written last, so that a file without it is none. It takes no memory.

@@ -5,6 +5,7 @@
 mod block;
 mod create;
 pub mod fault;
+pub mod header;
 pub mod journal;
 pub mod laws;
 pub mod opening;
@@ -16,6 +17,7 @@ pub mod step;
 
 pub use create::init;
 pub use fault::{AppendFault, DiskFault, InitFault, ScanFault};
+pub use header::{LEAST_CAPACITY, MARK, MOST_CAPACITY};
 pub use journal::Journal;
 pub use opening::Opening;
 pub use scanner::Scanner;

@@ -1,0 +1,19 @@
+"""The program that scripts try, built by `scripts/run` where its sources are newer."""
+
+from __future__ import annotations
+
+import subprocess
+from pathlib import Path
+
+TOP = Path(__file__).resolve().parents[2]
+
+
+def built(unproved: bool) -> Path:
+    """The program, proved or not."""
+    kind = ["--unproved"] if unproved else []
+    subprocess.run(
+        [TOP / "scripts" / "run", *kind, "fsck", TOP / "crates" / "hg_cli" / "data" / "repository"],
+        check=True,
+        stdout=subprocess.DEVNULL,
+    )
+    return TOP / ("out/unproved/hg_cli" if unproved else "crates/hg_cli/out/hg_cli")

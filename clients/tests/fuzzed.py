@@ -1,0 +1,326 @@
+"""Mutated input for the program, and what the stand-in makes of it. `scripts/fuzz` compares both.
+
+Valid sessions and files are made by docs/FORMATS.md and docs/API.md, and then spoiled. What they
+come to is read here byte for byte from the documents, by code that the program has no part in.
+"""
+
+from __future__ import annotations
+
+import io
+import re
+from collections.abc import Iterator
+from random import Random
+from typing import NamedTuple
+
+from .program_session import deletes, request, sets, spelled
+from .stand_in.http import MOST_HEAD, Answer, Head, Service, Session, body
+from .stand_in.repository import Repository, rebased
+from .stand_in.spelling import Refusal, digest
+
+LEAST_CAPACITY, MOST_CAPACITY = 4_096, 34_359_738_368
+MOST_PAYLOAD = 16_777_216
+MARK = b"BONSAI\x00\x01"
+FINE, DAMAGED, STARVED, CUT, REFUSED = 0, 3, 4, 7, 8
+NO_MEMORY = Answer(503, b'{"code":"memory"}')
+HAS_MANIFESTS = False
+"""Whether the program serves manifests."""
+PATHS = ["a", "a/b", "a.b", "b", "lib/x", "lib/x/y", "\u00e9/z", "z" * 255]
+
+
+class Outcome(NamedTuple):
+    """A run's status and what it wrote."""
+
+    status: int
+    output: bytes
+
+
+# ---- sessions
+
+
+def answered(data: bytes, repository: Repository, starved: int | None = None) -> Outcome:
+    """What a session that reads this writes, and the status that it ends with.
+
+    For one request, by its place, there is no memory: it is answered so and leaves all as it was.
+    """
+    service = Service(repository, HAS_MANIFESTS)
+    session = Session.__new__(Session)
+    session.wfile = io.BytesIO()
+    status = FINE
+    try:
+        for place, (head, sent) in enumerate(requests_in(data)):
+            answer = NO_MEMORY if place == starved else service.answer(head, sent)
+            session.respond(answer, closes=head.closes, head_only=head.method == "HEAD")
+            if head.closes:
+                break
+    except Refusal as refusal:
+        closing = Answer(refusal.status, body(refusal.code, {}))
+        session.respond(closing, closes=True, head_only=False)
+        status = REFUSED
+    except EOFError:
+        status = CUT
+    return Outcome(status, session.wfile.getvalue())
+
+
+def requests_in(data: bytes) -> Iterator[tuple[Head, bytes]]:
+    """The requests one after another; EOFError where the input ends inside one."""
+    at = 0
+    while True:
+        while line_end := re.compile(rb"\r?\n").match(data, at):
+            at = line_end.end()
+        if at == len(data):
+            return
+        end = re.compile(rb"\n\r?\n").search(data[at : at + MOST_HEAD])
+        if end is None:
+            if len(data) - at >= MOST_HEAD:
+                raise Refusal(431, "head-too-large")
+            raise EOFError
+        head = Head(data[at : at + end.end()])
+        at += end.end()
+        if len(data) - at < head.length:
+            raise EOFError
+        yield head, data[at : at + head.length]
+        at += head.length
+
+
+def valid_requests(source: Random) -> list[bytes]:
+    """Some requests of every route, on things that are there and on things that aren't."""
+    contents = [b"abc", b"", bytes(source.randbytes(source.randrange(300)))]
+    base = spelled()
+    ids = [digest(base)]
+    said = [request("PUT /content", content) for content in contents]
+    said += [request("PUT /changeset", base), request(f"PUT /bookmark/main/none/{ids[0]}")]
+    for _ in range(source.randrange(1, 6)):
+        commit = draft(source, contents, source.choice(ids))
+        ids.append(digest(commit))
+        said.append(request("PUT /changeset", commit))
+        said.append(source.choice(reads(source, ids, contents)))
+        said.append(request(f"POST /land/main/{ids[-1]}"))
+    said += source.sample(reads(source, ids, contents), 3)
+    return said
+
+
+def draft(source: Random, contents: list[bytes], parent: str) -> bytes:
+    """A changeset on a parent, with a few edits."""
+    edits = [
+        sets(path, source.choice(contents)) if source.random() < 0.8 else deletes(path)
+        for path in sorted(source.sample(PATHS[:6], source.randrange(4)), key=elements)
+        if path.isascii()
+    ]
+    return spelled(*edits, parents=(parent,), message=source.choice([b"", "m\u00e9".encode()]))
+
+
+def elements(path: str) -> list[bytes]:
+    return path.encode().split(b"/")
+
+
+def reads(source: Random, ids: list[str], contents: list[bytes]) -> list[bytes]:
+    known, path = source.choice(ids), source.choice(PATHS)
+    lines = [
+        f"GET /content/{digest(source.choice(contents))}",
+        f"GET /changeset/{known}",
+        "GET /bookmark/main",
+        f"GET /log/{source.randrange(12)}",
+        f"PUT /bookmark/dev/none/{known}",
+        f"PUT /bookmark/main/{known}/{source.choice(ids)}",
+        f"GET /fsnode/{known}",
+        f"GET /unode/{known}/{path if path.isascii() else 'a'}",
+        f"GET /history/{known}/{path if path.isascii() else 'b'}",
+    ]
+    return [request(line) for line in lines]
+
+
+def mutated(source: Random, data: bytes, most: int) -> bytes:
+    """The bytes with up to so many mutations."""
+    for _ in range(source.randrange(most + 1)):
+        at = source.randrange(len(data) + 1)
+        end = min(len(data), at + source.choice([1, 1, 1, 2, 4, 8, 40]))
+        piece = source.choice([
+            b"",
+            bytes(source.randbytes(end - at)),
+            data[at:end] * 2,
+            bytes([source.choice(b"\x00\x01\x02\x0a\x0d\x20%/?.:0aZ\x7f\x80\xff")]),
+        ])
+        data = data[:at] + piece + data[end:]
+    return data
+
+
+def mutated_session(source: Random) -> bytes:
+    """A session with spoiled requests, spoiled bodies of the right length, and whole ones."""
+    said = []
+    for whole in valid_requests(source):
+        chance = source.random()
+        if chance < 0.1:
+            said.append(mutated(source, whole, 3))
+        elif chance < 0.35:
+            head, _, sent = whole.partition(b"\r\n\r\n")
+            line = head.split(b" HTTP/1.1", 1)[0].decode("latin-1")
+            said.append(request(line, mutated(source, sent, 2)))
+        elif chance < 0.4:
+            said.append(whole * 2)
+        else:
+            said.append(whole)
+    if source.random() < 0.2:
+        source.shuffle(said)
+    data = b"".join(said)
+    return data[: source.randrange(len(data) + 1)] if source.random() < 0.2 else data
+
+
+# ---- files
+
+
+def record(payload: bytes, gate: bytes = b"\x01") -> bytes:
+    return gate + len(payload).to_bytes(4, "big") + payload
+
+
+def valid_payloads(source: Random) -> list[bytes]:
+    """The payloads of a legal history."""
+    repository = Repository()
+    contents = [b"abc", b"", bytes(source.randbytes(source.randrange(60)))]
+    payloads = [b"\x42" + content for content in dict.fromkeys(contents)]
+    for content in contents:
+        repository.put_content(content)
+    base = spelled()
+    head = repository.put_changeset(base)
+    repository.set_bookmark("main", None, head)
+    payloads += [base, move_payload("main", None, head)]
+    ids = [head]
+    for _ in range(source.randrange(5)):
+        commit = draft(source, contents, source.choice(ids))
+        try:
+            known = digest(commit) in repository.changesets
+            ids.append(repository.put_changeset(commit))
+        except Refusal:
+            continue
+        if not known:
+            payloads.append(commit)
+        payloads += landing_payload(repository, ids[-1])
+    return payloads
+
+
+def move_payload(name: str, old: str | None, new: str | None) -> bytes:
+    sides = [b"\x01" + bytes.fromhex(side) if side else b"\x00" for side in (old, new)]
+    return b"\x4d" + bytes([len(name)]) + name.encode() + b"".join(sides)
+
+
+def landing_payload(repository: Repository, made: str) -> list[bytes]:
+    """The payload of a draft's landing on `main`, if it lands."""
+    try:
+        old = repository.head("main")
+        stack, _ = repository.fork(made, old)
+        new = rebased(stack, old)
+        repository.land("main", made)
+    except Refusal:
+        return []
+    fields = [b"\x4c\x04main", bytes.fromhex(old), bytes.fromhex(made), len(new).to_bytes(2, "big")]
+    fields += [len(one.data).to_bytes(4, "big") + one.data for one in new]
+    return [b"".join(fields)]
+
+
+def damaged_files(source: Random) -> bytes:
+    """A repository's file, spoiled."""
+    payloads = valid_payloads(source)
+    if source.random() < 0.2:
+        source.shuffle(payloads)
+    if source.random() < 0.2:
+        payloads.insert(source.randrange(len(payloads) + 1), source.choice(payloads))
+    if source.random() < 0.4:
+        place = source.randrange(len(payloads))
+        payloads[place] = mutated(source, payloads[place], 2)
+    capacity = source.choice([LEAST_CAPACITY, 65_536, MOST_CAPACITY])
+    data = MARK + capacity.to_bytes(8, "big") + b"".join(map(record, payloads))
+    data += source.choice([b"\x00", b"\x00", b"\x02", b"\xff\x00\x00", b""])
+    if source.random() < 0.5:
+        data = mutated(source, data, 2)
+    return data[: source.randrange(len(data) + 1)] if source.random() < 0.2 else data
+
+
+def expected_report(data: bytes) -> Outcome:
+    """The status and the line of `fsck`, by a reading of the file as docs/FORMATS.md has it."""
+    if len(data) < 17 or data[:8] != MARK:
+        return Outcome(DAMAGED, b"not a repository\n")
+    capacity = int.from_bytes(data[8:16], "big")
+    if not LEAST_CAPACITY <= capacity <= MOST_CAPACITY:
+        return Outcome(DAMAGED, b"damaged at 8\n")
+    repository = Repository(capacity)
+    at = 16
+    while data[at : at + 1] == b"\x01":
+        length = int.from_bytes(data[at + 1 : at + 5], "big")
+        payload = data[at + 5 : at + 5 + length]
+        if len(data) < at + 5 or len(payload) < length or not enters(repository, payload):
+            return Outcome(DAMAGED, f"damaged at {at}\n".encode())
+        at += 5 + length
+    if at >= len(data):
+        return Outcome(DAMAGED, f"damaged at {at}\n".encode())
+    counts = (
+        f"entries {len(repository.entries)} contents {len(repository.contents)} "
+        f"changesets {len(repository.changesets)} bookmarks {len(repository.bookmarks)} "
+        f"size {repository.size}\n"
+    )
+    return Outcome(FINE, counts.encode())
+
+
+def enters(repository: Repository, payload: bytes) -> bool:
+    """Whether the payload is that of an entry which comes next; it is made then."""
+    before = len(repository.entries)
+    if not 1 <= len(payload) <= MOST_PAYLOAD:
+        return False
+    try:
+        made = entered(repository, payload)
+    except (Refusal, ValueError, UnicodeDecodeError, IndexError):
+        return False
+    return made and len(repository.entries) == before + 1
+
+
+def entered(repository: Repository, payload: bytes) -> bool:
+    if payload[0] == 0x42:
+        repository.put_content(payload[1:])
+        return True
+    if payload[0] == 0x43:
+        repository.put_changeset(payload)
+        return True
+    if payload[0] not in b"\x4d\x4c" or not 1 <= payload[1] <= 128:
+        return False
+    name, rest = payload[2 : 2 + payload[1]], payload[2 + payload[1] :]
+    if len(name) < payload[1] or not re.fullmatch(rb"[A-Za-z0-9_.-]+", name):
+        return False
+    if payload[0] == 0x4D:
+        return moved(repository, name.decode(), rest)
+    return landed(repository, name.decode(), rest)
+
+
+def moved(repository: Repository, name: str, rest: bytes) -> bool:
+    sides: list[str | None] = []
+    for _ in range(2):
+        if rest[:1] == b"\x00":
+            sides.append(None)
+            rest = rest[1:]
+        elif rest[:1] == b"\x01" and len(rest) >= 33:
+            sides.append(rest[1:33].hex())
+            rest = rest[33:]
+        else:
+            return False
+    if rest:
+        return False
+    repository.set_bookmark(name, *sides)
+    return True
+
+
+def landed(repository: Repository, name: str, rest: bytes) -> bool:
+    if len(rest) < 66:
+        return False
+    old, draft_id = rest[:32].hex(), rest[32:64].hex()
+    count, rest = int.from_bytes(rest[64:66], "big"), rest[66:]
+    sent = []
+    for _ in range(count):
+        length = int.from_bytes(rest[:4], "big")
+        if len(rest) < 4 + length:
+            return False
+        sent.append(rest[4 : 4 + length])
+        rest = rest[4 + length :]
+    if rest or repository.head(name) != old:
+        return False
+    stack, _ = repository.fork(draft_id, old)
+    if [one.data for one in rebased(stack, old)] != sent:
+        return False
+    repository.land(name, draft_id)
+    return True
