@@ -13,6 +13,8 @@ mod landings;
 #[cfg(test)]
 mod plans;
 #[cfg(test)]
+mod plans_again;
+#[cfg(test)]
 mod replays;
 #[cfg(test)]
 mod rows;

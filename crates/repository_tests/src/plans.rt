@@ -11,17 +11,17 @@ use std::alloc::Global;
 use std::process::Abort;
 use std::test::Fail;
 
-// Moves `main` for seat 2 from wherever it stands.
-fn move_from_there(
+/// Moves `main` for seat 2 from wherever it stands, or deletes it.
+pub(crate) fn move_from_there(
     alloc: Global,
     machine: &mut Machine,
     main: &BookName,
-    to: Id,
+    to: Option<Id>,
 ) -> Result<(), Fail>
     ensures { IsPrefix machine.old.history machine.new.history }
 {
     let from = machine.head(main);
-    match machine.set_bookmark(alloc, 2, main, from, Some(to)) {
+    match machine.set_bookmark(alloc, 2, main, from, to) {
         Ok(()) => Ok(()),
         Err(_) => Err(Fail::from("a move")),
     }
@@ -54,8 +54,8 @@ fn land_between(
         return Err(Fail::from("a plan"));
     };
     let rebased = plan.rebased(alloc)?;
-    move_from_there(alloc, machine, main, heads.0)?;
-    move_from_there(alloc, machine, main, heads.1)?;
+    move_from_there(alloc, machine, main, Some(heads.0))?;
+    move_from_there(alloc, machine, main, Some(heads.1))?;
     exchange(alloc, machine, rebased)
 }
 

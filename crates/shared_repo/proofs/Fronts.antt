@@ -10,7 +10,8 @@ use Rattle.bookmark_lock.proofs.Prefixes.{prefix_self, prefix_trans}
 use Rattle.reply_model.specs.Reply.{Ask, LandDraft}
 use Rattle.reply_model.specs.After.{Call, Asks, Answer, Answers, After, nothing}
 use Rattle.repo_machine.specs.Plans.{PlannedLanding, RebasedLanding, IsPlan, WasPlanned, rebased_of}
-use Rattle.shared_repo.specs.Landing.{SeesMore}
+use Rattle.repo_machine.proofs.Renewed.{was_plan, was_plan_later}
+use Rattle.shared_repo.specs.Landing.{IsEarlier, IsMadeBefore, SeesMore}
 
 pub sees_nothing : (h : List Entry) (who : ℕ) → SeesMore h who h
 sees_nothing h who = record { begins = prefix_self h; own = refl }
@@ -49,12 +50,21 @@ planned_here h name draft plan r p is = record {
 pub asked_for : (h : List Entry) (name : List ℕ) (draft : Id) (plan : PlannedLanding) (r : RebasedLanding) → IsPlan h name draft plan → r ≡ rebased_of plan → LandDraft r.name r.draft ≡ LandDraft name draft
 asked_for h name draft plan r p is = (λ i. LandDraft ((ap (λ (r : RebasedLanding). r.name) is ∙ p.names) i) ((ap (λ (r : RebasedLanding). r.draft) is ∙ p.drafts) i))
 
--- an attempt in two turns
-pub after_attempt : {X : Type 0} (header : Header) (old between new : List Entry) (who number : ℕ) (ask wanted : Ask) (answer_of : X → Answer) (result : Option X) → SeesMore old who between → number ≡ who → ask ≡ wanted
-    → MatchOption result (SeesMore between number new) (λ x. After header between number (Asks ask) (answer_of x) new) → MatchOption result (SeesMore old who new) (λ x. After header old who (Asks wanted) (answer_of x) new)
-after_attempt header old between new who number ask wanted answer_of None s n a r = sees_twice old between new who s (subst (λ (w : ℕ). SeesMore between w new) n r)
-after_attempt header old between new who number ask wanted answer_of (Some x) s n a r =
-    after_more header old between new who (Asks wanted) (answer_of x) s (subst (λ (t : ℕ × Ask). After header between t.0 (Asks t.1) (answer_of x) new) (λ i. (n i, a i)) r)
+-- the plan of the attempt before
+pub earlier_later : (g h : List Entry) (name : List ℕ) (draft : Id) (earlier : Option PlannedLanding) → IsPrefix g h → IsEarlier g name draft earlier → IsEarlier h name draft earlier
+earlier_later g h name draft None begins e = e
+earlier_later g h name draft (Some plan) begins e = record { planned = was_plan_later g h plan begins e.planned; names = e.names; drafts = e.drafts }
+
+pub made_before : (g h : List Entry) (who : ℕ) (name : List ℕ) (draft : Id) (plan : PlannedLanding) → IsPlan g name draft plan → SeesMore g who h → IsMadeBefore h name draft plan
+made_before g h who name draft plan p s = record { planned = was_plan g h name draft plan s.begins p; names = p.names; drafts = p.drafts }
+
+-- by its own names
+pub own_plan : (h : List Entry) (name : List ℕ) (draft : Id) (plan : PlannedLanding) → IsPlan h name draft plan → IsPlan h plan.name plan.draft plan
+own_plan h name draft plan p = subst (λ (t : List ℕ × Id). IsPlan h t.0 t.1 plan) (λ i. (sym p.names i, sym p.drafts i)) p
+
+-- a plan that was refused
+pub after_refusal : (header : Header) (old between new : List Entry) (who number : ℕ) (call : Call) (answer : Answer) → SeesMore old who between → number ≡ who → SeesMore between number new → Answers header new call answer nothing → After header old who call answer new
+after_refusal header old between new who number call answer s n t a = after_nothing header old new who call answer (sees_twice old between new who s (subst (λ (w : ℕ). SeesMore between w new) n t)) a
 
 -- a seat that belongs where another does has its place, but for its front
 pub same_place : (a b : Place) → with_front a [] ≡ with_front b [] → a ≡ with_front b a.front

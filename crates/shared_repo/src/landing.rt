@@ -8,11 +8,12 @@ ghost use Rattle.repo_calls.specs.Calls.{refused};
 ghost use Rattle.repo_machine.specs.Plans.{IsPlan, WasPlanned};
 ghost use Rattle.seat_calls.specs.Asking.{stored_answer};
 ghost use Rattle.shared_repo.specs.Front.{IsFront, history_of, opening_of};
-ghost use Rattle.shared_repo.specs.Landing.{SeesMore};
+ghost use Rattle.shared_repo.specs.Landing.{IsEarlier, SeesMore};
 
+use crate::landing_turns::{land_in, plan_from};
 use crate::repo::Repo;
 use crate::seat::RepoSeat;
-use crate::turns::{exchange_in, land_in, plan_in};
+use crate::turns::exchange_in;
 use blob_disk::Disk;
 use object_id::Id;
 use ports::Gate;
@@ -31,8 +32,9 @@ impl<D: Disk> Repo<D> {
     /// Lands a draft on a bookmark. An attempt plans under one turn, then rebases the stack and
     /// passes the gate outside of every turn, and enters the landing under another turn. Where the
     /// bookmark's head has moved meanwhile it is made again, at most 99 times in all. After that one
-    /// turn is kept from the plan to the entry, and no gate is passed.
-    #[tactic(auto, using(crate::proofs::Fronts::sees_nothing, crate::proofs::Fronts::sees_twice, crate::proofs::Fronts::after_more))]
+    /// turn is kept from the plan to the entry, and no gate is passed. Each attempt after the first
+    /// makes the plan of the one before again, which looks at what is new since then alone.
+    #[tactic(auto, using(crate::proofs::Fronts::sees_nothing, crate::proofs::Fronts::sees_twice, crate::proofs::Fronts::after_more, crate::proofs::Fronts::after_nothing))]
     pub fn land<R: Wait, G: Gate>(
         &self,
         rt: &R,
@@ -47,43 +49,21 @@ impl<D: Disk> Repo<D> {
         ensures after { After self.now.opening.header seat.old.front seat.old.number (Asks (LandDraft name.now draft)) (stored_answer result) seat.new.front }
         ensures front { IsFront self.now.opening seat.new.front }
     {
+        let mut earlier = None;
         for attempt in 0..MOST_ATTEMPTS {
-            if let Some(answer) = self.attempt(rt, alloc, seat, name, draft, gate, attempt) {
+            let plan = match self.plan(rt, alloc, seat, name, draft, earlier) {
+                Ok(plan) => plan,
+                Err(refusal) => return Err(ChangeFault::Refused(refusal)),
+            };
+            if let Some(answer) = self.attempt(rt, alloc, seat, &plan, gate, attempt) {
                 return answer;
             }
+            earlier = Some(plan);
         }
-        self.land_in_one_turn(rt, alloc, seat, name, draft)
+        self.land_in_one_turn(rt, alloc, seat, name, draft, earlier)
     }
 
-    // One attempt in two turns: the landing's answer, or none where the head moved between them.
-    #[tactic(auto, using(crate::proofs::Fronts::after_nothing, crate::proofs::Fronts::planned_here))]
-    fn attempt<R: Wait, G: Gate>(
-        &self,
-        rt: &R,
-        alloc: Global,
-        seat: &mut RepoSeat,
-        name: &BookName,
-        draft: Id,
-        gate: &G,
-        attempt: u32,
-    ) -> Option<Result<Granted, ChangeFault>>
-        requires place { seat.old.lock ≡ self.now }
-        ensures seat { seat.new ≡ with_front seat.old seat.new.front }
-        ensures after { MatchOption result (SeesMore seat.old.front seat.old.number seat.new.front) (λ answer. After self.now.opening.header seat.old.front seat.old.number (Asks (LandDraft name.now draft)) (stored_answer answer) seat.new.front) }
-        ensures front { IsFront self.now.opening seat.new.front }
-    {
-        let plan = match self.plan(rt, alloc, seat, name, draft) {
-            Ok(plan) => plan,
-            Err(refusal) => return Some(Err(ChangeFault::Refused(refusal))),
-        };
-        let Ok(rebased) = plan.rebased(alloc) else {
-            return Some(Err(ChangeFault::Refused(Refusal::Memory)));
-        };
-        gate.between(seat.number(), attempt);
-        self.exchange(rt, alloc, seat, rebased)
-    }
-
-    // The first turn of an attempt.
+    // The first turn of an attempt. There may be the plan of the attempt before.
     fn plan<R: Wait>(
         &self,
         rt: &R,
@@ -91,8 +71,10 @@ impl<D: Disk> Repo<D> {
         seat: &mut RepoSeat,
         name: &BookName,
         draft: Id,
+        earlier: Option<Plan>,
     ) -> Result<Plan, Refusal>
         requires place { seat.old.lock ≡ self.now }
+        requires earlier { IsEarlier seat.old.front name.now draft earlier }
         ensures seat { seat.new ≡ with_front seat.old seat.new.front }
         ensures more { SeesMore seat.old.front seat.old.number seat.new.front }
         ensures ok { IfOk result (IsPlan seat.new.front name.now draft) }
@@ -103,14 +85,38 @@ impl<D: Disk> Repo<D> {
             rt,
             &mut seat.inner,
             |state: &mut RepoState<D>| -> (bool, Result<Plan, Refusal>)
+                requires { IsEarlier state.old.history name.entry.now draft earlier }
                 ensures same { state.new.history ≡ state.old.history }
                 ensures opening { state.new.opening ≡ state.old.opening }
                 ensures none { result.0 ≡ false }
                 ensures ok { IfOk result.1 (IsPlan state.old.history name.entry.now draft) }
                 ensures err { IfErr result.1 (λ e. Answers state.old.opening.header state.old.history (Asks (LandDraft name.entry.now draft)) (refused e) nothing) }
                 ensures front { IsFront state.new.opening state.new.history }
-            { (false, plan_in(state, alloc, name, draft)) },
+            { (false, plan_from(state, alloc, name, draft, earlier)) },
         )
+    }
+
+    // The rest of an attempt: the landing's answer, or none where the head moved since the plan.
+    fn attempt<R: Wait, G: Gate>(
+        &self,
+        rt: &R,
+        alloc: Global,
+        seat: &mut RepoSeat,
+        plan: &Plan,
+        gate: &G,
+        attempt: u32,
+    ) -> Option<Result<Granted, ChangeFault>>
+        requires place { seat.old.lock ≡ self.now }
+        requires planned { IsPlan seat.old.front plan.now.name plan.now.draft plan.now }
+        ensures seat { seat.new ≡ with_front seat.old seat.new.front }
+        ensures after { MatchOption result (SeesMore seat.old.front seat.old.number seat.new.front) (λ answer. After self.now.opening.header seat.old.front seat.old.number (Asks (LandDraft plan.now.name plan.now.draft)) (stored_answer answer) seat.new.front) }
+        ensures front { IsFront self.now.opening seat.new.front }
+    {
+        let Ok(rebased) = plan.rebased(alloc) else {
+            return Some(Err(ChangeFault::Refused(Refusal::Memory)));
+        };
+        gate.between(seat.number(), attempt);
+        self.exchange(rt, alloc, seat, rebased)
     }
 
     // The second turn of an attempt: the landing's answer, or none where the head has moved.
@@ -149,8 +155,10 @@ impl<D: Disk> Repo<D> {
         seat: &mut RepoSeat,
         name: &BookName,
         draft: Id,
+        earlier: Option<Plan>,
     ) -> Result<Granted, ChangeFault>
         requires place { seat.old.lock ≡ self.now }
+        requires earlier { IsEarlier seat.old.front name.now draft earlier }
         ensures seat { seat.new ≡ with_front seat.old seat.new.front }
         ensures after { After self.now.opening.header seat.old.front seat.old.number (Asks (LandDraft name.now draft)) (stored_answer result) seat.new.front }
         ensures front { IsFront self.now.opening seat.new.front }
@@ -160,10 +168,11 @@ impl<D: Disk> Repo<D> {
             rt,
             &mut seat.inner,
             |state: &mut RepoState<D>| -> (bool, Result<Granted, ChangeFault>)
+                requires { IsEarlier state.old.history name.entry.now draft earlier }
                 ensures reply { Replies state.old.opening.header state.old.history who (Asks (LandDraft name.entry.now draft)) (stored_answer result.1) state.new.history }
                 ensures turn { IsTurn history_of opening_of who state.old state.new result.0 }
                 ensures front { IsFront state.new.opening state.new.history }
-            { land_in(state, alloc, who, name, draft) },
+            { land_in(state, alloc, who, name, draft, earlier) },
         )
     }
 }

@@ -4,6 +4,7 @@
 
 mod changes;
 mod landing;
+mod landing_turns;
 mod reads;
 mod repo;
 mod seat;

@@ -105,27 +105,3 @@ pub(crate) fn exchange_in<D: Disk>(
     let answer = outcome(state.exchange(who, rebased));
     (differ(before, state.history_length()), answer)
 }
-
-// A whole landing, during which the bookmark can't move.
-#[tactic(auto, using(crate::proofs::Fronts::planned_here, crate::proofs::Fronts::asked_for, crate::proofs::Landings::memory_replies))]
-pub(crate) fn land_in<D: Disk>(
-    state: &mut RepoState<D>,
-    alloc: Global,
-    who: u64,
-    name: &BookName,
-    draft: Id,
-) -> (bool, Result<Granted, ChangeFault>)
-    ensures reply { Replies state.old.opening.header state.old.history who (Asks (LandDraft name.now draft)) (stored_answer result.1) state.new.history }
-    ensures turn { IsTurn history_of opening_of who state.old state.new result.0 }
-    ensures front { IsFront state.new.opening state.new.history }
-{
-    let plan = match plan_in(state, alloc, name, draft) {
-        Ok(plan) => plan,
-        Err(refusal) => return (false, Err(ChangeFault::Refused(refusal))),
-    };
-    let Ok(rebased) = plan.rebased(alloc) else {
-        return (false, Err(ChangeFault::Refused(Refusal::Memory)));
-    };
-    let (added, answer) = exchange_in(state, alloc, who, rebased);
-    (added, answer.unwrap())
-}

@@ -1,0 +1,148 @@
+//! Plans that are made again, after another seat moved `main` or landed on it. The ids are those of an independent
+//! computation.
+ghost use Rattle.std.specs.Prelude.{◌≡◌, ◌<◌};
+ghost use mathlib.Core.List.{IsPrefix};
+ghost use Rattle.repo_machine.specs.Again.{WasPlan};
+
+use crate::plans::move_from_there;
+use crate::rows::same;
+use crate::steps::{Run, id_at, new_run, run_lines};
+use object_id::Id;
+use repo_calls::Refusal;
+use repo_machine::{Machine, Plan};
+use repo_path::BookName;
+use std::alloc::Global;
+use std::marker::Brand;
+use std::process::Abort;
+use std::sync::ledger::{Blank, Ledger};
+use std::test::Fail;
+use step_count::Steps;
+
+fn land_there(alloc: Global, machine: &mut Machine, main: &BookName, draft: Id) -> Result<(), Fail>
+    ensures { IsPrefix machine.old.history machine.new.history }
+{
+    match machine.land(alloc, 2, main, draft) {
+        Ok(_) => Ok(()),
+        Err(_) => Err(Fail::from("a landing")),
+    }
+}
+
+// What another seat does with `main`.
+fn act(
+    alloc: Global,
+    machine: &mut Machine,
+    main: &BookName,
+    lands: bool,
+    id: Option<Id>,
+) -> Result<(), Fail>
+    ensures { IsPrefix machine.old.history machine.new.history }
+{
+    match id {
+        Some(id) if lands => land_there(alloc, machine, main, id),
+        _ => move_from_there(alloc, machine, main, id),
+    }
+}
+
+fn plan_again<L: Ledger>(
+    alloc: Global,
+    machine: &Machine,
+    plan: Plan,
+    blank: Blank,
+) -> Result<Plan, Refusal>
+    requires name { blank.name ≡ L.name }
+    requires parts { blank.parts ≡ L.parts }
+    requires some { 0 < blank.parts }
+    requires planned { WasPlan machine.now.history plan }
+{
+    let mut steps = Steps::<L>::new(blank);
+    machine.plan_again(alloc, plan, &mut steps)
+}
+
+// Plans to land a draft, has another seat do this, and plans again.
+fn plan_twice(
+    alloc: Global,
+    machine: &mut Machine,
+    main: &BookName,
+    draft: Id,
+    lands: bool,
+    id: Option<Id>,
+) -> Result<Result<Plan, Refusal>, Fail> {
+    let Ok(plan) = machine.plan(alloc, main, draft) else {
+        return Err(Fail::from("a plan"));
+    };
+    act(alloc, machine, main, lands, id)?;
+    Ok(plan_again::<Brand>(alloc, machine, plan, Blank::new(1)))
+}
+
+// How many new changesets a plan gives, and the id of the last.
+fn tell(alloc: Global, planned: Result<Plan, Refusal>) -> Result<String, Fail> {
+    match planned {
+        Ok(plan) => tell_plan(alloc, &plan),
+        Err(refusal) => Ok(format!(in alloc; "{refusal:?}")?),
+    }
+}
+
+fn tell_plan(alloc: Global, plan: &Plan) -> Result<String, Fail> {
+    let rebased = plan.rebased(alloc)?;
+    let last = rebased.new().last().ok_or("a changeset")?;
+    let id = last.id().to_hex(alloc)?;
+    Ok(format!(in alloc; "{} {}", rebased.new().len(), id.as_str())?)
+}
+
+fn id_in(run: &Run, number: &str) -> Result<Id, Fail> {
+    Ok(id_at(run, number)?.ok_or("a changeset")?)
+}
+
+// The plan made again by these words, and the one that is made anew then.
+fn told(alloc: Global, run: &mut Run, words: &str) -> Result<(String, String), Fail> {
+    let (draft, rest) = words.split_once(" ").ok_or("a draft")?;
+    let (act, id) = rest.split_once(" ").ok_or("an act")?;
+    let (draft, id) = (id_in(run, draft)?, id_at(run, id)?);
+    let again = plan_twice(alloc, &mut run.machine, &run.main, draft, act == "land", id)?;
+    let anew = run.machine.plan(alloc, &run.main, draft);
+    Ok((tell(alloc, again)?, tell(alloc, anew)?))
+}
+
+fn run_row(rt: &impl Abort, alloc: Global, row: &str) -> Result<(), Fail> {
+    let (words, wanted) = row.split_once(" = ").ok_or("a row")?;
+    let mut run = new_run(alloc, 65_536)?;
+    run_lines(rt, alloc, &mut run, CHANGESETS)?;
+    let (again, anew) = told(alloc, &mut run, words)?;
+    same(rt, again.as_str(), wanted, row);
+    same(rt, anew.as_str(), wanted, row);
+    Ok(())
+}
+
+// `main` at a changeset that sets `x` (1), on a root (0). Beside it a draft that sets `y` (2), with another one upon it (5),
+// and a changeset without edits (3). On `main` one that sets `y` too (4), and one that sets `w` (6).
+const CHANGESETS: &str = "\
+content abc
+content
+line - 1 0
+change 0 x:abc
+change 0 y:
+line 0 1 0
+change 1 y:abc
+change 2 z:abc
+change 1 w:abc
+move 1";
+
+// The draft that is planned, and what happens to `main` then.
+const ROWS: &str = "\
+2 move 1 = 1 66018dae6dcd26aa7f15f755f702edd69b683e14a7531d0ba9293f9127fda14f
+2 land 3 = 1 7e621ad17dede990d4eddd19b9a5607531b55fa74dd4ef19426f7be5e69b4021
+2 move 6 = 1 aadf009f5739e394fefeb8b2c01cc7a7c573ef341933e3a62469dfd7eccf15f7
+2 move 4 = Clash { left: y, right: y }
+5 move 4 = Clash { left: y, right: y }
+2 move 0 = 1 640d00803ffd078abe99687f11f76e3949495f55dd88e999e6458f7adfdf79ac
+5 move 2 = 1 03897ca2179ea4705f3daebf2ae8c494fb1c7fcce8cc7319c88e15ab0f682245
+5 move 5 = AlreadyIn
+2 move - = NoBookmark";
+
+#[test]
+fn a_plan_made_again_is_the_one_made_anew(rt: HostRuntime) -> Result<(), Fail> {
+    for row in ROWS.lines() {
+        run_row(&rt, rt.alloc(), row)?;
+    }
+    Ok(())
+}

@@ -1,0 +1,96 @@
+//! What a landing does in its turns, where an attempt before may have left its plan.
+ghost use Rattle.std.specs.Prelude.{◌≡◌, ◌<◌, IfOk, IfErr};
+ghost use Rattle.bookmark_lock.specs.Turns.{IsTurn};
+ghost use Rattle.reply_model.specs.After.{Answers, Asks, Replies, nothing};
+ghost use Rattle.reply_model.specs.Reply.{LandDraft};
+ghost use Rattle.repo_calls.specs.Calls.{refused};
+ghost use Rattle.repo_machine.specs.Again.{WasPlan};
+ghost use Rattle.repo_machine.specs.Plans.{IsPlan};
+ghost use Rattle.seat_calls.specs.Asking.{stored_answer};
+ghost use Rattle.shared_repo.specs.Front.{IsFront, history_of, opening_of};
+ghost use Rattle.shared_repo.specs.Landing.{IsEarlier};
+
+use crate::turns::{exchange_in, plan_in};
+use blob_disk::Disk;
+use object_id::Id;
+use repo_calls::{Granted, Refusal};
+use repo_machine::Plan;
+use repo_path::BookName;
+use repo_state::RepoState;
+use seat_calls::ChangeFault;
+use std::alloc::Global;
+use std::marker::Brand;
+use std::sync::ledger::{Blank, Ledger};
+use step_count::Steps;
+
+// The plan: that of the attempt before, made again, or a new one.
+#[tactic(auto, using(crate::proofs::Landings::planned_again, crate::proofs::Landings::refused_again))]
+pub(crate) fn plan_from<D: Disk>(
+    state: &mut RepoState<D>,
+    alloc: Global,
+    name: &BookName,
+    draft: Id,
+    earlier: Option<Plan>,
+) -> Result<Plan, Refusal>
+    requires earlier { IsEarlier state.old.history name.now draft earlier }
+    ensures same { state.new.history ≡ state.old.history }
+    ensures opening { state.new.opening ≡ state.old.opening }
+    ensures ok { IfOk result (IsPlan state.old.history name.now draft) }
+    ensures err { IfErr result (λ e. Answers state.old.opening.header state.old.history (Asks (LandDraft name.now draft)) (refused e) nothing) }
+    ensures front { IsFront state.new.opening state.new.history }
+{
+    match earlier {
+        Some(plan) => plan_again_in::<D, Brand>(state, alloc, plan, Blank::new(1)),
+        None => plan_in(state, alloc, name, draft),
+    }
+}
+
+// The plan made again. Nobody reads the count of steps.
+#[tactic(auto, using(crate::proofs::Landings::refused_plan))]
+fn plan_again_in<D: Disk, L: Ledger>(
+    state: &mut RepoState<D>,
+    alloc: Global,
+    plan: Plan,
+    blank: Blank,
+) -> Result<Plan, Refusal>
+    requires name { blank.name ≡ L.name }
+    requires parts { blank.parts ≡ L.parts }
+    requires some { 0 < blank.parts }
+    requires planned { WasPlan state.old.history plan }
+    ensures same { state.new.history ≡ state.old.history }
+    ensures opening { state.new.opening ≡ state.old.opening }
+    ensures ok { IfOk result (IsPlan state.old.history plan.name plan.draft) }
+    ensures err { IfErr result (λ e. Answers state.old.opening.header state.old.history (Asks (LandDraft plan.name plan.draft)) (refused e) nothing) }
+    ensures front { IsFront state.new.opening state.new.history }
+{
+    // It keeps its rules.
+    let _ = state.history_length();
+    let mut steps = Steps::<L>::new(blank);
+    state.plan_again(alloc, plan, &mut steps)
+}
+
+// A whole landing, during which the bookmark can't move.
+#[tactic(auto, using(crate::proofs::Fronts::planned_here, crate::proofs::Fronts::asked_for, crate::proofs::Landings::memory_replies))]
+pub(crate) fn land_in<D: Disk>(
+    state: &mut RepoState<D>,
+    alloc: Global,
+    who: u64,
+    name: &BookName,
+    draft: Id,
+    earlier: Option<Plan>,
+) -> (bool, Result<Granted, ChangeFault>)
+    requires earlier { IsEarlier state.old.history name.now draft earlier }
+    ensures reply { Replies state.old.opening.header state.old.history who (Asks (LandDraft name.now draft)) (stored_answer result.1) state.new.history }
+    ensures turn { IsTurn history_of opening_of who state.old state.new result.0 }
+    ensures front { IsFront state.new.opening state.new.history }
+{
+    let plan = match plan_from(state, alloc, name, draft, earlier) {
+        Ok(plan) => plan,
+        Err(refusal) => return (false, Err(ChangeFault::Refused(refusal))),
+    };
+    let Ok(rebased) = plan.rebased(alloc) else {
+        return (false, Err(ChangeFault::Refused(Refusal::Memory)));
+    };
+    let (added, answer) = exchange_in(state, alloc, who, rebased);
+    (added, answer.unwrap())
+}

@@ -1,0 +1,17 @@
+//! Repositories over memory that seats share: landings between which a gate moves the bookmark, a disk that fails, and
+//! threads that store at once. Helpers have no contract beyond what their calls need, so that a test's proof doesn't carry
+//! what they call.
+#![tactic(auto)]
+
+#[cfg(test)]
+mod gates;
+#[cfg(test)]
+mod landings;
+#[cfg(test)]
+mod repository;
+#[cfg(test)]
+mod seats;
+#[cfg(test)]
+mod steps;
+#[cfg(test)]
+mod threads;

@@ -1,0 +1,119 @@
+//! What a seat does and is told, one step after another, by scripts. A script's line is a step, and after ` = ` what it
+//! tells. Ids and changesets are hex digits.
+//!
+//! - `content TEXT` and `changeset DIGITS` store what they name;
+//! - `move FROM TO` moves `main`, where `-` stands for no bookmark;
+//! - `land ID` lands a draft on `main`, and tells how many new changesets there are, and the last;
+//! - `total` tells how many entries the log has.
+use object_id::Id;
+use repo_calls::{Ask, Granted};
+use repo_path::BookName;
+use seat_calls::{ChangeFault, Question, Seat, Seen};
+use std::alloc::Global;
+use std::process::Abort;
+use std::test::Fail;
+
+/// Does the steps of a script.
+pub(crate) fn run_lines<S: Seat>(
+    rt: &impl Abort,
+    alloc: Global,
+    seat: &mut S,
+    script: &str,
+) -> Result<(), Fail> {
+    for line in script.lines() {
+        let (step, wanted) = line.split_once(" = ").ok_or("a line")?;
+        let told = told(alloc, seat, step)?;
+        same(rt, told.as_str(), wanted, line);
+    }
+    Ok(())
+}
+
+fn same(rt: &impl Abort, told: &str, wanted: &str, line: &str) {
+    assert_eq!(rt; told, wanted, "{line}");
+}
+
+fn told<S: Seat>(alloc: Global, seat: &mut S, step: &str) -> Result<String, Fail> {
+    let (word, rest) = step.split_once(" ").unwrap_or((step, ""));
+    match word {
+        "content" => put_content(alloc, seat, rest),
+        "changeset" => put_changeset(alloc, seat, rest),
+        "move" => move_main(alloc, seat, rest),
+        "land" => land(alloc, seat, rest),
+        "total" => tell_total(alloc, seat),
+        _ => Err(Fail::from("a step")),
+    }
+}
+
+fn put_content<S: Seat>(alloc: Global, seat: &mut S, text: &str) -> Result<String, Fail> {
+    tell(alloc, seat.change(alloc, &Ask::PutContent(text.as_bytes())))
+}
+
+fn put_changeset<S: Seat>(alloc: Global, seat: &mut S, digits: &str) -> Result<String, Fail> {
+    let bytes = hex::decode(alloc, digits)?;
+    tell(
+        alloc,
+        seat.change(alloc, &Ask::PutChangeset(bytes.as_slice())),
+    )
+}
+
+fn move_main<S: Seat>(alloc: Global, seat: &mut S, words: &str) -> Result<String, Fail> {
+    let (from, to) = words.split_once(" ").ok_or("two ids")?;
+    let (from, to) = (id_or_none(from)?, id_or_none(to)?);
+    let name = main_name(alloc)?;
+    tell(alloc, move_from(alloc, seat, &name, from, to))
+}
+
+/// The name `main`.
+pub(crate) fn main_name(alloc: Global) -> Result<BookName, Fail> {
+    Ok(BookName::parse(alloc, "main")?)
+}
+
+/// Moves a bookmark.
+pub(crate) fn move_from<S: Seat>(
+    alloc: Global,
+    seat: &mut S,
+    name: &BookName,
+    from: Option<Id>,
+    to: Option<Id>,
+) -> Result<Granted, ChangeFault> {
+    seat.change(alloc, &Ask::SetBookmark { name, from, to })
+}
+
+fn land<S: Seat>(alloc: Global, seat: &mut S, digits: &str) -> Result<String, Fail> {
+    let draft = Id::from_hex(digits)?;
+    let name = &main_name(alloc)?;
+    tell(alloc, seat.change(alloc, &Ask::Land { name, draft }))
+}
+
+fn id_or_none(digits: &str) -> Result<Option<Id>, Fail> {
+    if digits == "-" {
+        return Ok(None);
+    }
+    Ok(Some(Id::from_hex(digits)?))
+}
+
+fn tell(alloc: Global, answer: Result<Granted, ChangeFault>) -> Result<String, Fail> {
+    match answer {
+        Ok(Granted::Landing(landed)) => tell_landed(alloc, landed.ids.as_slice()),
+        Ok(_) => Ok(String::from_str(alloc, "done")?),
+        Err(fault) => Ok(format!(in alloc; "{fault:?}")?),
+    }
+}
+
+fn tell_landed(alloc: Global, ids: &[Id]) -> Result<String, Fail> {
+    let last = ids.last().ok_or("a changeset")?.to_hex(alloc)?;
+    Ok(format!(in alloc; "{} {}", ids.len(), last.as_str())?)
+}
+
+fn tell_total<S: Seat>(alloc: Global, seat: &mut S) -> Result<String, Fail> {
+    let total = total(alloc, seat)?;
+    Ok(format!(in alloc; "{total}")?)
+}
+
+/// How many entries the log has.
+pub(crate) fn total<S: Seat>(alloc: Global, seat: &mut S) -> Result<u64, Fail> {
+    match seat.look(alloc, &Question::Log(0))? {
+        Seen::Log(page) => Ok(page.total),
+        _ => Err(Fail::from("a page of the log")),
+    }
+}
