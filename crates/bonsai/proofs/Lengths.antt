@@ -9,7 +9,7 @@ use Rattle.changeset_model.specs.Path.{Path, text_of, is_path, path_cmp}
 use Rattle.changeset_model.specs.Changeset.{FileChange, Set, Delete, Changeset, change_bytes, edit_bytes, spelling, most_size, is_changeset, are_parents, is_author, is_signed, is_message, is_change, are_changes}
 use Rattle.bonsai.proofs.Rules.{short_parts}
 
-id_long : (x : Id) → is_bytes 32 x ≡ true → length x ≡ 32
+pub id_long : (x : Id) → is_bytes 32 x ≡ true → length x ≡ 32
 id_long x h = eqb-true (length x) 32 (and_parts _ _ h).0
 
 parents_short : (ps : List Id) → are_parents ps ≡ true → length (concat ps) ≤ 64
@@ -54,7 +54,7 @@ parts_long : (ps author message edits : List ℕ) (s1 s2 s3 s4 s5 s6 s7 s8 o1 o2
     ≡ 25 + length ps + length author + length message + length edits
 parts_long ps author message edits s1 s2 s3 s4 s5 s6 s7 s8 o1 o2 o3 o4 n a1 a2 m1 m2 m3 m4 e1 e2 e3 e4 = simp length-append (omega arith)
 
-spelling_long : (c : Changeset) → length (spelling c) ≡ 25 + length (concat c.parents) + length c.author + length c.message + length (flat_map edit_bytes c.changes)
+pub spelling_long : (c : Changeset) → length (spelling c) ≡ 25 + length (concat c.parents) + length c.author + length c.message + length (flat_map edit_bytes c.changes)
 spelling_long c = parts_long (concat c.parents) c.author c.message (flat_map edit_bytes c.changes) _ _ _ _ _ _ _ _ _ _ _ _ 0 _ _ _ _ _ _ _ _ _ _
 
 pub spelling_short : (c : Changeset) → is_changeset c ≡ true → length (spelling c) < 2 ^ 25

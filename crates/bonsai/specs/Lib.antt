@@ -1,5 +1,6 @@
 pub mod Decodes
 pub mod Conflict
+pub mod Encodings
 pub mod Equal
 pub mod EqualViews
 pub mod Kept

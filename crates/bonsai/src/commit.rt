@@ -1,16 +1,21 @@
 //! A changeset with its id.
-ghost use Rattle.std.specs.Prelude.{◌≡◌, ◌<◌, ◌^◌, length, IfOk};
+ghost use Rattle.std.specs.Prelude.{◌≡◌, ◌<◌, ◌^◌, ◌++◌, length, IfOk, OnOk, IsTrue};
+ghost use Rattle.byte_fields.specs.Bytes.{Id as ModelId, is_bytes};
 ghost use Rattle.changeset_model.specs.Changeset as model;
 ghost use Rattle.changeset_model.specs.Decoding.{decoded};
+ghost use Rattle.history_model.specs.Pushrebase.{on_parent};
 ghost use Rattle.bonsai.specs.Decodes.{Decodes};
 
 use crate::changeset::Changeset;
 use crate::decode_fault::DecodeFault;
 use crate::decoding::decode;
-use crate::encoding::encode;
+use crate::encoding::{encode, encode_into};
 use object_id::Id;
 use std::alloc::{AllocError, Global};
 use std::marker::Model;
+
+// The bytes of a parent's id.
+const ID_LENGTH: usize = 32;
 
 /// A changeset with its id and the length of its spelling, so that neither is worked out again. Contracts see the
 /// changeset, which both follow from.
@@ -60,6 +65,22 @@ impl Commit {
         })
     }
 
+    /// A changeset that was made and not read, whose encoding is put behind other bytes. It is hashed where it stands, so
+    /// it is encoded once, and it fails only for want of memory.
+    pub fn encode_behind(out: &mut Vec<u8>, changeset: Changeset) -> Result<Commit, AllocError>
+        ensures commit { IfOk result (λ c. c ≡ changeset) }
+        ensures bytes { OnOk result (out.new.items ≡ out.old.items ++ model.spelling changeset) }
+    {
+        let start = out.len();
+        encode_into(out, &changeset)?;
+        let spelling = &out[start..];
+        Ok(Commit {
+            id: Id::of(spelling),
+            encoded_length: spelling.len(),
+            changeset,
+        })
+    }
+
     /// The id: the SHA-256 (FIPS 180-4) of the spelling.
     pub fn id(&self) -> Id
         ensures { result ≡ model.id_of self.now }
@@ -75,6 +96,14 @@ impl Commit {
         // The changeset keeps its rules, and so is short.
         let _edits = self.changeset.edits();
         self.encoded_length
+    }
+
+    /// The length in bytes that the encoding has once the changeset has one parent, whichever it is.
+    pub fn length_on_parent(&self) -> usize
+        ensures value { (parent : ModelId) → IsTrue (is_bytes 32 parent) → result ≡ length (model.spelling (on_parent parent self.now)) }
+        ensures short { result < 2 ^ 26 }
+    {
+        self.encoded_length() + ID_LENGTH - self.changeset.parents().len() * ID_LENGTH
     }
 
     /// The changeset without its id.

@@ -1,2 +1,3 @@
-pub mod Rising
+pub mod Lengths
 pub mod Rewriting
+pub mod Rising

@@ -1,15 +1,21 @@
 -- One more changeset of a stack.
 --     edits_of_one_more      the paths of its edits stand behind those of the changesets before it
 --     rewrite_one_more      what was made, the new changeset, and what is left on it
+--     encode_one_more      what was written, the new changeset's encoding, and that of what is left on it
+--     behind_length      bytes that are put behind their length
 use Rattle.std.proofs.Common.{◌≡◌, ℕ, ◌+◌, ◌<◌, List, [], ◌∷◌, ◌++◌, length, take, drop, map, sym, ap, ◌∙◌}
-use Rattle.std.specs.Prelude.{flat_map, slice_index_or}
+use Rattle.std.specs.Prelude.{flat_map, slice_index_or, Result, Ok, Err, OnOk}
+use Rattle.std.specs.Arc.{arc_value}
 use Rattle.std.specs.Borrow.{Bor}
+use Rattle.std.specs.Int.{w32, to_be_bytes}
+use Rattle.std.specs.declared.sync.Arc.{Arc}
 use Rattle.std.proofs.lemmas.List.{append_assoc, append-nil, drop_more, map_more}
 use Rattle.std.proofs.lemmas.Grind.{flat_map-append}
-use Rattle.byte_fields.specs.Bytes.{Id}
+use Rattle.byte_fields.specs.Bytes.{Id, sized}
 use Rattle.changeset_model.specs.Path.{Path}
-use Rattle.changeset_model.specs.Changeset.{Changeset, id_of}
+use Rattle.changeset_model.specs.Changeset.{Changeset, id_of, spelling}
 use Rattle.history_model.specs.Pushrebase.{on_parent, rewrite}
+use Rattle.bonsai.specs.Encodings.{encodings}
 
 abbrev edited : Changeset → List Path
 edited c = map (λ e. e.0) c.changes
@@ -21,7 +27,25 @@ edits_of_one_more stack i c less is =
     ∙ flat_map-append edited before (c.now ∷ [])
     ∙ ap (λ ps. flat_map edited before ++ ps) (append-nil (edited c.now))
 
-pub rewrite_one_more : (made : List Changeset) (stack : List (Bor Changeset)) (i : ℕ) (c : Bor Changeset) (parent : Id) → i < length stack → c ≡ slice_index_or stack i c → (made ++ on_parent parent c.now ∷ []) ++ rewrite (map (λ c. c.now) (drop (i + 1) stack)) (id_of (on_parent parent c.now)) ≡ made ++ rewrite (map (λ c. c.now) (drop i stack)) parent
+-- the stack that is left begins with its next changeset
+pub rewrite_next : {Z : Type 0} (stack : List (Arc Changeset Z)) (i : ℕ) (c : Arc Changeset Z) (parent : Id) → i < length stack → c ≡ slice_index_or stack i c → on_parent parent (arc_value c) ∷ rewrite (map arc_value (drop (i + 1) stack)) (id_of (on_parent parent (arc_value c))) ≡ rewrite (map arc_value (drop i stack)) parent
+rewrite_next {Z = Z} stack i c parent less is =
+    ap (λ (left : List (Arc Changeset Z)). rewrite (map arc_value left) parent) (sym (drop_more stack i c less ∙ ap (λ c. c ∷ drop (i + 1) stack) (sym is)))
+
+pub rewrite_one_more : {Z : Type 0} (made : List Changeset) (stack : List (Arc Changeset Z)) (i : ℕ) (c : Arc Changeset Z) (parent : Id) → i < length stack → c ≡ slice_index_or stack i c → (made ++ on_parent parent (arc_value c) ∷ []) ++ rewrite (map arc_value (drop (i + 1) stack)) (id_of (on_parent parent (arc_value c))) ≡ made ++ rewrite (map arc_value (drop i stack)) parent
 rewrite_one_more made stack i c parent less is =
-    append_assoc made (on_parent parent c.now ∷ []) (rewrite (map (λ c. c.now) (drop (i + 1) stack)) (id_of (on_parent parent c.now)))
-    ∙ ap (λ (left : List (Bor Changeset)). made ++ rewrite (map (λ c. c.now) left) parent) (sym (drop_more stack i c less ∙ ap (λ c. c ∷ drop (i + 1) stack) (sym is)))
+    append_assoc made (on_parent parent (arc_value c) ∷ []) (rewrite (map arc_value (drop (i + 1) stack)) (id_of (on_parent parent (arc_value c))))
+    ∙ ap (λ cs. made ++ cs) (rewrite_next stack i c parent less is)
+
+pub encode_one_more : {Z : Type 0} (out : List ℕ) (stack : List (Arc Changeset Z)) (i : ℕ) (c : Arc Changeset Z) (parent : Id) → i < length stack → c ≡ slice_index_or stack i c → (out ++ sized w32 (spelling (on_parent parent (arc_value c)))) ++ encodings (rewrite (map arc_value (drop (i + 1) stack)) (id_of (on_parent parent (arc_value c)))) ≡ out ++ encodings (rewrite (map arc_value (drop i stack)) parent)
+encode_one_more out stack i c parent less is =
+    append_assoc out (sized w32 (spelling (on_parent parent (arc_value c)))) (encodings (rewrite (map arc_value (drop (i + 1) stack)) (id_of (on_parent parent (arc_value c)))))
+    ∙ ap (λ cs. out ++ encodings cs) (rewrite_next stack i c parent less is)
+
+pub behind_length : {A E : Type 0} (r : Result A E) (out mid after given spelled : List ℕ) (n : ℕ) → mid ≡ out ++ to_be_bytes w32 n → n ≡ length spelled → given ≡ spelled → OnOk r (after ≡ mid ++ given) → OnOk r (after ≡ out ++ sized w32 spelled)
+behind_length (Ok x) out mid after given spelled n mid_is n_is given_is written =
+    written
+    ∙ (λ i. mid_is i ++ given_is i)
+    ∙ append_assoc out (to_be_bytes w32 n) spelled
+    ∙ ap (λ n. out ++ (to_be_bytes w32 n ++ spelled)) n_is
+behind_length (Err e) out mid after given spelled n mid_is n_is given_is written = tt

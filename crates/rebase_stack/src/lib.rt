@@ -5,4 +5,4 @@ mod paths;
 mod stack;
 
 pub use paths::touched;
-pub use stack::rebase;
+pub use stack::{rebase, rebase_into, rebased_length};

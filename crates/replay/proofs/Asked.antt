@@ -70,11 +70,11 @@ content_asked header h content judged is =
 one_decoded : {E : Type 0} (r : Result Changeset E) (c d : Changeset) → r ≡ Ok c → r ≡ Ok d → d ≡ c
 one_decoded r c d a b = cc
 
-pub change_asked : (header : Header) (h : List Entry) (c : Changeset) (judged : JudgedChange) → decoded (spelling c) ≡ Ok c → IsJudged header h (PutChangeset (spelling c)) judged → asked_entry header h (spelling c) (PutChangeset (spelling c)) ≡ judged.made
-change_asked header h c judged read is =
-    asked_same header h (spelling c) (PutChangeset (spelling c)) judged is
-    (λ body made. let m = makes_of header h (PutChangeset (spelling c)) judged is body made in
-    ap (λ b. payload b (drop 1 (spelling c))) m.3 ∙ ap spelling (one_decoded (decoded (spelling c)) c m.0 read m.1))
+pub change_asked : (header : Header) (h : List Entry) (bytes : List ℕ) (c : Changeset) (judged : JudgedChange) → decoded bytes ≡ Ok c → bytes ≡ spelling c → IsJudged header h (PutChangeset bytes) judged → asked_entry header h bytes (PutChangeset bytes) ≡ judged.made
+change_asked header h bytes c judged read spells is =
+    asked_same header h bytes (PutChangeset bytes) judged is
+    (λ body made. let m = makes_of header h (PutChangeset bytes) judged is body made in
+    ap (λ b. payload b (drop 1 bytes)) m.3 ∙ ap spelling (one_decoded (decoded bytes) c m.0 read m.1) ∙ sym spells)
 
 abbrev pub a_move : List ℕ → Option Id → Option Id → Body
 a_move name from to = Book (record { name = name; from = from; to = to })

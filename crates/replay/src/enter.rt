@@ -62,7 +62,7 @@ fn enter_body(
 {
     match body {
         Body::Content { id, length: _ } => enter_content(alloc, machine, id, &payload[1..]),
-        Body::Change(commit) => enter_changeset(alloc, machine, commit),
+        Body::Change(commit) => enter_changeset(alloc, machine, commit, payload),
         Body::Book(movement) => enter_move(alloc, machine, &movement),
         Body::Land(landing) => enter_landing(alloc, machine, &landing, payload),
     }
@@ -89,14 +89,19 @@ fn enter_content(
 }
 
 // Enters a changeset that may be put there.
-fn enter_changeset(alloc: Global, machine: &mut Machine, commit: Commit) -> Result<(), ReplayFault>
-    requires decoded { decoded (spelling commit) ≡ Ok commit }
-    requires bytes { IsTrue (are_bytes (spelling commit)) }
-    ensures enters { Enters machine.old.history (asked_entry machine.old.header machine.old.history (spelling commit) (PutChangeset (spelling commit))) result machine.new.history }
+fn enter_changeset(
+    alloc: Global,
+    machine: &mut Machine,
+    commit: Commit,
+    payload: &[u8],
+) -> Result<(), ReplayFault>
+    requires decoded { decoded payload.now ≡ Ok commit }
+    requires spelled { payload.now ≡ spelling commit }
+    ensures enters { Enters machine.old.history (asked_entry machine.old.header machine.old.history payload.now (PutChangeset payload.now)) result machine.new.history }
     ensures header { machine.new.header ≡ machine.old.header }
     ensures legal { IsLegal machine.new.header machine.new.history }
 {
-    let judged = machine.judge_commit(alloc, NO_SEAT, commit)?;
+    let judged = machine.judge_commit(alloc, NO_SEAT, commit, payload)?;
     enter_judged(machine, judged)
 }
 

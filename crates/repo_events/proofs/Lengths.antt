@@ -8,6 +8,7 @@ use Rattle.byte_fields.specs.Bytes.{sized}
 use Rattle.changeset_model.specs.Changeset.{Changeset, spelling}
 use Rattle.history_model.specs.History as model
 use Rattle.history_model.specs.Journal.{payload_len}
+use Rattle.bonsai.specs.Encodings.{encodings}
 use Rattle.repo_events.specs.Entries.{commits_length}
 
 length-sized : (bytes more : List ℕ) → length (sized w32 bytes ++ more) ≡ 4 + length bytes + length more
@@ -38,3 +39,11 @@ payload_len-Land l =
 pub length_by_parts : (l : model.Landing) (name old draft : List ℕ) (new : List Changeset) → name ≡ l.name → old ≡ l.old → draft ≡ l.draft → new ≡ l.new → 4 + length name + (length old + length draft) + commits_length new ≡ payload_len (model.Land l)
 length_by_parts l name old draft new name_is old_is draft_is new_is =
     (λ i. 4 + length (name_is i) + (length (old_is i) + length (draft_is i)) + commits_length (new_is i)) ∙ sym (payload_len-Land l)
+
+-- the same, where the changesets' encodings are known only by their length
+pub length_by_changesets : (l : model.Landing) (name : List ℕ) (n : ℕ) → l.name ≡ name → length l.old ≡ 32 → length l.draft ≡ 32 → n ≡ length (encodings l.new) → 68 + length name + n ≡ payload_len (model.Land l)
+length_by_changesets l name n name_is old_long draft_long n_is =
+    let parts = payload_len-Land l in
+    let spelled = length-sized_all spelling l.new in
+    let named = ap length name_is in
+    omega arith

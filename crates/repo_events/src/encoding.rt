@@ -4,9 +4,10 @@ ghost use Rattle.std.specs.List.{concat};
 ghost use Rattle.std.specs.Int.{w8, w32};
 ghost use Rattle.byte_fields.specs.Bytes.{sized};
 ghost use Rattle.changeset_model.specs.Changeset.{spelling};
-ghost use Rattle.history_model.specs.History.{Land, changesets_in};
-ghost use Rattle.history_model.specs.Journal.{framed, optional_id, payload, payload_len};
-ghost use Rattle.repo_events.specs.Entries.{commits_length, landing_of, body_of};
+ghost use Rattle.bonsai.specs.Encodings.{encodings};
+ghost use Rattle.history_model.specs.History.{changesets_in};
+ghost use Rattle.history_model.specs.Journal.{framed, optional_id, payload};
+ghost use Rattle.repo_events.specs.Entries.{commits_length, landing_head, body_of};
 
 use crate::body::{Body, Landing, Move};
 use crate::limits::FRAME;
@@ -32,16 +33,14 @@ pub fn encode_entry(alloc: Global, body: &Body, content: &[u8]) -> Result<Vec<u8
     Ok(frame)
 }
 
-/// The same of a landing.
-pub fn encode_landing(alloc: Global, landing: &Landing) -> Result<Vec<u8>, AllocError>
-    requires short { payload_len (Land (landing_of landing.now)) < 2 ^ 32 }
-    requires counted { length landing.now.new.items < 2 ^ 16 }
-    ensures { IfOk result (λ frame. frame.items ≡ framed (payload (Land (landing_of landing.now)) [])) }
+/// The frame of a payload that is encoded already, as an upload's is.
+pub fn frame_payload(alloc: Global, payload: &[u8]) -> Result<Vec<u8>, AllocError>
+    requires { length payload.now < 2 ^ 32 }
+    ensures { IfOk result (λ frame. frame.items ≡ framed payload.now) }
 {
-    let length = landing.payload_length() as u32;
-    let mut frame = Vec::with_capacity(alloc, length as usize + FRAME)?;
-    frame.extend_from_slice(&length.to_be_bytes())?;
-    put_landing(&mut frame, landing)?;
+    let mut frame = Vec::with_capacity(alloc, payload.len() + FRAME)?;
+    frame.extend_from_slice(&(payload.len() as u32).to_be_bytes())?;
+    frame.extend_from_slice(payload)?;
     frame.push(0)?;
     Ok(frame)
 }
@@ -112,17 +111,31 @@ fn put_landing(out: &mut Vec<u8>, landing: &Landing) -> Result<(), AllocError>
     requires { length landing.now.new.items < 2 ^ 16 }
     ensures { OnOk result (out.new.items ≡ out.old.items ++ payload (body_of (Body.Land landing.now)) []) }
 {
-    out.push(mark::LANDING)?;
-    put_name(out, &landing.name)?;
-    out.extend_from_slice(landing.old.as_bytes())?;
-    out.extend_from_slice(landing.draft.as_bytes())?;
-    out.extend_from_slice(&(landing.new.len() as u16).to_be_bytes())?;
+    let count = landing.new.len() as u16;
+    put_landing_head(out, &landing.name, landing.old, landing.draft, count)?;
     put_commits(out, landing.new.as_slice())
+}
+
+/// What a landing's payload has before its changesets, of which there are so many.
+pub(crate) fn put_landing_head(
+    out: &mut Vec<u8>,
+    name: &BookName,
+    old: Id,
+    draft: Id,
+    count: u16,
+) -> Result<(), AllocError>
+    ensures { OnOk result (out.new.items ≡ out.old.items ++ landing_head name.now old draft count) }
+{
+    out.push(mark::LANDING)?;
+    put_name(out, name)?;
+    out.extend_from_slice(old.as_bytes())?;
+    out.extend_from_slice(draft.as_bytes())?;
+    out.extend_from_slice(&count.to_be_bytes())
 }
 
 // The spellings, each behind its length.
 fn put_commits(out: &mut Vec<u8>, commits: &[Commit]) -> Result<(), AllocError>
-    ensures { OnOk result (out.new.items ≡ out.old.items ++ concat (map (λ c. sized w32 (spelling c)) commits.now)) }
+    ensures { OnOk result (out.new.items ≡ out.old.items ++ encodings commits.now) }
 {
     for commit in commits {
         put_sized(out, commit)?;

@@ -2,7 +2,6 @@
 use Rattle.std.proofs.Common.{◌≡◌, ℕ, ◌<◌, Bool, true, false, List, [], ◌∷◌, ◌++◌, map, length, refl, sym, ap, subst, ◌∙◌, arith}
 use Rattle.std.specs.Prelude.{◌&&◌}
 use Rattle.std.specs.List.{AllByRecursion}
-use Rattle.std.specs.Borrow.{Bor}
 use Rattle.std.proofs.lemmas.List.{append_assoc, append-nil}
 use Rattle.byte_fields.specs.Bytes.{Id}
 use Rattle.changeset_model.specs.Changeset.{Changeset, id_of}
@@ -27,9 +26,6 @@ use Rattle.changeset_store.proofs.Added.{adds_some, can_add}
 pub length-rewrite : (stack : List Changeset) (head : Id) → length (rewrite stack head) ≡ length stack
 length-rewrite [] head = refl
 length-rewrite (c ∷ cs) head = let rest = length-rewrite cs (id_of (on_parent head c)) in omega arith
-
-pub rewritten : (given items : List (Bor Changeset)) (stack : List Changeset) (head : Id) (new : List Changeset) → new ≡ rewrite (map (λ c. c.now) given) head → given ≡ items → map (λ c. c.now) items ≡ stack → new ≡ rewrite stack head
-rewritten given items stack head new is same are = is ∙ (λ i. rewrite (map (λ (c : Bor Changeset). c.now) (same i)) head) ∙ ap (λ cs. rewrite cs head) are
 
 -- ---- the entry
 

@@ -26,3 +26,4 @@ pub mod ClearedEntries
 pub mod Unseating
 pub mod Looking
 pub mod Renewed
+pub mod Rebasing

@@ -2,7 +2,6 @@
 use Rattle.std.proofs.Common.{◌≡◌, ℕ, ◌+◌, ◌<◌, ◌-◌, List, [], ◌∷◌, ◌++◌, map, length, take, get_or, sym, ap, refl, ◌∙◌, arith}
 use Rattle.std.specs.Prelude.{Option, None, Some, option_map, slice_get}
 use Rattle.std.specs.List.{last_or}
-use Rattle.std.specs.Borrow.{Bor}
 use Rattle.std.specs.Arc.{arc_value}
 use Rattle.std.specs.declared.sync.Arc.{Arc}
 use Rattle.std.proofs.lemmas.List.{map-append}
@@ -10,18 +9,11 @@ use Rattle.byte_fields.specs.Bytes.{Id, last_of}
 use Rattle.changeset_model.specs.Changeset.{Changeset, id_of}
 use Rattle.changeset_store.specs.Shared.{values}
 use Rattle.changeset_store.proofs.Alone.{next_taken}
-use Rattle.changeset_store.proofs.Sharing.{values_below, value_is}
 
 pub ids_more : (xs : List Changeset) (i : ℕ) (x : Changeset) → i < length xs → x ≡ get_or xs i x → (items after : List Id) (id : Id) → items ≡ map id_of (take i xs) → after ≡ items ++ id ∷ [] → id ≡ id_of x → after ≡ map id_of (take (i + 1) xs)
 ids_more xs i x below is items after id so_far grows id_is =
     grows ∙ (λ j. so_far j ++ id_is j ∷ [])
     ∙ sym (ap (map id_of) (next_taken xs i x below is) ∙ map-append id_of (take i xs) (x ∷ []))
-
--- one changeset more is borrowed
-pub borrowed_more : {Z : Type 0} (shared : List (Arc Changeset Z)) (i : ℕ) (one : Arc Changeset Z) → i < length shared → one ≡ get_or shared i one → (found after : List (Bor Changeset)) (b : Bor Changeset) → map (λ c. c.now) found ≡ take i (values shared) → after ≡ found ++ b ∷ [] → b.now ≡ arc_value one → map (λ c. c.now) after ≡ take (i + 1) (values shared)
-borrowed_more shared i one below is found after b so_far grows b_is =
-    ap (map (λ (c : Bor Changeset). c.now)) grows ∙ map-append (λ (c : Bor Changeset). c.now) found (b ∷ []) ∙ (λ j. so_far j ++ b_is j ∷ [])
-    ∙ sym (next_taken (values shared) i (arc_value one) (values_below shared i below) (value_is shared i one below is))
 
 -- ---- the last
 

@@ -1,15 +1,17 @@
 //! What a change makes, with its record and with the room for it.
-ghost use Rattle.std.specs.Prelude.{◌≡◌, ◌≤◌, ℕ, List, Some, IfOk, IfErr, OnOk, length, Contains};
+ghost use Rattle.std.specs.Prelude.{◌≡◌, ◌≤◌, ◌+◌, ℕ, List, Some, IfOk, IfErr, OnOk, length, Contains};
 ghost use Rattle.std.specs.BTreeMap.{get as get_ordered};
 ghost use Rattle.std.specs.Map.{keys_of};
 ghost use Rattle.std.specs.Option.{option_flatten};
 ghost use Rattle.changeset_store.specs.Shared.{values};
-ghost use Rattle.history_model.specs.History.{changesets_in};
-ghost use Rattle.history_model.specs.Journal.{IsContentOf, payload_len};
+ghost use Rattle.changeset_model.specs.Changeset.{spelling};
+ghost use Rattle.history_model.specs.History.{Change, changesets_in};
+ghost use Rattle.history_model.specs.Journal.{IsContentOf, payload_len, size};
 ghost use Rattle.repo_calls.specs.Calls.{granted_seen};
 ghost use Rattle.repo_events.specs.Entries.{body_of, landing_of};
 ghost use Rattle.repo_machine.specs.Entering.{IsPrepared, Prevents};
 ghost use Rattle.repo_machine.specs.Held.{HasRoom};
+ghost use Rattle.repo_machine.specs.Judged.{Frames};
 ghost use Rattle.repo_machine.specs.Made.{made_of, landing_made, HasNumbers, IsMadeReady};
 
 use crate::judged::{Judged, LandMade, Made};
@@ -17,13 +19,34 @@ use crate::machine::Machine;
 use bonsai::Commit;
 use object_id::Id;
 use repo_calls::{Granted, Refusal};
-use repo_events::{Body, Landing, encode_entry};
+use repo_events::{Body, Landing, encode_entry, frame_payload};
 use repo_path::BookName;
 use std::alloc::{AllocError, Global};
 use std::collections::BTreeMap;
 use std::sync::Arc;
 
 impl Machine {
+    // What is entered of a changeset that is put here, if its record fits. `bytes` is its encoding, which is its payload.
+    pub(crate) fn prepare_changeset(
+        &mut self,
+        alloc: Global,
+        who: u64,
+        granted: Granted,
+        commit: Commit,
+        bytes: &[u8],
+    ) -> Result<Judged, Refusal>
+        requires bytes { bytes.now ≡ spelling commit }
+        requires short { length bytes.now ≤ 16_777_216 }
+        ensures ok { IfOk result (IsPrepared self.old.header self.old.history self.new.room who (granted_seen granted) (Change commit)) }
+        ensures err { IfErr result (Prevents self.old.header self.old.history (Change commit)) }
+        ensures header { self.new.header ≡ self.old.header }
+        ensures history { self.new.history ≡ self.old.history }
+    {
+        self.check_size(bytes.len() as u64)?;
+        let frame = frame_payload(alloc, bytes)?;
+        self.make_ready(alloc, who, granted, Body::Change(commit), frame)
+    }
+
     // What is entered of a body that some change makes here, if its record fits. `content` has the bytes of a content.
     pub(crate) fn prepare(
         &mut self,
@@ -43,6 +66,26 @@ impl Machine {
     {
         self.check_size(body.payload_length())?;
         let frame = encode_entry(alloc, &body, content)?;
+        self.make_ready(alloc, who, granted, body, frame)
+    }
+
+    // What is entered of a body with this record, for which there is room in the journal.
+    fn make_ready(
+        &mut self,
+        alloc: Global,
+        who: u64,
+        granted: Granted,
+        body: Body,
+        frame: Vec<u8>,
+    ) -> Result<Judged, Refusal>
+        requires fits { size self.old.history + 5 + payload_len (body_of body) ≤ self.old.header.capacity }
+        requires frames { Frames (Some (body_of body)) frame.items }
+        requires few { length (changesets_in (body_of body)) ≤ 100 }
+        ensures ok { IfOk result (IsPrepared self.old.header self.old.history self.new.room who (granted_seen granted) (body_of body)) }
+        ensures err { IfErr result (Prevents self.old.header self.old.history (body_of body)) }
+        ensures header { self.new.header ≡ self.old.header }
+        ensures history { self.new.history ≡ self.old.history }
+    {
         let made = made_from(alloc, body)?;
         self.make_room(alloc, &made)?;
         Ok(Judged {

@@ -1,23 +1,25 @@
 //! A planned landing with its new changesets and its record. No machine is looked at here.
-ghost use Rattle.std.specs.Prelude.{◌≡◌, ◌≤◌, ◌<◌, true, length, map, IfOk, IfErr, Some};
+ghost use Rattle.std.specs.Prelude.{◌≡◌, ◌≤◌, ◌<◌, ◌&&◌, true, length, map, IfOk, IfErr, Some};
 ghost use Rattle.std.specs.Arc.{arc_value};
+ghost use Rattle.byte_fields.specs.Bytes.{is_bytes};
 ghost use Rattle.changeset_model.specs.Changeset.{id_of};
 ghost use Rattle.changeset_store.specs.Shared.{values};
+ghost use Rattle.history_model.specs.Bookmark.{is_name};
 ghost use Rattle.history_model.specs.History.{Land};
 ghost use Rattle.history_model.specs.Journal.{payload_len, most_payload};
+ghost use Rattle.history_model.specs.Pushrebase.{rewrite};
 ghost use Rattle.reply_model.specs.Reply.{most_stack, Landed as LandedSo, LandDraft, is_ask};
-ghost use Rattle.repo_events.specs.Entries.{landing_of};
 ghost use Rattle.repo_machine.specs.Judged.{Frames};
 ghost use Rattle.repo_machine.specs.Plans.{rebased_of, landing_in};
 
 use crate::judged::{Judged, LandMade, Made};
 use crate::plan::Plan;
 use crate::preparing::land_made;
-use bonsai::{Changeset, Commit};
+use bonsai::Commit;
 use object_id::Id;
-use rebase_stack::rebase;
+use rebase_stack::{rebase, rebase_into, rebased_length};
 use repo_calls::{Granted, Landed, Refusal};
-use repo_events::{Landing, MOST_PAYLOAD, encode_landing};
+use repo_events::{Landing, MOST_PAYLOAD, begin_landing, landing_length};
 use repo_path::{BookName, RepoPath};
 use std::alloc::{AllocError, Global};
 use std::marker::Model;
@@ -51,70 +53,66 @@ impl Model for Rebased {
 }
 
 impl Plan {
-    /// Puts the stack onto the planned head, and makes the record of the landing.
+    /// Puts the stack onto the planned head, and makes the record of the landing. Each new changeset is encoded once,
+    /// into the record.
     pub fn rebased(&self, alloc: Global) -> Result<Rebased, AllocError>
         ensures { IfOk result (λ r. r ≡ rebased_of self.now) }
     {
-        let stack = changesets_of(alloc, self.stack.as_slice())?;
-        let new = rebase(alloc, stack.as_slice(), self.old)?;
+        let length = self.payload_length();
+        let (new, frame) = self.recorded(alloc, length)?;
+        let ids = ids_of(alloc, new.as_slice())?;
         let name = self.name.copy(alloc)?;
+        let touched = Arc::try_clone(&self.touched)?;
         let landing = Landing {
             name,
             old: self.old,
             draft: self.draft,
             new,
         };
-        let touched = Arc::try_clone(&self.touched)?;
-        recorded(alloc, landing, touched)
+        Ok(Rebased {
+            landing: land_made(alloc, landing)?,
+            ids,
+            touched,
+            length,
+            frame,
+        })
     }
-}
 
-// The landing with its record.
-fn recorded(
-    alloc: Global,
-    landing: Landing,
-    touched: Arc<Vec<RepoPath>>,
-) -> Result<Rebased, AllocError>
-    requires { length landing.new.items ≤ most_stack }
-    ensures { IfOk result (λ r. r ≡ record { name = landing.name; draft = landing.draft; old = landing.old; new = landing.new.items; touched = (arc_value touched).items }) }
-{
-    let ids = ids_of(alloc, landing.new.as_slice())?;
-    let length = landing.payload_length();
-    let frame = frame_of(alloc, &landing, length)?;
-    let landing = land_made(alloc, landing)?;
-    Ok(Rebased {
-        landing,
-        ids,
-        touched,
-        length,
-        frame,
-    })
-}
-
-// The record of a landing, unless its payload is too long.
-fn frame_of(alloc: Global, landing: &Landing, bytes: u64) -> Result<Vec<u8>, AllocError>
-    requires bytes { bytes ≡ payload_len (Land (landing_of landing.now)) }
-    requires few { length landing.now.new.items ≤ most_stack }
-    ensures { IfOk result (λ frame. bytes ≤ most_payload → Frames (Some (Land (landing_of landing.now))) frame.items) }
-{
-    if bytes > MOST_PAYLOAD as u64 {
-        return Ok(Vec::new(alloc));
+    // The length in bytes of the payload of the landing.
+    fn payload_length(&self) -> u64
+        ensures length { result ≡ payload_len (Land (landing_in (rebased_of self.now))) }
+        ensures rules { is_name self.now.name && is_bytes 32 self.now.draft ≡ true }
+    {
+        // They keep their rules.
+        let _name = self.name.as_str();
+        let _old = self.old.as_bytes();
+        let _draft = self.draft.as_bytes();
+        landing_length(&self.name, rebased_length(self.stack.as_slice()))
     }
-    encode_landing(alloc, landing)
-}
 
-// The changesets, borrowed.
-fn changesets_of<'a>(
-    alloc: Global,
-    commits: &'a [Arc<Commit>],
-) -> Result<Vec<&'a Changeset>, AllocError>
-    ensures { IfOk result (λ found. map (λ c. c.now) found.items ≡ values commits.now) }
-{
-    let mut found = Vec::with_capacity(alloc, commits.len())?;
-    'commits: for commit in commits {
-        found.push(commit.changeset())?;
+    // The stack on the planned head, and the record of the landing, which is empty if its payload is too long.
+    fn recorded(&self, alloc: Global, length: u64) -> Result<(Vec<Commit>, Vec<u8>), AllocError>
+        requires { length ≡ payload_len (Land (landing_in (rebased_of self.now))) }
+        ensures new { IfOk result (λ r. r.0.items ≡ rewrite self.now.stack self.now.old) }
+        ensures frame { IfOk result (λ r. length ≤ most_payload → Frames (Some (Land (landing_in (rebased_of self.now)))) r.1.items) }
+    {
+        let stack = self.stack.as_slice();
+        if length > MOST_PAYLOAD as u64 {
+            return Ok((rebase(alloc, stack, self.old)?, Vec::new(alloc)));
+        }
+        let count = stack.len() as u16;
+        let mut frame = begin_landing(
+            alloc,
+            &self.name,
+            self.old,
+            self.draft,
+            count,
+            length as u32,
+        )?;
+        let new = rebase_into(alloc, &mut frame, stack, self.old)?;
+        frame.push(0)?;
+        Ok((new, frame))
     }
-    Ok(found)
 }
 
 fn ids_of(alloc: Global, commits: &[Commit]) -> Result<Vec<Id>, AllocError>

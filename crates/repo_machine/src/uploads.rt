@@ -1,8 +1,7 @@
 //! Uploads of changesets.
 ghost use Rattle.std.specs.Prelude.{◌≡◌, ℕ, List, true, false, Ok, option_map, IsTrue, OnOk, IfOk, IfErr};
 ghost use Rattle.std.specs.HashMap.{get};
-ghost use Rattle.byte_fields.specs.Bytes.{are_bytes};
-ghost use Rattle.changeset_model.specs.Changeset.{id_of, spelling};
+ghost use Rattle.changeset_model.specs.Changeset.{id_of};
 ghost use Rattle.changeset_model.specs.Decoding.{decoded};
 ghost use Rattle.history_model.specs.History.{is_known};
 ghost use Rattle.reply_model.specs.Reply.{PutChangeset, ChangesetPut, judge};
@@ -22,7 +21,6 @@ use bonsai::{Change, Changeset, Commit, DecodeFault, Edit};
 use changeset_store::ChangesetStore;
 use object_id::Id;
 use repo_calls::{Granted, Refusal};
-use repo_events::Body;
 use std::alloc::Global;
 use std::collections::HashMap;
 
@@ -59,21 +57,21 @@ impl Machine {
             Ok(commit) => commit,
             Err(fault) => return Err(refusal_of(fault)),
         };
-        self.judge_commit(alloc, who, commit)
+        self.judge_commit(alloc, who, commit, bytes)
     }
 
-    /// Judges a changeset that was decoded, as in a payload.
+    /// Judges a changeset that was decoded of these bytes, as of a payload. Its record is made of them.
     pub fn judge_commit(
         &mut self,
         alloc: Global,
         who: u64,
         commit: Commit,
+        bytes: &[u8],
     ) -> Result<Judged, Refusal>
-        requires decoded { decoded (spelling commit) ≡ Ok commit }
-        requires bytes { IsTrue (are_bytes (spelling commit)) }
-        ensures ok { IfOk result (Judges self.old.header self.old.history self.new.room who (PutChangeset (spelling commit))) }
+        requires { decoded bytes.now ≡ Ok commit }
+        ensures ok { IfOk result (Judges self.old.header self.old.history self.new.room who (PutChangeset bytes.now)) }
         ensures granted { IfOk result (λ judged. judged.granted ≡ ChangesetPut (id_of commit)) }
-        ensures err { IfErr result (IsRefusal (judge self.old.header self.old.history (PutChangeset (spelling commit)))) }
+        ensures err { IfErr result (IsRefusal (judge self.old.header self.old.history (PutChangeset bytes.now))) }
         ensures header { self.new.header ≡ self.old.header }
         ensures history { self.new.history ≡ self.old.history }
         ensures legal { IsLegal self.old.header self.old.history }
@@ -89,7 +87,7 @@ impl Machine {
         if self.changesets.is_known(&id) {
             return Ok(Judged::unchanged(alloc, who, granted));
         }
-        self.prepare(alloc, who, granted, Body::Change(commit), &[])
+        self.prepare_changeset(alloc, who, granted, commit, bytes)
     }
 }
 

@@ -15,6 +15,8 @@ mod plans;
 #[cfg(test)]
 mod plans_again;
 #[cfg(test)]
+mod records;
+#[cfg(test)]
 mod replays;
 #[cfg(test)]
 mod rows;

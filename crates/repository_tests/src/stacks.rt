@@ -1,11 +1,12 @@
 //! Stacks on another head, and the paths that they touch.
 use crate::examples::{Example, first, id, path};
-use bonsai::{Changeset, Commit};
+use bonsai::Commit;
 use object_id::Id;
 use path_conflict::{Clash, is_rising, least_clash_uncounted};
 use rebase_stack::{rebase, touched};
 use repo_path::RepoPath;
 use std::alloc::Global;
+use std::sync::Arc;
 use std::test::Fail;
 
 fn commit_on(
@@ -34,7 +35,7 @@ fn ids(alloc: Global, commits: &[Commit]) -> Result<Vec<Id>, Fail> {
 }
 
 // The ids of a stack, rewritten onto the head of 32 bytes 07.
-fn on_sevens(alloc: Global, stack: &[&Changeset]) -> Result<Vec<Id>, Fail> {
+fn on_sevens(alloc: Global, stack: &[Arc<Commit>]) -> Result<Vec<Id>, Fail> {
     let commits = rebase(alloc, stack, Id::from_bytes([7; 32]))?;
     ids(alloc, commits.as_slice())
 }
@@ -43,7 +44,7 @@ fn rewritten(alloc: Global) -> Result<Vec<Id>, Fail> {
     let ones = Id::from_bytes([1; 32]);
     let one = commit_on(alloc, b'a', ones, 3, "-a/b b:abc")?;
     let two = commit_on(alloc, b'b', one.id(), 0, "a/b:abc -a.b")?;
-    on_sevens(alloc, &[one.changeset(), two.changeset()])
+    on_sevens(alloc, &[Arc::new(alloc, one)?, Arc::new(alloc, two)?])
 }
 
 #[test]

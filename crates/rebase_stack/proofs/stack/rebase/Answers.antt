@@ -1,16 +1,18 @@
 use Rattle.std.proofs.Common.{◌∷◌, [], ◌++◌, ◌+◌, drop, map, ap, ◌∙◌}
+use Rattle.std.specs.Arc.{arc_value}
 use Rattle.changeset_model.specs.Changeset.{id_of}
-use Rattle.history_model.specs.Pushrebase.{rewrite}
+use Rattle.history_model.specs.Pushrebase.{on_parent, rewrite}
 use Rattle.rebase_stack.proofs.Rewriting.{rewrite_one_more}
 use Rattle.rebase_stack.proofs.stack.rebase.Goals as goal
 
-pub loop-changeset-preserved : goal.loop-changeset-preserved
-loop-changeset-preserved c =
-    let made = c.loop-changeset.commits.items in
-    let rest = map (λ c. c.now) (drop (c.loop-changeset.changeset-index + 1) c.args.stack.now) in
-    let commit = c.in_ok-commit.commit in
+pub stack-preserved : goal.stack-preserved
+stack-preserved c =
+    let made = c.stack.commits.items in
+    let parent = c.stack.parent in
+    let rest = map arc_value (drop (c.stack.commit-index + 1) c.args.stack.now) in
+    let rebased = c.in_ok-rebased.rebased in
     ap (λ cs. cs ++ rewrite rest c.id-parent.result) c.in_ok-push.ensures.items
-    ∙ ap (λ id. (made ++ commit ∷ []) ++ rewrite rest id) c.id-parent.ensures
-    ∙ ap (λ m. (made ++ m ∷ []) ++ rewrite rest (id_of m)) (c.in_ok-commit.ensures ∙ c.in_ok-with_parent.ensures)
-    ∙ rewrite_one_more made c.args.stack.now c.loop-changeset.changeset-index c.changeset-item.result c.loop-changeset.parent c.loop-changeset-test.true c.changeset-item.is
-    ∙ c.loop-changeset.invariant
+    ∙ ap (λ id. (made ++ rebased ∷ []) ++ rewrite rest id) c.id-parent.ensures
+    ∙ ap (λ m. (made ++ m ∷ []) ++ rewrite rest (id_of m)) (c.in_ok-rebased.ensures ∙ c.in_ok-with_parent.ensures ∙ ap (on_parent parent) (c.changeset.ensures ∙ c.deref.ensures))
+    ∙ rewrite_one_more made c.args.stack.now c.stack.commit-index c.commit-item.result parent c.stack-test.true c.commit-item.is
+    ∙ c.stack.invariant

@@ -1,13 +1,16 @@
-use Rattle.std.proofs.Common.{length, map, ap, ◌∙◌, arith}
-use Rattle.std.specs.Borrow.{Bor}
-use Rattle.changeset_model.specs.Changeset.{Changeset}
-use Rattle.changeset_store.specs.Shared.{values}
-use Rattle.repo_machine.proofs.LandingEntry.{length-rewrite}
+use Rattle.std.proofs.Common.{length, map, subst, ap, ◌∙◌}
+use Rattle.changeset_model.specs.Changeset.{id_of}
+use Rattle.reply_model.specs.Reply.{most_stack}
+use Rattle.std.specs.Prelude.{◌≤◌}
+use Rattle.repo_machine.proofs.Rebasing.{landing_of_plan, is_recorded}
 use Rattle.repo_machine.proofs.plan.Plan.rebased.Goals as goal
 
-pub recorded-requires : goal.recorded-requires
-recorded-requires c =
-    let stack_is = ap (map (λ (c : Bor Changeset). c.now)) c.as_slice-2.ensures.value ∙ c.in_ok-stack.ensures ∙ ap values c.as_slice.ensures.value in
-    let long = ap length c.in_ok-new.ensures ∙ length-rewrite (map (λ (c : Bor Changeset). c.now) c.as_slice-2.result.now) c.self.inside.old ∙ ap length stack_is in
-    let few = c.self.invariant in
-    omega arith
+pub invariant_of-result : goal.invariant_of-result
+invariant_of-result c =
+    let plan = c.args.self.now in
+    let l = c.in_ok-land_made.field-0 in
+    let made =
+    landing_of_plan plan c.in_ok-name.name c.self.inside.old c.self.inside.draft c.in_ok-new.new.items _ c.in_ok-land_made.ensures.made (c.in_ok-name.ensures ∙ ap (λ p. p.name) c.self.view_is)
+    (ap (λ p. p.old) c.self.view_is) (ap (λ p. p.draft) c.self.view_is) c.in_ok-new.ensures.new in
+    is_recorded plan l made (subst (λ p. length p.stack ≤ most_stack) c.self.view_is c.self.invariant) c.in_ok-ids.ids.items c.payload_length-length.result c.in_ok-new.frame.items
+    c.in_ok-land_made.ensures.ready c.payload_length-length.ensures.rules (c.in_ok-ids.ensures ∙ ap (map id_of) (c.as_slice.ensures.value ∙ c.in_ok-new.ensures.new)) c.payload_length-length.ensures.length c.in_ok-new.ensures.frame

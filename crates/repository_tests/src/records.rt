@@ -1,0 +1,48 @@
+//! The record of a landing of several changesets. It is that of an independent computation.
+use crate::steps::{Run, id_at, new_run, run_lines};
+use std::alloc::Global;
+use std::test::Fail;
+
+// `main` at a changeset that sets `x` (1), on a root (0), and beside it one that sets `y` (2), with one upon it that
+// deletes `z` (3).
+const DRAFTS: &str = "\
+content abc
+content
+line - 1 0
+change 0 x:abc
+change 0 y:
+change 2 -z
+move 1";
+
+// The payload's length, `L`, the name, the head before, the draft, how many changesets there are, each behind its length,
+// and a closed gate.
+const RECORD: &str = "\
+000000f5\
+4c046d61696e\
+6f0fd4791e9901030b778dc51bebc28effb042f328726c7f1689026f5b9c68c8\
+cd1ab1b3c47bf68a84ee3a3be6a6c1d75e17ce583352319bc673319935d4c1e0\
+0002\
+00000067\
+4301016f0fd4791e9901030b778dc51bebc28effb042f328726c7f1689026f5b9c68c8000161000000000000000000000000000000000000000100017901000000000000000000e3b0c44298fc1c149afbf4c8996fb92427ae41e4649b934ca495991b7852b855\
+0000003e\
+43010166018dae6dcd26aa7f15f755f702edd69b683e14a7531d0ba9293f9127fda14f000161000000000000000000000000000000000000000100017a00\
+00";
+
+fn record_of(alloc: Global, run: &mut Run, draft: &str) -> Result<Vec<u8>, Fail> {
+    let draft = id_at(run, draft)?.ok_or("a draft")?;
+    let Ok(judged) = run.machine.judge_landing(alloc, 1, &run.main, draft) else {
+        return Err(Fail::from("a landing"));
+    };
+    let record = judged.frame().ok_or("a record")?;
+    Ok(Vec::from_slice(alloc, record)?)
+}
+
+#[test]
+fn a_landing_of_two_changesets_is_recorded(rt: HostRuntime) -> Result<(), Fail> {
+    let mut run = new_run(rt.alloc(), 65_536)?;
+    run_lines(&rt, rt.alloc(), &mut run, DRAFTS)?;
+    let record = record_of(rt.alloc(), &mut run, "3")?;
+    let wanted = hex::decode(rt.alloc(), RECORD)?;
+    assert_eq!(rt; record.as_slice(), wanted.as_slice());
+    Ok(())
+}
