@@ -1,0 +1,5 @@
+pub mod Lines
+pub mod Manifests
+pub mod Jobs
+pub mod Reads
+pub mod Settling
