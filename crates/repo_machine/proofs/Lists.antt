@@ -2,7 +2,6 @@
 use Rattle.std.proofs.Common.{◌≡◌, ℕ, ◌+◌, ◌<◌, ◌-◌, List, [], ◌∷◌, ◌++◌, map, length, take, get_or, sym, ap, refl, ◌∙◌, arith}
 use Rattle.std.specs.Prelude.{Option, None, Some, option_map, slice_get}
 use Rattle.std.specs.List.{last_or}
-use Rattle.std.specs.Borrow.{Bor}
 use Rattle.std.specs.Arc.{arc_value}
 use Rattle.std.specs.declared.sync.Arc.{Arc}
 use Rattle.std.proofs.lemmas.List.{map-append}
@@ -10,7 +9,6 @@ use Rattle.byte_fields.specs.Bytes.{Id, last_of}
 use Rattle.changeset_model.specs.Changeset.{Changeset, id_of}
 use Rattle.changeset_store.specs.Shared.{values}
 use Rattle.changeset_store.proofs.Alone.{next_taken}
-use Rattle.changeset_store.proofs.Sharing.{values_below, value_is}
 
 pub ids_more : (xs : List Changeset) (i : ℕ) (x : Changeset) → i < length xs → x ≡ get_or xs i x → (items after : List Id) (id : Id) → items ≡ map id_of (take i xs) → after ≡ items ++ id ∷ [] → id ≡ id_of x → after ≡ map id_of (take (i + 1) xs)
 ids_more xs i x below is items after id so_far grows id_is =

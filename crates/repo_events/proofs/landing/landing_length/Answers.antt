@@ -1,4 +1,4 @@
-use Rattle.std.proofs.Common.{sym, ap, ◌∙◌, arith}
+use Rattle.std.proofs.Common.{sym, ◌∙◌, arith}
 use Rattle.repo_events.proofs.Lengths.{length_by_changesets}
 use Rattle.repo_events.proofs.landing.landing_length.Goals as goal
 

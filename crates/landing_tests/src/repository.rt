@@ -1,0 +1,57 @@
+//! A repository over memory, with changes that are told by texts.
+use blob_disk::MemDisk;
+use object_id::Id;
+use recovery::{Opened, open};
+use repo_calls::Ask;
+use repo_journal::init;
+use repo_path::BookName;
+use repo_state::RepoState;
+use std::alloc::Global;
+use std::test::Fail;
+
+/// A new repository of 65,536 bytes at most.
+pub(crate) fn new_repository(alloc: Global) -> Result<RepoState<MemDisk>, Fail> {
+    let mut disk = MemDisk::new(alloc, 65_536, Vec::new(alloc))?;
+    if init(&mut disk, 65_536).is_err() {
+        return Err(Fail::from("a new file"));
+    }
+    let Opened { machine, journal } = open(alloc, &mut disk)?;
+    Ok(RepoState::new(machine, journal, disk))
+}
+
+/// The id of these digits, and none where there are none.
+pub(crate) fn id(digits: &str) -> Option<Id> {
+    Id::from_hex(digits).ok()
+}
+
+/// Makes the changes of seat 2 that a script has, one a line: `content TEXT`, `change DIGITS` stores the changeset that
+/// the digits spell, and `main ID` makes `main`.
+pub(crate) fn make_changes(
+    alloc: Global,
+    state: &mut RepoState<MemDisk>,
+    main: &BookName,
+    script: &str,
+) -> Result<(), Fail> {
+    for line in script.lines() {
+        let (word, rest) = line.split_once(" ").ok_or("a line")?;
+        let bytes = hex::decode(alloc, if word == "change" { rest } else { "" })?;
+        let ask = match word {
+            "content" => Ask::PutContent(rest.as_bytes()),
+            "change" => Ask::PutChangeset(bytes.as_slice()),
+            _ => Ask::SetBookmark {
+                name: main,
+                from: None,
+                to: id(rest),
+            },
+        };
+        make_change(alloc, state, &ask)?;
+    }
+    Ok(())
+}
+
+fn make_change(alloc: Global, state: &mut RepoState<MemDisk>, ask: &Ask) -> Result<(), Fail> {
+    match state.store(alloc, 2, ask) {
+        Ok(_) => Ok(()),
+        Err(_) => Err(Fail::from("a change")),
+    }
+}
