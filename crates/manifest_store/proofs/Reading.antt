@@ -1,6 +1,6 @@
 -- What is read of a settled changeset is what the definitions say.
 use Rattle.std.proofs.Common.{◌≡◌, ℕ, ◌<◌, ◌≤◌, ◌^◌, Bool, true, false, not, cond, ◌||◌, List, [], ◌∷◌, length, map, reverse, refl, sym, ap, subst, ◌∙◌, arith}
-use Rattle.std.specs.Prelude.{Option, Some, None, is_some, option_map, Result, Ok, Err}
+use Rattle.std.specs.Prelude.{Option, Some, None, is_some, option_map, bytes_eq, Result, Ok, Err}
 use Rattle.std.specs.List.{AllByRecursion}
 use Rattle.std.specs.Option.{option_and_then, option_map_or}
 use Rattle.std.specs.FinMap as map
@@ -10,7 +10,7 @@ use Rattle.byte_fields.specs.Bytes.{Id, is_bytes}
 use Rattle.changeset_model.specs.Path.{Path}
 use Rattle.changeset_model.specs.Changeset.{File, set_at}
 use Rattle.history_model.specs.History.{Known, is_known}
-use Rattle.history_model.specs.Chain.{changesets, line_among, line}
+use Rattle.history_model.specs.Chain.{changesets, first_parent, line_among, line}
 use Rattle.history_model.specs.Tree.{files_of, is_file, is_dir}
 use Rattle.manifest_model.specs.Fsnode.{fsnode, fsnode_bytes}
 use Rattle.manifest_model.specs.Unode.{Unode, UnodeEntry, UnodeFile, UnodeDir, linknode_of, unode, unode_bytes, unode_id}
@@ -21,8 +21,6 @@ use Rattle.manifest_model.proofs.Nodes.{unode_is_read}
 use Rattle.manifest_laws.specs.Changes.{tree_at, files_in}
 use Rattle.manifest_laws.proofs.Lists.{none_some, same_some}
 use Rattle.manifest_laws.proofs.Rules.{file_kept, found_has}
-use Rattle.manifest_laws.proofs.Bounds.{total_line}
-use Rattle.manifest_laws.proofs.Totals.{length-total}
 use Rattle.unode.specs.Views.{file_in, file_of}
 use Rattle.unode.specs.History.{IsLine, HasLine, file_unodes}
 use Rattle.unode.proofs.Pasts.{file_line, file_links, file_unodes_few}
@@ -105,6 +103,19 @@ file_held m [] held r e p f at = absurd cc
 file_held m (c ∷ older) held r e p f at = held (unode_bytes (unode (c ∷ older) p)) (has_contains (all_nodes_on (c ∷ older)) (unode_bytes (unode (c ∷ older) p)) (has_file c older p f at))
 
 -- ---- the past of a file
+
+-- a line is no longer than the changesets
+line_short : (ks : List Known) (x : Id) → length (line_among ks x) ≤ length ks
+line_short [] x = omega arith
+line_short (k ∷ older) x = by (line_short older) (bytes_eq k.id x)
+  where
+    rest : ((x : Id) → length (line_among older x) ≤ length older) → (o : Option Id) → length (option_map_or (line_among older) o []) ≤ length older
+    rest later None = omega arith
+    rest later (Some q) = later q
+
+    by : ((x : Id) → length (line_among older x) ≤ length older) → (b : Bool) → length (cond b (k ∷ option_map_or (line_among older) (first_parent k.changeset) []) (line_among older x)) ≤ length (k ∷ older)
+    by later true = (let h = rest later (first_parent k.changeset) in omega arith)
+    by later false = (let h = later x in omega arith)
 
 abbrev AllHeld : Nodes → List Known → Type 0
 AllHeld m [] = Unit {0}
@@ -236,9 +247,7 @@ module _ (ks : List Known) (t : Table) (a : AreManifests ks t) where
 
       short : length l ≤ length ks
       short =
-          let among = total_line (λ k. 1) (reverse ks) (known_at ks n).id in
-          let left = length-total l in
-          let right = length-total (reverse ks) in
+          let among = line_short (reverse ks) (known_at ks n).id in
           let back = length-reverse ks in
           omega arith
 
