@@ -1,6 +1,5 @@
 -- From the turns of a landing to its answer.
 use Rattle.std.proofs.Common.{◌≡◌, ℕ, List, [], Option, None, Some, refl, ap, sym, ◌∙◌, subst, append-nil}
-use Rattle.std.specs.Prelude.{MatchOption}
 use mathlib.Core.List.{IsPrefix}
 use Rattle.byte_fields.specs.Bytes.{Id}
 use Rattle.history_model.specs.History.{Entry}
@@ -8,7 +7,7 @@ use Rattle.history_model.specs.Journal.{Header}
 use Rattle.bookmark_lock.specs.Place.{Place, with_front}
 use Rattle.bookmark_lock.proofs.Prefixes.{prefix_self, prefix_trans}
 use Rattle.reply_model.specs.Reply.{Ask, LandDraft}
-use Rattle.reply_model.specs.After.{Call, Asks, Answer, Answers, After, nothing}
+use Rattle.reply_model.specs.After.{Call, Asks, Answer, Answers, After, Memory, nothing}
 use Rattle.repo_machine.specs.Plans.{PlannedLanding, RebasedLanding, IsPlan, WasPlanned, rebased_of}
 use Rattle.repo_machine.proofs.Renewed.{was_plan, was_plan_later}
 use Rattle.shared_repo.specs.Landing.{IsEarlier, IsMadeBefore, SeesMore}
@@ -62,7 +61,11 @@ made_before g h who name draft plan p s = record { planned = was_plan g h name d
 pub own_plan : (h : List Entry) (name : List ℕ) (draft : Id) (plan : PlannedLanding) → IsPlan h name draft plan → IsPlan h plan.name plan.draft plan
 own_plan h name draft plan p = subst (λ (t : List ℕ × Id). IsPlan h t.0 t.1 plan) (λ i. (sym p.names i, sym p.drafts i)) p
 
--- a plan that was refused
+-- want of memory outside of every turn
+pub after_memory : (header : Header) (h : List Entry) (who : ℕ) (ask : Ask) → After header h who (Asks ask) Memory h
+after_memory header h who ask = after_nothing header h h who (Asks ask) Memory (sees_nothing h who) refl
+
+-- a plan that was refused, in a turn of the seat `number`
 pub after_refusal : (header : Header) (old between new : List Entry) (who number : ℕ) (call : Call) (answer : Answer) → SeesMore old who between → number ≡ who → SeesMore between number new → Answers header new call answer nothing → After header old who call answer new
 after_refusal header old between new who number call answer s n t a = after_nothing header old new who call answer (sees_twice old between new who s (subst (λ (w : ℕ). SeesMore between w new) n t)) a
 

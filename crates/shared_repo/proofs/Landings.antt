@@ -1,5 +1,5 @@
 -- What an exchange answers.
-use Rattle.std.proofs.Common.{◌≡◌, ℕ, List, Option, None, Some, refl, sym, subst, inl, inr, ◌∙◌, append-nil}
+use Rattle.std.proofs.Common.{◌≡◌, ℕ, List, Some, refl, sym, subst, inl, inr, ◌∙◌, append-nil}
 use Rattle.std.specs.Prelude.{IsSome, MatchOption}
 use Rattle.byte_fields.specs.Bytes.{Id}
 use Rattle.history_model.specs.Bookmark.{head}

@@ -1,5 +1,5 @@
 -- A planned landing makes one entry at most.
-use Rattle.std.proofs.Common.{◌≡◌, ℕ, ◌+◌, ◌%◌, ◌^◌, arith, length, length-append, append-nil, List, [], ◌∷◌, ◌++◌, Bool, true, false, Option, None, Some, refl, sym, ◌∙◌, ap, inl, inr}
+use Rattle.std.proofs.Common.{◌≡◌, ℕ, ◌+◌, arith, length, length-append, append-nil, List, [], ◌∷◌, ◌++◌, Bool, true, false, Option, None, Some, refl, sym, ◌∙◌, ap, inl, inr}
 use Rattle.std.specs.Prelude.{◌⊎◌, ◌≢◌, MatchBool}
 use Rattle.history_model.specs.History.{Entry, Body, Fault}
 use Rattle.history_model.specs.Journal.{Header}

@@ -1,8 +1,7 @@
 -- A repository that seats share may be shared among threads where its disk may cross to another, and so may a seat.
 --     Each lemma is of one type by those of its parts, since one search through all of them runs out of steps.
 use denote.RattleType.{RattleType}
-use denote.Param.Send.{IsSend, IsSync, sendable, view_send, view_sync}
-use denote.Param.SendFields.{declared_send, declared_sync, as_row_send, as_row_sync}
+use denote.Param.Send.{IsSend, IsSync, sendable}
 use Rattle.std.proofs.Crossing as own
 use Rattle.std.proofs.MapsCrossing as maps
 use Rattle.blob_disk.specs.declared.disk.Disk as disks

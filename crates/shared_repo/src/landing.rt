@@ -34,7 +34,7 @@ impl<D: Disk> Repo<D> {
     /// bookmark's head has moved meanwhile it is made again, at most 99 times in all. After that one
     /// turn is kept from the plan to the entry, and no gate is passed. Each attempt after the first
     /// makes the plan of the one before again, which looks at what is new since then alone.
-    #[tactic(auto, using(crate::proofs::Fronts::sees_nothing, crate::proofs::Fronts::sees_twice, crate::proofs::Fronts::after_more, crate::proofs::Fronts::after_nothing))]
+    #[tactic(auto, using(crate::proofs::Fronts::sees_nothing, crate::proofs::Fronts::after_more, crate::proofs::Fronts::own_plan, crate::proofs::Fronts::made_before))]
     pub fn land<R: Wait, G: Gate>(
         &self,
         rt: &R,
@@ -64,6 +64,7 @@ impl<D: Disk> Repo<D> {
     }
 
     // The first turn of an attempt. There may be the plan of the attempt before.
+    #[tactic(auto, using(crate::proofs::Fronts::earlier_later))]
     fn plan<R: Wait>(
         &self,
         rt: &R,
@@ -85,7 +86,7 @@ impl<D: Disk> Repo<D> {
             rt,
             &mut seat.inner,
             |state: &mut RepoState<D>| -> (bool, Result<Plan, Refusal>)
-                requires { IsEarlier state.old.history name.entry.now draft earlier }
+                requires { IsEarlier state.old.history name.now draft earlier }
                 ensures same { state.new.history ≡ state.old.history }
                 ensures opening { state.new.opening ≡ state.old.opening }
                 ensures none { result.0 ≡ false }
@@ -97,6 +98,7 @@ impl<D: Disk> Repo<D> {
     }
 
     // The rest of an attempt: the landing's answer, or none where the head moved since the plan.
+    #[tactic(auto, using(crate::proofs::Fronts::after_memory, crate::proofs::Fronts::planned_here))]
     fn attempt<R: Wait, G: Gate>(
         &self,
         rt: &R,
@@ -112,10 +114,11 @@ impl<D: Disk> Repo<D> {
         ensures after { MatchOption result (SeesMore seat.old.front seat.old.number seat.new.front) (λ answer. After self.now.opening.header seat.old.front seat.old.number (Asks (LandDraft plan.now.name plan.now.draft)) (stored_answer answer) seat.new.front) }
         ensures front { IsFront self.now.opening seat.new.front }
     {
+        let who = seat.inner.number();
         let Ok(rebased) = plan.rebased(alloc) else {
             return Some(Err(ChangeFault::Refused(Refusal::Memory)));
         };
-        gate.between(seat.number(), attempt);
+        gate.between(who, attempt);
         self.exchange(rt, alloc, seat, rebased)
     }
 
@@ -148,6 +151,7 @@ impl<D: Disk> Repo<D> {
     }
 
     // The last attempt: the bookmark can't move from its plan to its entry.
+    #[tactic(auto, using(crate::proofs::Fronts::earlier_later))]
     fn land_in_one_turn<R: Wait>(
         &self,
         rt: &R,
@@ -168,7 +172,7 @@ impl<D: Disk> Repo<D> {
             rt,
             &mut seat.inner,
             |state: &mut RepoState<D>| -> (bool, Result<Granted, ChangeFault>)
-                requires { IsEarlier state.old.history name.entry.now draft earlier }
+                requires { IsEarlier state.old.history name.now draft earlier }
                 ensures reply { Replies state.old.opening.header state.old.history who (Asks (LandDraft name.entry.now draft)) (stored_answer result.1) state.new.history }
                 ensures turn { IsTurn history_of opening_of who state.old state.new result.0 }
                 ensures front { IsFront state.new.opening state.new.history }

@@ -1,6 +1,5 @@
 use Rattle.shared_repo.proofs.Made.{exchange_adds}
-use Rattle.std.proofs.Common.{subst, ap, sym, ◌∙◌, List, length}
-use Rattle.history_model.specs.History.{Entry}
+use Rattle.std.proofs.Common.{ap, sym, ◌∙◌, length}
 use Rattle.shared_repo.proofs.turns.exchange_in.Goals as goal
 
 pub returns-clause-turn : goal.returns-clause-turn
