@@ -16,7 +16,7 @@ use blob_disk::Disk;
 use object_id::Id;
 use ports::Gate;
 use repo_calls::{Ask, Granted, Refusal};
-use repo_machine::prepare;
+use repo_machine::{Prepared, prepare};
 use repo_path::BookName;
 use repo_state::RepoState;
 use seat_calls::ChangeFault;
@@ -108,10 +108,28 @@ impl<D: Disk> Repo<D> {
         ensures after { After self.now.opening.header seat.old.front seat.old.number (Asks (ask_seen ask.now)) (stored_answer result) seat.new.front }
         ensures front { IsFront self.now.opening seat.new.front }
     {
+        // What the seat has seen is legal.
+        let _ = &seat.inner;
+        match prepare(alloc, ask) {
+            Ok(prepared) => self.store_prepared(rt, alloc, seat, prepared),
+            Err(_) => Err(ChangeFault::Refused(Refusal::Memory)),
+        }
+    }
+
+    // The turn of a change that was made ready.
+    fn store_prepared<R: Wait>(
+        &self,
+        rt: &R,
+        alloc: Global,
+        seat: &mut RepoSeat,
+        prepared: Prepared,
+    ) -> Result<Granted, ChangeFault>
+        requires place { seat.old.lock ≡ self.now }
+        ensures seat { seat.new ≡ with_front seat.old seat.new.front }
+        ensures after { After self.now.opening.header seat.old.front seat.old.number (Asks prepared.entry) (stored_answer result) seat.new.front }
+        ensures front { IsFront self.now.opening seat.new.front }
+    {
         let who = seat.inner.number();
-        let Ok(prepared) = prepare(alloc, ask) else {
-            return Err(ChangeFault::Refused(Refusal::Memory));
-        };
         self.lock.enter(
             rt,
             &mut seat.inner,
