@@ -1,6 +1,6 @@
 -- Nodes of directories as they are gathered from the root down.
 use Rattle.std.proofs.Common.{◌≡◌, ◌⊎◌, inl, inr, ℕ, ◌<◌, Bool, true, false, cond, ◌&&◌, List, [], ◌∷◌, ◌++◌, length, refl, sym, ap, subst, ◌∙◌, arith, append_assoc, Bor}
-use Rattle.std.specs.Prelude.{Option, Some, None, option_map, is_some, bytes_eq, IfSome}
+use Rattle.std.specs.Prelude.{Option, Some, None, option_map, is_some, bytes_eq}
 use Rattle.std.specs.Option.{option_and_then, option_copied}
 use Rattle.std.specs.Ordering.{eq_by_cmp}
 use Rattle.std.specs.BTreeMap.{BTreeMap, get, Updates}

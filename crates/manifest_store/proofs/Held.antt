@@ -17,7 +17,7 @@ use Rattle.manifest_model.specs.Unode.{UnodeEntry, UnodeFile, UnodeDir, unode, u
 use Rattle.manifest_model.specs.NodeReading.{fsnode_of, unode_of}
 use Rattle.manifest_model.proofs.Links.{file_at-files}
 use Rattle.manifest_model.proofs.Nodes.{fsnode_is_read, unode_is_read}
-use Rattle.manifest_laws.specs.Changes.{AreClear, tree_at, files_in}
+use Rattle.manifest_laws.specs.Changes.{tree_at, files_in}
 use Rattle.manifest_laws.specs.Entries.{fs_entry_at, unode_entry_at}
 use Rattle.manifest_laws.proofs.Changes.{prefix_itself}
 use Rattle.manifest_laws.proofs.Flat.{strict_from, strict_under, file_under, dir_from}

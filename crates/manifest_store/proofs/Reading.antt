@@ -1,10 +1,9 @@
 -- What is read of a settled changeset is what the definitions say.
-use Rattle.std.proofs.Common.{◌≡◌, ℕ, ◌<◌, ◌≤◌, ◌^◌, Bool, true, false, not, cond, ◌||◌, List, [], ◌∷◌, length, map, reverse, refl, sym, ap, subst, ◌∙◌, arith}
+use Rattle.std.proofs.Common.{◌≡◌, ℕ, ◌<◌, ◌≤◌, Bool, true, false, not, cond, ◌||◌, List, [], ◌∷◌, length, map, reverse, refl, sym, ap, subst, ◌∙◌, arith}
 use Rattle.std.specs.Prelude.{Option, Some, None, is_some, option_map, bytes_eq, Result, Ok, Err}
 use Rattle.std.specs.List.{AllByRecursion}
 use Rattle.std.specs.Option.{option_and_then, option_map_or}
 use Rattle.std.specs.FinMap as map
-use mathlib.Core.Bool.{true≢false}
 use Rattle.std.proofs.lemmas.List.{length-reverse}
 use Rattle.byte_fields.specs.Bytes.{Id, is_bytes}
 use Rattle.changeset_model.specs.Path.{Path}
@@ -19,7 +18,7 @@ use Rattle.manifest_model.specs.FileHistory.{file_history}
 use Rattle.manifest_model.proofs.Links.{file_at-files, unode_made, was_there, tree_on-cons}
 use Rattle.manifest_model.proofs.Nodes.{unode_is_read}
 use Rattle.manifest_laws.specs.Changes.{tree_at, files_in}
-use Rattle.manifest_laws.proofs.Lists.{none_some, same_some}
+use Rattle.manifest_laws.proofs.Lists.{same_some}
 use Rattle.manifest_laws.proofs.Rules.{file_kept, found_has}
 use Rattle.unode.specs.Views.{file_in, file_of}
 use Rattle.unode.specs.History.{IsLine, HasLine, file_unodes}

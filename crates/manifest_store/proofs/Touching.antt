@@ -1,17 +1,17 @@
 -- The directories above edits, as the edits are gone through; and what a job has of its parent.
 use Rattle.std.proofs.Common.{◌≡◌, ◌⊎◌, inl, inr, ℕ, suc, ◌<◌, ◌≤◌, ◌+◌, Bool, true, false, not, cond, ◌&&◌, ◌||◌, ◌==◌, List, [], ◌∷◌, ◌++◌, length, drop, drop-cons, get_or, refl, sym, ap, subst, ◌∙◌, arith, Bor}
-use Rattle.std.specs.Prelude.{Option, Some, None, is_some, option_map, MatchOption, IfSome, nat_lt}
+use Rattle.std.specs.Prelude.{Option, Some, None, is_some, MatchOption, IfSome, nat_lt}
 use Rattle.std.specs.List.{list_any}
 use Rattle.std.specs.Option.{option_and_then, option_map_or, option_copied}
 use Rattle.std.specs.FinMap as map
 use Rattle.std.specs.Arc.{arc_value}
 use mathlib.Core.Bool.{true≢false}
 use Rattle.std.proofs.lemmas.Bool.{and_parts, ne_eqb, ltb-true}
-use Rattle.std.proofs.lemmas.List.{length-append, drop_all}
-use Rattle.changeset_model.specs.Path.{Path, elements, is_prefix, is_strict_prefix}
+use Rattle.std.proofs.lemmas.List.{drop_all}
+use Rattle.changeset_model.specs.Path.{Path, is_prefix, is_strict_prefix}
 use Rattle.changeset_model.specs.Changeset.{FileChange}
 use Rattle.bonsai.specs.declared.edit.Edit.{Edit}
-use Rattle.bonsai.specs.View.{edit_view, edits_view}
+use Rattle.bonsai.specs.View.{edits_view}
 use Rattle.history_model.specs.History.{Known}
 use Rattle.manifest_model.specs.Unode.{is_renewed}
 use Rattle.manifest_laws.proofs.Lists.{or_either, same_some}
@@ -19,7 +19,6 @@ use Rattle.node_table.specs.Table.{Nodes, Table, is_settled}
 use Rattle.node_table.specs.declared.roots.Roots.{Roots}
 use Rattle.changeset_store.specs.Store.{known_at, changeset_at, parent_at}
 use Rattle.changeset_store.proofs.Places.{known_at-changeset}
-use Rattle.derive_step.specs.declared.job.DirNodes.{DirNodes}
 use Rattle.derive_step.specs.declared.job.Parent.{Parent}
 use Rattle.derive_step.specs.declared.job.Job.{Job}
 use Rattle.derive_step.specs.Touched.{is_above}
@@ -28,7 +27,7 @@ use Rattle.derive_step.specs.Jobs.{IsRight, IsJobOf, nodes_on, roots_on}
 use Rattle.manifest_store.specs.Lines.{line_at}
 use Rattle.manifest_store.specs.Manifests.{AreManifests, HoldsAll}
 use Rattle.manifest_store.specs.Nodes.{dir_under, dir_from}
-use Rattle.manifest_store.specs.Dirs.{found, IsFull, IsMore, AreFull}
+use Rattle.manifest_store.specs.Dirs.{IsFull, IsMore}
 use Rattle.manifest_store.specs.Parents.{root_in, IsParentIn, IsParentOf}
 use Rattle.manifest_store.specs.Jobs.{IsJobOn, is_ready}
 use Rattle.manifest_store.proofs.Lines.{line_step, own_id}

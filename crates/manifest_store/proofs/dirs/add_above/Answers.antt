@@ -1,4 +1,4 @@
-use Rattle.std.proofs.Common.{◌≡◌, ◌<◌, ◌++◌, ◌∷◌, [], length, ap, sym, subst, ◌∙◌}
+use Rattle.std.proofs.Common.{◌≡◌, ◌++◌, ◌∷◌, [], ap, sym, subst, ◌∙◌}
 use Rattle.changeset_model.specs.Path.{elements, is_path}
 use Rattle.manifest_laws.proofs.Unodes.{prefix_self}
 use Rattle.derive_step.specs.Views.{before_seen}

@@ -1,4 +1,4 @@
-use Rattle.std.proofs.Common.{List, ℕ, sym, ap, ◌∙◌}
+use Rattle.std.proofs.Common.{sym, ap, ◌∙◌}
 use Rattle.changeset_model.specs.Path.{elements, is_path}
 use Rattle.repo_path.proofs.Elements.{some_elements}
 use Rattle.derive_step.specs.Views.{before_seen}

@@ -1,6 +1,6 @@
-use Rattle.std.proofs.Common.{◌≡◌, ap}
-use Rattle.std.specs.Prelude.{Option, None, option_map}
-use Rattle.derive_step.specs.Views.{Before, before_seen}
+use Rattle.std.proofs.Common.{ap}
+use Rattle.std.specs.Prelude.{option_map}
+use Rattle.derive_step.specs.Views.{before_seen}
 use Rattle.derive_step.specs.Renewal.{before_of}
 use Rattle.manifest_store.specs.Reads.{dir_of}
 use Rattle.manifest_store.proofs.Gathered.{full_none, not_there, are_after, more_after, full_after, there_after}

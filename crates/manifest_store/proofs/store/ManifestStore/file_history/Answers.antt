@@ -1,7 +1,5 @@
-use Rattle.std.proofs.Common.{◌≡◌, true, false, Some, List, sym, ap, subst, ◌∙◌}
+use Rattle.std.proofs.Common.{◌≡◌, true, Some, sym, ap, subst, ◌∙◌}
 use Rattle.std.specs.Prelude.{option_map}
-use Rattle.std.specs.FinMap as map
-use Rattle.history_model.specs.History.{Known}
 use Rattle.node_table.specs.Table.{Table, is_settled}
 use Rattle.unode.specs.Parts.{entry_seen}
 use Rattle.manifest_store.specs.Manifests.{AreManifests}
@@ -17,7 +15,7 @@ returns-in_default-2-clause-absent c = λ ks are.
     past_none ks c.self.inside.table a c.args.number settled c.in-Some.roots (sym c.in-Some.is ∙ c.roots.ensures.value) c.args.path.now (sym (ap (option_map entry_seen) c.in_default-2.is) ∙ c.in_ok-entry.ensures)
 
 pub file_history-requires : goal.file_history-requires
-file_history-requires c = 
+file_history-requires c =
     let ks = c.requires.manifests.0 in
     let are = c.requires.manifests.1 in
     let a : AreManifests ks c.self.inside.table = subst (AreManifests ks) (sym c.self.view_is) are in

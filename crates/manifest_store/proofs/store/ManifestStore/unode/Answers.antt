@@ -1,7 +1,6 @@
-use Rattle.std.proofs.Common.{◌≡◌, true, false, Some, List, sym, ap, subst, ◌∙◌}
+use Rattle.std.proofs.Common.{◌≡◌, true, sym, ap, subst, ◌∙◌}
 use Rattle.std.specs.Prelude.{option_map}
 use Rattle.std.specs.FinMap as map
-use Rattle.history_model.specs.History.{Known}
 use Rattle.node_table.specs.Table.{Table, is_settled}
 use Rattle.unode.specs.Parts.{entry_seen}
 use Rattle.manifest_store.specs.Manifests.{AreManifests}
@@ -16,7 +15,7 @@ returns-in_default-2-clause-absent c = λ ks are.
     un_none ks c.self.inside.table a c.args.number settled c.in-Some.roots (sym c.in-Some.is ∙ c.roots.ensures.value) (dir_of c.args.path) (sym (ap (option_map entry_seen) c.in_default-2.is) ∙ c.in_ok-entry.ensures)
 
 pub bytes_of-requires : goal.bytes_of-requires
-bytes_of-requires c = 
+bytes_of-requires c =
     let ks = c.requires.manifests.0 in
     let are = c.requires.manifests.1 in
     let a : AreManifests ks c.self.inside.table = subst (AreManifests ks) (sym c.self.view_is) are in
