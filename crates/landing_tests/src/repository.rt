@@ -34,22 +34,36 @@ pub(crate) fn make_changes(
 ) -> Result<(), Fail> {
     for line in script.lines() {
         let (word, rest) = line.split_once(" ").ok_or("a line")?;
-        let bytes = hex::decode(alloc, if word == "change" { rest } else { "" })?;
-        let ask = match word {
-            "content" => Ask::PutContent(rest.as_bytes()),
-            "change" => Ask::PutChangeset(bytes.as_slice()),
-            _ => Ask::SetBookmark {
-                name: main,
-                from: None,
-                to: id(rest),
-            },
-        };
-        make_change(alloc, state, &ask)?;
+        make_change(alloc, state, main, word, rest)?;
     }
     Ok(())
 }
 
-fn make_change(alloc: Global, state: &mut RepoState<MemDisk>, ask: &Ask) -> Result<(), Fail> {
+fn make_change(
+    alloc: Global,
+    state: &mut RepoState<MemDisk>,
+    main: &BookName,
+    word: &str,
+    rest: &str,
+) -> Result<(), Fail> {
+    match word {
+        "content" => store(alloc, state, &Ask::PutContent(rest.as_bytes())),
+        "change" => {
+            let bytes = hex::decode(alloc, rest)?;
+            store(alloc, state, &Ask::PutChangeset(bytes.as_slice()))
+        }
+        _ => {
+            let ask = Ask::SetBookmark {
+                name: main,
+                from: None,
+                to: id(rest),
+            };
+            store(alloc, state, &ask)
+        }
+    }
+}
+
+fn store(alloc: Global, state: &mut RepoState<MemDisk>, ask: &Ask) -> Result<(), Fail> {
     match state.store(alloc, 2, ask) {
         Ok(_) => Ok(()),
         Err(_) => Err(Fail::from("a change")),
