@@ -135,13 +135,7 @@ fn put_fault(buffer: &mut ResponseBuffer, fault: AskFault, form: ResponseForm)
     }
 }
 
-fn put_coded_id(
-    buffer: &mut ResponseBuffer,
-    status: Status,
-    code: &str,
-    id: Id,
-    form: ResponseForm,
-)
+fn put_coded_id(buffer: &mut ResponseBuffer, status: Status, code: &str, id: Id, form: ResponseForm)
     requires { length code.now ≤ 64 }
     ensures { buffer.new ≡ text_of (json status (coded_id code.now id)) form.close form.head_only }
 {

@@ -13,7 +13,8 @@ const ABC: &str = "ba7816bf8f01cfea414140de5dae2223b00361a396177a9cb410ff61f2001
 
 const NIL: &str = "e3b0c44298fc1c149afbf4c8996fb92427ae41e4649b934ca495991b7852b855";
 
-const ROWS: &str = r#"GET /content/ABC | 500 Internal Server Error | {"code":"bad-bytes","found":"NIL","wanted":"ABC"}
+const ROWS: &str =
+    r#"GET /content/ABC | 500 Internal Server Error | {"code":"bad-bytes","found":"NIL","wanted":"ABC"}
 PUT /content | 503 Service Unavailable | {"code":"memory"}
 GET /fsnode/ABC | 200 OK | fsnode
 GET /fsnode/ABC/a/b | 200 OK | fsnode a/b
