@@ -33,24 +33,28 @@ fn answer_call<T: Seat>(
         Call::PutContent(bytes) => change(alloc, seat, buffer, &Ask::PutContent(bytes), form),
         Call::PutChangeset(bytes) => change(alloc, seat, buffer, &Ask::PutChangeset(bytes), form),
         Call::SetBookmark { name, from, to } => {
-            let ask = Ask::SetBookmark {
-                name,
-                from: *from,
-                to: *to,
-            };
+            let (from, to) = (*from, *to);
+            let ask = Ask::SetBookmark { name, from, to };
             change(alloc, seat, buffer, &ask, form)
         }
         Call::Land { name, draft } => {
-            let ask = Ask::Land {
-                name,
-                draft: *draft,
-            };
+            let draft = *draft;
+            let ask = Ask::Land { name, draft };
             change(alloc, seat, buffer, &ask, form)
         }
         Call::Head(name) => look(alloc, seat, buffer, &Question::Head(name), form),
         Call::Content(id) => look(alloc, seat, buffer, &Question::Content(*id), form),
         Call::Changeset(id) => look(alloc, seat, buffer, &Question::Changeset(*id), form),
         Call::Log { from } => look(alloc, seat, buffer, &Question::Log(*from), form),
+        Call::Fsnode(id, dir) => {
+            let question = Question::Fsnode(*id, dir.as_ref());
+            look(alloc, seat, buffer, &question, form)
+        }
+        Call::Unode(id, path) => {
+            let question = Question::Unode(*id, path.as_ref());
+            look(alloc, seat, buffer, &question, form)
+        }
+        Call::History(id, path) => look(alloc, seat, buffer, &Question::History(*id, path), form),
     }
 }
 

@@ -6,18 +6,22 @@ ghost use Rattle.http_model.specs.Head.{path_of};
 ghost use Rattle.session_model.specs.Methods.{method_text};
 ghost use Rattle.session_model.specs.Routes.{is_target, route_of};
 ghost use Rattle.session_model.specs.Asking.{asked as what_is_asked, by_route};
-ghost use Rattle.routes.specs.Taken.{taken, route_taken, Takes};
+ghost use Rattle.session_model.specs.Parameters as model;
+ghost use Rattle.matchit.specs.Params.{named, AllText};
+ghost use Rattle.routes.specs.Taken.{taken, part_of, route_taken, Takes};
 ghost use Rattle.routes.specs.Failed.{Reads};
-ghost use Rattle.routes.specs.Memory.{TakesMemory};
+ghost use Rattle.routes.specs.Memory.{HasEscape, TakesMemory};
 ghost use Rattle.routes.specs.Asked.{Asks, call_seen};
 
-use crate::parameters::{id_parameter, maybe_id_parameter, name_parameter, number_parameter};
+use crate::parameters::{
+    id_parameter, maybe_id_parameter, name_parameter, number_parameter, path_parameter,
+};
 use crate::route_refusal::RouteRefusal;
 use crate::router::{Routes, part};
 use http_wire::Request;
 use matchit::Params;
 use object_id::Id;
-use repo_path::BookName;
+use repo_path::{BookName, RepoPath};
 use session_model::{Method, RouteName};
 use std::alloc::Global;
 use std::str;
@@ -50,6 +54,12 @@ pub enum Call<'a> {
     Log {
         from: u64,
     },
+    /// The fsnode of a directory in a changeset's tree, of its root where there is no path.
+    Fsnode(Id, Option<RepoPath>),
+    /// The unode of a file or a directory in a changeset's tree, of its root where there is no path.
+    Unode(Id, Option<RepoPath>),
+    /// The history of a file in a changeset's tree.
+    History(Id, RepoPath),
 }
 
 fn begins_with_slash(path: &[u8]) -> bool
@@ -75,6 +85,25 @@ fn has_method(request: &Request, method: Method) -> bool
     request.method.as_str() == method.text()
 }
 
+// The id in a path.
+fn id_from(alloc: Global, params: &Params<'_, '_>) -> Result<Id, RouteRefusal>
+    requires text { AllText (taken params.now) }
+    requires there { IsSome (named (codes "id") (taken params.now)) }
+    ensures id { Reads (λ id. id) result (model.id_parameter (part_of (taken params.now) (codes "id"))) }
+    ensures memory { IsErrOf result RouteRefusal.Memory → HasEscape (part_of (taken params.now) (codes "id")) }
+{
+    id_parameter(alloc, part(params, "id"))
+}
+
+// What takes the rest of a path.
+fn path_from(alloc: Global, params: &Params<'_, '_>) -> Result<RepoPath, RouteRefusal>
+    requires text { AllText (taken params.now) }
+    requires there { IsSome (named (codes "path") (taken params.now)) }
+    ensures { Reads (λ path. path) result (model.path_parameter (part_of (taken params.now) (codes "path"))) }
+{
+    path_parameter(alloc, part(params, "path"))
+}
+
 // What a route asks for, which was asked by its method.
 fn call_from<'a>(
     alloc: Global,
@@ -88,9 +117,9 @@ fn call_from<'a>(
 {
     Ok(match name {
         RouteName::Contents => Call::PutContent(body),
-        RouteName::Content => Call::Content(id_parameter(alloc, part(params, "id"))?),
+        RouteName::Content => Call::Content(id_from(alloc, params)?),
         RouteName::Changesets => Call::PutChangeset(body),
-        RouteName::Changeset => Call::Changeset(id_parameter(alloc, part(params, "id"))?),
+        RouteName::Changeset => Call::Changeset(id_from(alloc, params)?),
         RouteName::Head => Call::Head(name_parameter(alloc, part(params, "name"))?),
         RouteName::Move => Call::SetBookmark {
             name: name_parameter(alloc, part(params, "name"))?,
@@ -99,11 +128,16 @@ fn call_from<'a>(
         },
         RouteName::Land => Call::Land {
             name: name_parameter(alloc, part(params, "name"))?,
-            draft: id_parameter(alloc, part(params, "id"))?,
+            draft: id_from(alloc, params)?,
         },
         RouteName::Log => Call::Log {
             from: number_parameter(alloc, part(params, "from"))?,
         },
+        RouteName::RootFsnode => Call::Fsnode(id_from(alloc, params)?, None),
+        RouteName::Fsnode => Call::Fsnode(id_from(alloc, params)?, Some(path_from(alloc, params)?)),
+        RouteName::RootUnode => Call::Unode(id_from(alloc, params)?, None),
+        RouteName::Unode => Call::Unode(id_from(alloc, params)?, Some(path_from(alloc, params)?)),
+        RouteName::History => Call::History(id_from(alloc, params)?, path_from(alloc, params)?),
     })
 }
 

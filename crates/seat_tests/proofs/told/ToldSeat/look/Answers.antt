@@ -1,0 +1,33 @@
+use Rattle.std.proofs.Common.{Result, Ok, Err, refl}
+use Rattle.std.specs.Result.{IsErr}
+use Rattle.reply_model.specs.After.{Answer, Call, Looks}
+use Rattle.seat_calls.specs.declared.calls.AskFault.{AskFault}
+use Rattle.seat_calls.specs.declared.calls.AskFault.TheVariants.{NoContent, NoChangeset, NoPath, NotADir, NotAFile, Collision, ReadFault, BadBytes, Memory}
+use Rattle.seat_calls.specs.declared.calls.Seen.{Seen}
+use Rattle.seat_calls.specs.Asking.{fault_answer, IsAnswer, question_seen}
+use Rattle.seat_tests.specs.Told.{IsTold}
+use Rattle.seat_tests.proofs.told.ToldSeat.look.Goals as goal
+
+is_told : (call : Call) (fault : AskFault) → IsTold call (fault_answer fault)
+is_told call (NoContent id) = tt
+is_told call (NoChangeset id) = tt
+is_told call NoPath = tt
+is_told call NotADir = tt
+is_told call NotAFile = tt
+is_told call (Collision id) = tt
+is_told call ReadFault = tt
+is_told call (BadBytes wanted found) = tt
+is_told call Memory = tt
+
+told : (call : Call) (r : Result Seen AskFault) → IsErr r → (answer : Answer) × IsAnswer r answer × IsTold call answer
+told call (Ok seen) none = absurd (cc)
+told call (Err fault) some = (fault_answer fault, refl, is_told call fault)
+
+pub returns-in_err-node-in-Fsnode-clause-reply : goal.returns-in_err-node-in-Fsnode-clause-reply
+returns-in_err-node-in-Fsnode-clause-reply c = told (Looks (question_seen c.args.question.now)) c.from_residual.result c.from_residual.ensures.0
+
+pub returns-in_err-node-in-Unode-clause-reply : goal.returns-in_err-node-in-Unode-clause-reply
+returns-in_err-node-in-Unode-clause-reply c = told (Looks (question_seen c.args.question.now)) c.from_residual-in_err-node-in-Unode.result c.from_residual-in_err-node-in-Unode.ensures.0
+
+pub returns-in_err-history-in-History-clause-reply : goal.returns-in_err-history-in-History-clause-reply
+returns-in_err-history-in-History-clause-reply c = told (Looks (question_seen c.args.question.now)) c.from_residual-in_err-history-in-History.result c.from_residual-in_err-history-in-History.ensures.0
