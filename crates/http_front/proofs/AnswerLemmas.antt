@@ -5,7 +5,7 @@ use Rattle.history_model.specs.History.{Entry}
 use Rattle.history_model.specs.Journal.{Header}
 use Rattle.reply_model.specs.Reply as reply
 use Rattle.reply_model.specs.Log.{LogLine, line_of, lines_of}
-use Rattle.reply_model.specs.After.{Answer, Asks, Looks, Shows, Memory}
+use Rattle.reply_model.specs.After.{Relation, Answer, Asks, Looks, Shows, Memory}
 use Rattle.repo_calls.specs.declared.log.LogEntry.{LogEntry}
 use Rattle.repo_calls.specs.declared.refusal.Refusal as calls
 use Rattle.repo_calls.specs.declared.refusal.Refusal.TheVariants as refusals
@@ -16,20 +16,22 @@ use Rattle.seat_calls.specs.declared.calls.Question.TheVariants as questions
 use Rattle.seat_calls.specs.declared.calls.Seen.{Seen}
 use Rattle.seat_calls.specs.declared.calls.Seen.TheVariants as seen
 use Rattle.seat_calls.specs.Asking.{fault_answer, question_seen, IsAnswer}
+use Rattle.seat_calls.specs.Replying as replying
 use Rattle.seat_calls.specs.Replying.{MakesNothing, Shown, IsReplying}
 use Rattle.session_model.specs.declared.status.Status.TheVariants.{Fine}
 use Rattle.session_model.specs.Responses.{Response, text_of}
-use Rattle.session_model.specs.Bodies.{json, log_body, memory}
+use Rattle.session_model.specs.Bodies.{json, octets, log_body, memory}
 use Rattle.http_model.specs.Stream.{Request, is_head_only}
 use Rattle.session_model.specs.Asking as model
 use Rattle.session_model.specs.Asking.{Asked, asked, change_response, read_response}
-use Rattle.session_model.specs.Session.{Relation, Answers, AnswersAsked}
+use Rattle.session_model.specs.Session.{Answers, AnswersAsked}
 use Rattle.routes.specs.declared.route_refusal.RouteRefusal.{RouteRefusal}
 use Rattle.routes.specs.declared.route_refusal.RouteRefusal.TheVariants as route_refusals
 use Rattle.routes.specs.Failed.{failed, unless_memory}
 use Rattle.repo_text.specs.Refusing.{response_to}
 use Rattle.repo_text.proofs.Answered.{change_response-refused}
 use Rattle.http_front.specs.Answered.{Replied, AnswersFor}
+use Rattle.http_front.specs.Reading as reading
 use Rattle.http_front.specs.Reading.{seen_response, Suits}
 
 -- a refusal makes nothing
@@ -70,38 +72,70 @@ page_suits lines entries most same few =
     omega arith
 
 -- what is seen is what was asked for
+suits_head : (s : Seen) (answer : Answer) → IsAnswer (Ok s) answer → ((x : reply.Seen) → answer ≡ Shows x → replying.IsHead x) → reading.IsHead s
+suits_head (seen.Head head) answer is shown = tt
+suits_head (seen.Bytes bytes) answer is shown = shown (reply.SeenBytes bytes.items) is
+suits_head (seen.Log page) answer is shown = shown (reply.SeenLog is.0 page.total) is.1
+suits_head (seen.Ids ids) answer is shown = shown (reply.SeenIds ids.items) is
+
+suits_bytes : (s : Seen) (answer : Answer) → IsAnswer (Ok s) answer → ((x : reply.Seen) → answer ≡ Shows x → replying.AreBytes x) → reading.AreBytes s
+suits_bytes (seen.Head head) answer is shown = shown (reply.SeenHead head) is
+suits_bytes (seen.Bytes bytes) answer is shown = tt
+suits_bytes (seen.Log page) answer is shown = shown (reply.SeenLog is.0 page.total) is.1
+suits_bytes (seen.Ids ids) answer is shown = shown (reply.SeenIds ids.items) is
+
+suits_page : (from : ℕ) (s : Seen) (answer : Answer) → IsAnswer (Ok s) answer → ((x : reply.Seen) → answer ≡ Shows x → replying.IsPageFrom from x) → reading.IsPageFrom from s
+suits_page from (seen.Head head) answer is shown = shown (reply.SeenHead head) is
+suits_page from (seen.Bytes bytes) answer is shown = shown (reply.SeenBytes bytes.items) is
+suits_page from (seen.Log page) answer is shown = page_suits page.entries.items is.0 (page.total - from) is.2 (shown (reply.SeenLog is.0 page.total) is.1)
+suits_page from (seen.Ids ids) answer is shown = shown (reply.SeenIds ids.items) is
+
+suits_ids : (s : Seen) (answer : Answer) → IsAnswer (Ok s) answer → ((x : reply.Seen) → answer ≡ Shows x → replying.AreIds x) → reading.AreIds s
+suits_ids (seen.Head head) answer is shown = shown (reply.SeenHead head) is
+suits_ids (seen.Bytes bytes) answer is shown = shown (reply.SeenBytes bytes.items) is
+suits_ids (seen.Log page) answer is shown = shown (reply.SeenLog is.0 page.total) is.1
+suits_ids (seen.Ids ids) answer is shown = tt
+
 suits : (question : Question) (s : Seen) (answer : Answer) → IsAnswer (Ok s) answer → ((x : reply.Seen) → answer ≡ Shows x → Shown (question_seen question) x) → Suits question s
-suits (questions.Head name) (seen.Head head) answer is shown = shown (reply.SeenHead head) is
-suits (questions.Head name) (seen.Bytes bytes) answer is shown = shown (reply.SeenBytes bytes.items) is
-suits (questions.Head name) (seen.Log page) answer is shown = shown (reply.SeenLog is.0 page.total) is.1
-suits (questions.Content id) (seen.Head head) answer is shown = shown (reply.SeenHead head) is
-suits (questions.Content id) (seen.Bytes bytes) answer is shown = shown (reply.SeenBytes bytes.items) is
-suits (questions.Content id) (seen.Log page) answer is shown = shown (reply.SeenLog is.0 page.total) is.1
-suits (questions.Changeset id) (seen.Head head) answer is shown = shown (reply.SeenHead head) is
-suits (questions.Changeset id) (seen.Bytes bytes) answer is shown = shown (reply.SeenBytes bytes.items) is
-suits (questions.Changeset id) (seen.Log page) answer is shown = shown (reply.SeenLog is.0 page.total) is.1
-suits (questions.Log from) (seen.Head head) answer is shown = shown (reply.SeenHead head) is
-suits (questions.Log from) (seen.Bytes bytes) answer is shown = shown (reply.SeenBytes bytes.items) is
-suits (questions.Log from) (seen.Log page) answer is shown = page_suits page.entries.items is.0 (page.total - from) is.2 (shown (reply.SeenLog is.0 page.total) is.1)
+suits (questions.Head name) s answer is shown = suits_head s answer is shown
+suits (questions.Content id) s answer is shown = suits_bytes s answer is shown
+suits (questions.Changeset id) s answer is shown = suits_bytes s answer is shown
+suits (questions.Log from) s answer is shown = suits_page from s answer is shown
+suits (questions.Fsnode id dir) s answer is shown = suits_bytes s answer is shown
+suits (questions.Unode id path) s answer is shown = suits_bytes s answer is shown
+suits (questions.History id path) s answer is shown = suits_ids s answer is shown
+
+-- a read that is answered by bytes as they are
+answers_bytes : (question : Question) (s : Seen) (answer : Answer) → ((bytes : List ℕ) → read_response (question_seen question) (Shows (reply.SeenBytes bytes)) ≡ octets bytes)
+    → IsAnswer (Ok s) answer → reading.AreBytes s → read_response (question_seen question) answer ≡ seen_response question s
+answers_bytes question (seen.Head head) answer as_octets is suits = absurd suits
+answers_bytes question (seen.Bytes bytes) answer as_octets is suits = ap (read_response (question_seen question)) is ∙ as_octets bytes.items
+answers_bytes question (seen.Log page) answer as_octets is suits = absurd suits
+answers_bytes question (seen.Ids ids) answer as_octets is suits = absurd suits
 
 response_is : (question : Question) (s : Seen) (answer : Answer) → IsAnswer (Ok s) answer → Suits question s → read_response (question_seen question) answer ≡ seen_response question s
 response_is (questions.Head name) (seen.Head head) answer is suits = ap (read_response (question_seen (questions.Head name))) is
 response_is (questions.Head name) (seen.Bytes bytes) answer is suits = absurd suits
 response_is (questions.Head name) (seen.Log page) answer is suits = absurd suits
-response_is (questions.Content id) (seen.Head head) answer is suits = ap (read_response (question_seen (questions.Content id))) is
-response_is (questions.Content id) (seen.Bytes bytes) answer is suits = ap (read_response (question_seen (questions.Content id))) is
-response_is (questions.Content id) (seen.Log page) answer is suits = absurd suits
-response_is (questions.Changeset id) (seen.Head head) answer is suits = ap (read_response (question_seen (questions.Changeset id))) is
-response_is (questions.Changeset id) (seen.Bytes bytes) answer is suits = ap (read_response (question_seen (questions.Changeset id))) is
-response_is (questions.Changeset id) (seen.Log page) answer is suits = absurd suits
-response_is (questions.Log from) (seen.Head head) answer is suits = ap (read_response (question_seen (questions.Log from))) is
+response_is (questions.Head name) (seen.Ids ids) answer is suits = absurd suits
+response_is (questions.Content id) s answer is suits = answers_bytes (questions.Content id) s answer (λ bytes. refl) is suits
+response_is (questions.Changeset id) s answer is suits = answers_bytes (questions.Changeset id) s answer (λ bytes. refl) is suits
+response_is (questions.Log from) (seen.Head head) answer is suits = absurd suits
 response_is (questions.Log from) (seen.Bytes bytes) answer is suits = absurd suits
 response_is (questions.Log from) (seen.Log page) answer is suits = ap (read_response (question_seen (questions.Log from))) is.1 ∙ ap (λ lines. json Fine (log_body from lines page.total)) (sym is.2)
+response_is (questions.Log from) (seen.Ids ids) answer is suits = absurd suits
+response_is (questions.Fsnode id dir) s answer is suits = answers_bytes (questions.Fsnode id dir) s answer (λ bytes. refl) is suits
+response_is (questions.Unode id path) s answer is suits = answers_bytes (questions.Unode id path) s answer (λ bytes. refl) is suits
+response_is (questions.History id path) (seen.Head head) answer is suits = absurd suits
+response_is (questions.History id path) (seen.Bytes bytes) answer is suits = absurd suits
+response_is (questions.History id path) (seen.Log page) answer is suits = absurd suits
+response_is (questions.History id path) (seen.Ids ids) answer is suits = ap (read_response (question_seen (questions.History id path))) is
 
 shows_nothing : (s : Seen) (answer : Answer) → IsAnswer (Ok s) answer → MakesNothing answer
 shows_nothing (seen.Head head) answer is = subst MakesNothing (sym is) tt
 shows_nothing (seen.Bytes bytes) answer is = subst MakesNothing (sym is) tt
 shows_nothing (seen.Log page) answer is = subst MakesNothing (sym is.1) tt
+shows_nothing (seen.Ids ids) answer is = subst MakesNothing (sym is) tt
 
 module _ (replies : Relation) (lawful : IsReplying replies) (header : Header) (h : List Entry) (who : ℕ) (after : List Entry) where
   -- a change that is refused is answered by its refusal, or by want of memory
@@ -159,5 +193,6 @@ module _ (replies : Relation) (header : Header) (h : List Entry) (who : ℕ) whe
   route_refusal_answers q (route_refusals.Method m) text asks e = fails_by q (failed (route_refusals.Method m)) text asks e
   route_refusal_answers q (route_refusals.BadName at) text asks e = fails_by q (failed (route_refusals.BadName at)) text asks e
   route_refusal_answers q (route_refusals.BadId at) text asks e = fails_by q (failed (route_refusals.BadId at)) text asks e
+  route_refusal_answers q (route_refusals.BadPath at) text asks e = fails_by q (failed (route_refusals.BadPath at)) text asks e
   route_refusal_answers q route_refusals.BadNumber text asks e = fails_by q (failed route_refusals.BadNumber) text asks e
   route_refusal_answers q route_refusals.Memory text asks e = inr (record { same = refl; text = e })

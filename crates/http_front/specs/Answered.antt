@@ -5,10 +5,9 @@ use Rattle.std.specs.Prelude.{◌≡◌, ℕ, Bool, List}
 use Rattle.history_model.specs.History.{Entry}
 use Rattle.history_model.specs.Journal.{Header}
 use Rattle.reply_model.specs.After as after_call
-use Rattle.reply_model.specs.After.{Answer, Call, Asks}
+use Rattle.reply_model.specs.After.{Relation, Answer, Call, Asks}
 use Rattle.session_model.specs.Responses.{Response, text_of}
 use Rattle.session_model.specs.Asking.{Asked, Changes, Looks, Fails, change_response, read_response}
-use Rattle.session_model.specs.Session.{Relation}
 
 pub record Replied (replies : Relation) (header : Header) (who : ℕ) (h : List Entry) (call : Call) (respond : Answer → Response) (close head_only : Bool) (out : List ℕ) (after : List Entry) : Type 0 where
   pub answer : Answer

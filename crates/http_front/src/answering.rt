@@ -51,6 +51,13 @@ fn answer_call<T: Seat>(
         Call::Content(id) => look(alloc, seat, buffer, &Question::Content(*id), form),
         Call::Changeset(id) => look(alloc, seat, buffer, &Question::Changeset(*id), form),
         Call::Log { from } => look(alloc, seat, buffer, &Question::Log(*from), form),
+        Call::Fsnode(id, dir) => {
+            look(alloc, seat, buffer, &Question::Fsnode(*id, dir.as_ref()), form)
+        }
+        Call::Unode(id, path) => {
+            look(alloc, seat, buffer, &Question::Unode(*id, path.as_ref()), form)
+        }
+        Call::History(id, path) => look(alloc, seat, buffer, &Question::History(*id, path), form),
     }
 }
 

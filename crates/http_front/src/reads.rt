@@ -14,6 +14,7 @@ ghost use Rattle.http_front.specs.Reading.{seen_response, Suits};
 use crate::response_buffer::{ResponseBuffer, ResponseForm};
 use object_id::Id;
 use repo_path::BookName;
+use repo_text::history::history_body;
 use repo_text::log::log_body;
 use repo_text::{Body, Media};
 use seat_calls::{AskFault, Question, Seat, Seen};
@@ -83,6 +84,10 @@ fn try_put_seen(
             let body = log_body(alloc, *from, page.entries.as_slice(), page.total)?;
             buffer.put_large(Status::Fine, Media::Json, body.as_bytes(), form)
         }
+        Seen::Ids(ids) => {
+            let body = history_body(alloc, ids.as_slice())?;
+            buffer.put_large(Status::Fine, Media::Json, body.as_slice(), form)
+        }
     }
 }
 
@@ -104,8 +109,18 @@ fn put_fault(buffer: &mut ResponseBuffer, fault: AskFault, form: ResponseForm)
     ensures { (question : reply.Question) → buffer.new ≡ text_of (read_response question (fault_answer fault)) form.close form.head_only }
 {
     match fault {
-        AskFault::NoContent { id } => put_absent(buffer, "no-content", id, form),
-        AskFault::NoChangeset { id } => put_absent(buffer, "no-changeset", id, form),
+        AskFault::NoContent { id } => {
+            put_coded_id(buffer, Status::NotFound, "no-content", id, form)
+        }
+        AskFault::NoChangeset { id } => {
+            put_coded_id(buffer, Status::NotFound, "no-changeset", id, form)
+        }
+        AskFault::NoPath => buffer.put_code(Status::NotFound, "no-path", None, form),
+        AskFault::NotADir => buffer.put_code(Status::NotFound, "not-a-dir", None, form),
+        AskFault::NotAFile => buffer.put_code(Status::NotFound, "not-a-file", None, form),
+        AskFault::Collision { id } => {
+            put_coded_id(buffer, Status::Conflict, "collision", id, form)
+        }
         AskFault::ReadFault => buffer.put_code(
             Status::InternalServerError,
             "read-fault",
@@ -120,9 +135,15 @@ fn put_fault(buffer: &mut ResponseBuffer, fault: AskFault, form: ResponseForm)
     }
 }
 
-fn put_absent(buffer: &mut ResponseBuffer, code: &str, id: Id, form: ResponseForm)
+fn put_coded_id(
+    buffer: &mut ResponseBuffer,
+    status: Status,
+    code: &str,
+    id: Id,
+    form: ResponseForm,
+)
     requires { length code.now ≤ 64 }
-    ensures { buffer.new ≡ text_of (json Status.NotFound (coded_id code.now id)) form.close form.head_only }
+    ensures { buffer.new ≡ text_of (json status (coded_id code.now id)) form.close form.head_only }
 {
-    buffer.put_body(Status::NotFound, &Body::CodedId { code, id }, form);
+    buffer.put_body(status, &Body::CodedId { code, id }, form);
 }

@@ -55,6 +55,7 @@ pub(crate) fn put_route_refusal(
         }
         RouteRefusal::BadName { at } => buffer.put_bad_parameter("bad-name", at, form),
         RouteRefusal::BadId { at } => buffer.put_bad_parameter("bad-id", at, form),
+        RouteRefusal::BadPath { at } => buffer.put_bad_parameter("bad-path", at, form),
         RouteRefusal::BadNumber => buffer.put_code(Status::BadRequest, "bad-number", None, form),
         RouteRefusal::Memory => buffer.put_memory(form),
     }

@@ -1,6 +1,7 @@
 -- What a seat knows after a call. A seat's front is the history that it has seen.
 --     Made      what a call made: an entry, or a fault, or nothing
 --     Answers header h call answer made      the call may be answered so at h, if it makes this there
+--     Relation      how a repository answers a call of a seat: the header, the history that the seat has seen, its number, the call, the answer, and the history that it has seen then
 --     Replies header h who call answer new      the repository of one thread answers the call so at h, and then has the history new
 --     Grows old who before made new      the front before a call and after it, and the history between at which the call is answered
 --     After header old who call answer new      the front before a call that is answered so, and after it
@@ -99,6 +100,9 @@ entry_by who body = record { who = who; body = body }
 -- the call's entry and then its fault
 abbrev pub entries_of : ℕ → Made → List Entry
 entries_of who made = map (entry_by who) (option_to_list made.entry ++ option_to_list (option_map Fault made.fault))
+
+abbrev pub Relation : Type 1
+Relation = Header → List Entry → ℕ → Call → Answer → List Entry → Type 0
 
 -- at h itself
 pub record Replies (header : Header) (h : List Entry) (who : ℕ) (call : Call) (answer : Answer) (new : List Entry) : Type 0 where

@@ -18,6 +18,9 @@ pub const MOST_CODE: usize = 64;
 /// The most ids of a landing's body.
 pub const MOST_LANDED: usize = 100;
 
+/// Room for an id in quotes, with its comma.
+pub(crate) const ID_ROOM: usize = 67;
+
 /// A body of JSON that tells of ids, at most `MOST_BODY` bytes: its code and the other members.
 #[derive(Clone, Copy, Debug)]
 pub enum Body<'a> {
@@ -81,7 +84,7 @@ fn put_joined_ids(out: &mut Vec<u8>, first: &Id, later: &[Id])
     put_later_ids(out, later);
 }
 
-fn put_ids(out: &mut Vec<u8>, ids: &[Id])
+pub(crate) fn put_ids(out: &mut Vec<u8>, ids: &[Id])
     requires { vec_len out.old + 67 * length ids.now + 2 ≤ vec_capacity out.old }
     ensures items { out.new.items ≡ out.old.items ++ ids_text ids.now }
     ensures short { vec_len out.new ≤ vec_len out.old + 67 * length ids.now + 2 }

@@ -9,7 +9,7 @@ use Rattle.session_model.specs.Routes.{Route, is_target, route_of}
 use Rattle.session_model.specs.Asking.{Asked, Fails, asked, asked_or, by_route}
 use Rattle.routes.specs.declared.asking.Call.{Call}
 use Rattle.routes.specs.declared.route_refusal.RouteRefusal.{RouteRefusal}
-use Rattle.routes.specs.declared.route_refusal.RouteRefusal.TheVariants.{BadTarget, NoRoute, Method, BadName, BadId, BadNumber, Memory}
+use Rattle.routes.specs.declared.route_refusal.RouteRefusal.TheVariants.{BadTarget, NoRoute, Method, BadName, BadId, BadPath, BadNumber, Memory}
 use Rattle.routes.specs.Failed.{failed, unless_memory, Reads}
 use Rattle.routes.specs.Asked.{Asks, call_seen}
 
@@ -19,6 +19,7 @@ fails NoRoute read h = ap asked_or h
 fails (Method method) read h = ap asked_or h
 fails (BadName at) read h = ap asked_or h
 fails (BadId at) read h = ap asked_or h
+fails (BadPath at) read h = ap asked_or h
 fails BadNumber read h = ap asked_or h
 fails Memory read h = tt
 

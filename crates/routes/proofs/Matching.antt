@@ -316,9 +316,12 @@ matches rs [] name params e h bytes found same = absurd (cc)
 matches rs (b ∷ t) name params e h bytes found same =
     at_slash b t name params h (IsText-from t (λ i. bytes (suc i))) (ap (λ r. first r (b ∷ t)) (sym e) ∙ found) same
 
+nothing_found : {K : Type 0} (o : Option K) (k : K) → o ≡ None → o ≡ Some k → ⊥
+nothing_found o k none some = let both : None ≡ Some k = sym none ∙ some in cc
+
 none_found : (t : List ℕ) → IsText t → (o : Option Route) → route_of (47 ∷ t) ≡ o → first table (47 ∷ t) ≡ None → o ≡ None
 none_found t text None e found = refl
-none_found t text (Some r) e found = absurd (let row = first-table t text in cc)
+none_found t text (Some r) e found = absurd (nothing_found (first table (47 ∷ t)) (entry_of r.name) found (first-table t text ∙ ap (option_map (λ q. entry_of q.name)) e))
 
 -- that it finds nothing
 pub unmatched : (rs : RowsOf (RouteOf RouteName)) (path : List ℕ) → rs ≡ table → is_target path ≡ true → ((i : ℕ) → Fits w8 (get_or path i 0)) → first rs path ≡ None → route_of path ≡ None

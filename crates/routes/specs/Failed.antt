@@ -7,10 +7,10 @@ use Rattle.session_model.specs.declared.status.Status.TheVariants.{BadRequest, N
 use Rattle.session_model.specs.Methods.{method_text}
 use Rattle.session_model.specs.Responses.{Response}
 use Rattle.session_model.specs.Bodies.{of_code, memory}
-use Rattle.session_model.specs.Parameters.{bad_name, bad_id, bad_number}
+use Rattle.session_model.specs.Parameters.{bad_name, bad_id, bad_path, bad_number}
 use Rattle.session_model.specs.Asking.{not_allowed}
 use Rattle.routes.specs.declared.route_refusal.RouteRefusal.{RouteRefusal}
-use Rattle.routes.specs.declared.route_refusal.RouteRefusal.TheVariants.{BadTarget, NoRoute, Method, BadName, BadId, BadNumber, Memory}
+use Rattle.routes.specs.declared.route_refusal.RouteRefusal.TheVariants.{BadTarget, NoRoute, Method, BadName, BadId, BadPath, BadNumber, Memory}
 
 abbrev pub failed : RouteRefusal → Response
 failed BadTarget = of_code BadRequest (codes "bad-target")
@@ -18,6 +18,7 @@ failed NoRoute = of_code NotFound (codes "no-route")
 failed (Method method) = not_allowed (method_text method)
 failed (BadName at) = bad_name at
 failed (BadId at) = bad_id at
+failed (BadPath at) = bad_path at
 failed BadNumber = bad_number
 failed Memory = memory
 
@@ -27,6 +28,7 @@ unless_memory NoRoute fact = fact
 unless_memory (Method method) fact = fact
 unless_memory (BadName at) fact = fact
 unless_memory (BadId at) fact = fact
+unless_memory (BadPath at) fact = fact
 unless_memory BadNumber fact = fact
 unless_memory Memory fact = Unit {0}
 

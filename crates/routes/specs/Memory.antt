@@ -1,11 +1,11 @@
 -- What needs memory.
 --     HasEscape raw      a parameter that may have an escape
---     TakesMemory route      a route with a bookmark's name, which is copied, or with an escape
+--     TakesMemory route      a route with a bookmark's name or a path, which is copied, or with an escape
 use Rattle.std.specs.Prelude.{ℕ, ◌==◌, List, IsTrue}
 use Rattle.std.specs.List.{list_any}
 use Rattle.percent_encoding.specs.Percent.{percent_sign}
 use Rattle.session_model.specs.declared.route_name.RouteName.{RouteName}
-use Rattle.session_model.specs.declared.route_name.RouteName.TheVariants.{Contents, Content, Changesets, Changeset, Head, Move, Land, Log}
+use Rattle.session_model.specs.declared.route_name.RouteName.TheVariants.{Contents, Content, Changesets, Changeset, Head, Move, Land, Log, RootFsnode, Fsnode, RootUnode, Unode, History}
 use Rattle.session_model.specs.Routes.{Route, value}
 
 abbrev pub HasEscape : List ℕ → Type 0
@@ -20,6 +20,11 @@ NeedsMemory Head value = Unit {0}
 NeedsMemory Move value = Unit {0}
 NeedsMemory Land value = Unit {0}
 NeedsMemory Log value = HasEscape (value 0)
+NeedsMemory RootFsnode value = HasEscape (value 0)
+NeedsMemory Fsnode value = Unit {0}
+NeedsMemory RootUnode value = HasEscape (value 0)
+NeedsMemory Unode value = Unit {0}
+NeedsMemory History value = Unit {0}
 
 abbrev pub TakesMemory : Route → Type 0
 TakesMemory route = NeedsMemory route.name (value route)

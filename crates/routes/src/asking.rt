@@ -11,13 +11,15 @@ ghost use Rattle.routes.specs.Failed.{Reads};
 ghost use Rattle.routes.specs.Memory.{TakesMemory};
 ghost use Rattle.routes.specs.Asked.{Asks, call_seen};
 
-use crate::parameters::{id_parameter, maybe_id_parameter, name_parameter, number_parameter};
+use crate::parameters::{
+    id_parameter, maybe_id_parameter, name_parameter, number_parameter, path_parameter,
+};
 use crate::route_refusal::RouteRefusal;
 use crate::router::{Routes, part};
 use http_wire::Request;
 use matchit::Params;
 use object_id::Id;
-use repo_path::BookName;
+use repo_path::{BookName, RepoPath};
 use session_model::{Method, RouteName};
 use std::alloc::Global;
 use std::str;
@@ -50,6 +52,12 @@ pub enum Call<'a> {
     Log {
         from: u64,
     },
+    /// The fsnode of a directory in a changeset's tree, of its root where there is no path.
+    Fsnode(Id, Option<RepoPath>),
+    /// The unode of a file or a directory in a changeset's tree, of its root where there is no path.
+    Unode(Id, Option<RepoPath>),
+    /// The history of a file in a changeset's tree.
+    History(Id, RepoPath),
 }
 
 fn begins_with_slash(path: &[u8]) -> bool
@@ -104,6 +112,20 @@ fn call_from<'a>(
         RouteName::Log => Call::Log {
             from: number_parameter(alloc, part(params, "from"))?,
         },
+        RouteName::RootFsnode => Call::Fsnode(id_parameter(alloc, part(params, "id"))?, None),
+        RouteName::Fsnode => Call::Fsnode(
+            id_parameter(alloc, part(params, "id"))?,
+            Some(path_parameter(alloc, part(params, "path"))?),
+        ),
+        RouteName::RootUnode => Call::Unode(id_parameter(alloc, part(params, "id"))?, None),
+        RouteName::Unode => Call::Unode(
+            id_parameter(alloc, part(params, "id"))?,
+            Some(path_parameter(alloc, part(params, "path"))?),
+        ),
+        RouteName::History => Call::History(
+            id_parameter(alloc, part(params, "id"))?,
+            path_parameter(alloc, part(params, "path"))?,
+        ),
     })
 }
 

@@ -12,7 +12,7 @@ ghost use Rattle.routes.specs.Memory.{HasEscape};
 use crate::route_refusal::RouteRefusal;
 use object_id::Id;
 use percent_encoding::{DecodeError, percent_decode};
-use repo_path::{BookName, NameFault};
+use repo_path::{BookName, NameFault, PathFault, RepoPath};
 use std::alloc::{AllocError, Global};
 use std::borrow::CowStr;
 
@@ -37,6 +37,17 @@ fn name_of(alloc: Global, text: &str) -> Result<BookName, RouteRefusal>
         Ok(name) => Ok(name),
         Err(NameFault::BadName { at }) => Err(RouteRefusal::BadName { at: at as u64 }),
         Err(NameFault::Memory) => Err(RouteRefusal::Memory),
+    }
+}
+
+// A path, in memory of its own.
+fn path_of(alloc: Global, text: &str) -> Result<RepoPath, RouteRefusal>
+    ensures { Reads (λ path. path) result (model.path_of text.now) }
+{
+    match RepoPath::parse(alloc, text) {
+        Ok(path) => Ok(path),
+        Err(PathFault::BadPath { at }) => Err(RouteRefusal::BadPath { at: at as u64 }),
+        Err(PathFault::Memory) => Err(RouteRefusal::Memory),
     }
 }
 
@@ -125,5 +136,15 @@ pub(crate) fn number_parameter(alloc: Global, raw: &str) -> Result<u64, RouteRef
     match decoded(alloc, raw)? {
         Some(text) => number_of(text.as_str()),
         None => Err(RouteRefusal::BadNumber),
+    }
+}
+
+/// A path in a tree.
+pub(crate) fn path_parameter(alloc: Global, raw: &str) -> Result<RepoPath, RouteRefusal>
+    ensures { Reads (λ path. path) result (model.path_parameter raw.now) }
+{
+    match decoded(alloc, raw)? {
+        Some(text) => path_of(alloc, text.as_str()),
+        None => Err(RouteRefusal::BadPath { at: 0 }),
     }
 }

@@ -29,6 +29,12 @@ pub enum RouteRefusal {
         /// The place of its first fault, in bytes, after its escapes were decoded.
         at: u64,
     },
+    /// A parameter is no path.
+    #[error("no path, at {at}")]
+    BadPath {
+        /// The place of its first fault, in bytes, after its escapes were decoded.
+        at: u64,
+    },
     /// A parameter is no number of 1 to 19 digits.
     #[error("no number of 1 to 19 digits")]
     BadNumber,

@@ -60,8 +60,13 @@ impl Routes {
         add(&mut router, "/changeset", RouteName::Changesets)?;
         add(&mut router, "/content/{id}", RouteName::Content)?;
         add(&mut router, "/content", RouteName::Contents)?;
+        add(&mut router, "/fsnode/{id}/{*path}", RouteName::Fsnode)?;
+        add(&mut router, "/fsnode/{id}", RouteName::RootFsnode)?;
+        add(&mut router, "/history/{id}/{*path}", RouteName::History)?;
         add(&mut router, "/land/{name}/{id}", RouteName::Land)?;
         add(&mut router, "/log/{from}", RouteName::Log)?;
+        add(&mut router, "/unode/{id}/{*path}", RouteName::Unode)?;
+        add(&mut router, "/unode/{id}", RouteName::RootUnode)?;
         Ok(Routes { router })
     }
 

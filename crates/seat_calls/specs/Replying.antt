@@ -1,16 +1,12 @@
 -- How a repository answers the calls of one seat, whether it is served alone or beside others.
---     Relation      the header, the history that the seat has seen, the seat's number, the call, the answer, and the history that the seat has seen then
 --     Fits ask granted, Shown question seen      the change is granted what it asks for, and the read shows it
 --     MakesNothing answer      the call made neither an entry nor a fault
 --     IsReplying replies      what is so of each such relation
 use Rattle.std.specs.Prelude.{ℕ, ◌-◌, ◌≤◌, List, length}
 use Rattle.history_model.specs.History.{Entry}
 use Rattle.history_model.specs.Journal.{Header}
-use Rattle.reply_model.specs.After.{Call, Asks, Looks, Answer, Grants, Refuses, Shows, Lacks, Roots, DiskFault, ReadFault, BadBytes, NodeCollision, Memory}
+use Rattle.reply_model.specs.After.{Relation, Call, Asks, Looks, Answer, Grants, Refuses, Shows, Lacks, Roots, DiskFault, ReadFault, BadBytes, NodeCollision, Memory}
 use Rattle.reply_model.specs.Reply.{most_stack, Ask, PutContent, PutChangeset, SetBookmark, LandDraft, Granted, ContentPut, ChangesetPut, BookmarkSet, Landed, Question, HeadOf, ContentOf, ChangesetOf, LogFrom, FsnodeOf, UnodeOf, HistoryOf, Seen, SeenHead, SeenBytes, SeenLog, SeenIds}
-
-abbrev pub Relation : Type 1
-Relation = Header → List Entry → ℕ → Call → Answer → List Entry → Type 0
 
 abbrev pub Fits : Ask → Granted → Type 0
 Fits (PutContent bytes) (ContentPut x) = Unit {0}

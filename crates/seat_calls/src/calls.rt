@@ -4,7 +4,7 @@ ghost use Rattle.seat_calls.specs.declared.calls.AskFault.TheVariants.{Memory};
 
 use object_id::Id;
 use repo_calls::{LogPage, Refusal};
-use repo_path::BookName;
+use repo_path::{BookName, RepoPath};
 use std::alloc::{AllocError, AllocFailed};
 use thiserror::Error;
 
@@ -19,6 +19,12 @@ pub enum Question<'a> {
     Changeset(Id),
     /// A page of the log, from this number on.
     Log(u64),
+    /// The fsnode of a directory in a changeset's tree, of its root where there is no path.
+    Fsnode(Id, Option<&'a RepoPath>),
+    /// The unode of a file or a directory in a changeset's tree, of its root where there is no path.
+    Unode(Id, Option<&'a RepoPath>),
+    /// The history of a file in a changeset's tree.
+    History(Id, &'a RepoPath),
 }
 
 /// What a read sees.
@@ -27,6 +33,8 @@ pub enum Seen {
     Head(Option<Id>),
     Bytes(Vec<u8>),
     Log(LogPage),
+    /// The changesets that set a file, the newest first.
+    Ids(Vec<Id>),
 }
 
 /// Why a change isn't answered by what it is granted.
@@ -49,6 +57,18 @@ pub enum AskFault {
     /// No changeset has this id.
     #[error("no changeset {id:?}")]
     NoChangeset { id: Id },
+    /// Nothing is at this path.
+    #[error("nothing is at this path")]
+    NoPath,
+    /// A file is at the path where a directory is wanted.
+    #[error("no directory is at this path")]
+    NotADir,
+    /// A directory is at the path where a file is wanted.
+    #[error("no file is at this path")]
+    NotAFile,
+    /// Two different nodes have this id.
+    #[error("two nodes have the id {id:?}")]
+    Collision { id: Id },
     /// The disk failed to read.
     #[error("the disk failed to read")]
     ReadFault,

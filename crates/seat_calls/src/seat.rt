@@ -2,7 +2,7 @@
 ghost use Rattle.std.specs.Prelude.{◌≡◌, ℕ, List};
 ghost use Rattle.history_model.specs.History.{Entry};
 ghost use Rattle.history_model.specs.Journal.{Header};
-ghost use Rattle.reply_model.specs.After.{Call, Answer, Asks, Looks};
+ghost use Rattle.reply_model.specs.After.{Relation, Answer, Asks, Looks};
 ghost use Rattle.repo_calls.specs.Calls.{ask_seen};
 ghost use Rattle.seat_calls.specs.Asking.{IsAnswer, question_seen, stored_answer};
 ghost use Rattle.seat_calls.specs.Replying.{IsReplying};
@@ -29,7 +29,7 @@ pub trait Seat {
 
     /// How a call is answered: the header, the front before, the seat's number, the call, the
     /// answer, and the front after.
-    ghost replies: { Header → List Entry → ℕ → Call → Answer → List Entry → Type 0 };
+    ghost replies: { Relation };
 
     /// Makes a change.
     fn change(&mut self, alloc: Global, ask: &Ask) -> Result<Granted, ChangeFault>

@@ -1,1 +1,1 @@
-pub mod Spoiled
+pub mod Told

@@ -2,4 +2,6 @@
 #![tactic(auto)]
 
 #[cfg(test)]
-mod spoiled;
+mod rows;
+#[cfg(test)]
+mod told;

@@ -4,19 +4,21 @@
 --     seen question s, absent a      the response to a read that shows something, and to one that doesn't
 --     change_response ask answer, read_response question answer      the response to each answer
 use Rattle.std.specs.Prelude.{ℕ, if◌then◌else◌, List, [], ◌∷◌, length, bytes_eq, codes, decimal, Option, None, Some, Result, Ok, Err}
+use Rattle.byte_fields.specs.Bytes.{Id}
+use Rattle.changeset_model.specs.Path.{Path}
 use Rattle.reply_model.specs.Log.{lines_of}
-use Rattle.reply_model.specs.Reply.{◌>>=◌, Ask, PutContent, PutChangeset, SetBookmark, LandDraft, Granted, ContentPut, ChangesetPut, BookmarkSet, Landed, Refusal, Down, TooLong, BadEncoding, SelfConflict, Merge, NoParent, NoContent, WrongSize, Collision, NoChangeset, Moved, NoBookmark, NoRoot, TooFarBehind, AlreadyIn, StackTooLong, Clash, TooLarge, Full, Question, HeadOf, ContentOf, ChangesetOf, LogFrom, Seen, SeenHead, SeenBytes, SeenLog, Absent, AbsentContent, AbsentChangeset, NoPath, NotADir, NotAFile}
+use Rattle.reply_model.specs.Reply.{◌>>=◌, Ask, PutContent, PutChangeset, SetBookmark, LandDraft, Granted, ContentPut, ChangesetPut, BookmarkSet, Landed, Refusal, Down, TooLong, BadEncoding, SelfConflict, Merge, NoParent, NoContent, WrongSize, Collision, NoChangeset, Moved, NoBookmark, NoRoot, TooFarBehind, AlreadyIn, StackTooLong, Clash, TooLarge, Full, Question, HeadOf, ContentOf, ChangesetOf, LogFrom, FsnodeOf, UnodeOf, HistoryOf, Seen, SeenHead, SeenBytes, SeenLog, SeenIds, Absent, AbsentContent, AbsentChangeset, NoPath, NotADir, NotAFile}
 use Rattle.reply_model.specs.After.{Answer, Grants, Refuses, Shows, Lacks, Roots, DiskFault, ReadFault, BadBytes, NodeCollision, Memory}
 use Rattle.http_model.specs.Head.{path_of}
 use Rattle.http_model.specs.Stream.{Request}
 use Rattle.session_model.specs.declared.status.Status.TheVariants.{Fine, BadRequest, NotFound, MethodNotAllowed, Conflict, ContentTooLarge, UnprocessableContent, InternalServerError, InsufficientStorage}
 use Rattle.session_model.specs.declared.route_name.RouteName.{RouteName}
-use Rattle.session_model.specs.declared.route_name.RouteName.TheVariants.{Contents, Content, Changesets, Changeset, Head, Move, Land, Log}
+use Rattle.session_model.specs.declared.route_name.RouteName.TheVariants.{Contents, Content, Changesets, Changeset, Head, Move, Land, Log, RootFsnode, Fsnode, RootUnode, Unode, History}
 use Rattle.session_model.specs.Methods.{method_text, method_of}
 use Rattle.session_model.specs.Responses.{Response, Json}
-use Rattle.session_model.specs.Bodies.{coded, id_text, maybe_id_text, path_text, content_body, changeset_body, bookmark_body, landed_body, log_body, json, of_code, octets, memory}
+use Rattle.session_model.specs.Bodies.{coded, id_text, maybe_id_text, path_text, content_body, changeset_body, bookmark_body, landed_body, log_body, history_body, json, of_code, octets, memory}
 use Rattle.session_model.specs.Routes.{Route, value, is_target, route_of}
-use Rattle.session_model.specs.Parameters.{name_parameter, id_parameter, maybe_id_parameter, number_parameter}
+use Rattle.session_model.specs.Parameters.{name_parameter, id_parameter, maybe_id_parameter, number_parameter, path_parameter}
 
 -- ---- requests
 
@@ -24,6 +26,19 @@ pub data Asked : Type 0 where
   Changes : Ask → Asked
   Looks : Question → Asked
   Fails : Response → Asked
+
+-- of the root of a changeset's tree
+abbrev pub at_root : (Id → Path → Question) → (ℕ → List ℕ) → Result Asked Response
+at_root question value = do
+  x ← id_parameter (value 0)
+  Ok (Looks (question x []))
+
+-- of a path in a changeset's tree
+abbrev pub at_path : (Id → Path → Question) → (ℕ → List ℕ) → Result Asked Response
+at_path question value = do
+  x ← id_parameter (value 0)
+  p ← path_parameter (value 1)
+  Ok (Looks (question x p))
 
 -- the parameters from left to right: the first that is refused decides
 abbrev pub by_name : RouteName → (ℕ → List ℕ) → List ℕ → Result Asked Response
@@ -50,6 +65,11 @@ by_name Land value body = do
 by_name Log value body = do
   n ← number_parameter (value 0)
   Ok (Looks (LogFrom n))
+by_name RootFsnode value body = at_root FsnodeOf value
+by_name Fsnode value body = at_path FsnodeOf value
+by_name RootUnode value body = at_root UnodeOf value
+by_name Unode value body = at_path UnodeOf value
+by_name History value body = at_path HistoryOf value
 
 abbrev pub by_route : Route → List ℕ → Result Asked Response
 by_route route body = by_name route.name (value route) body
@@ -122,6 +142,9 @@ seen (HeadOf name) (SeenHead (Some x)) = json Fine (bookmark_body (Some x) name)
 seen (ContentOf x) (SeenBytes bytes) = octets bytes
 seen (ChangesetOf x) (SeenBytes bytes) = octets bytes
 seen (LogFrom n) (SeenLog page total) = json Fine (log_body n (lines_of page) total)
+seen (FsnodeOf x d) (SeenBytes bytes) = octets bytes
+seen (UnodeOf x p) (SeenBytes bytes) = octets bytes
+seen (HistoryOf x p) (SeenIds ids) = json Fine (history_body ids)
 seen _ _ = of_code Fine []
 
 abbrev pub absent : Absent → Response

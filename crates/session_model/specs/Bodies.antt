@@ -1,7 +1,7 @@
 -- The bodies of responses: compact JSON (RFC 8259), whose members stand in rising order of their names, `code` first.
 --     coded code members      an object of a code and these members, each a name and its value's text;  object_text members      one without a code;  list_text values      a list
 --     id_text x, maybe_id_text x, ids_text xs, name_text name, path_text p      an id in hex, an id or null, ids, a bookmark's name and a path, as JSON
---     content_body, changeset_body, bookmark_body, landed_body      of changes that were made, and of a bookmark that is read;  log_body n lines total      of a page of the log
+--     content_body, changeset_body, bookmark_body, landed_body      of changes that were made, and of a bookmark that is read;  log_body n lines total      of a page of the log;  history_body ids      of a file's history
 --     json status body, of_code status code      a response with this body, and one whose body is its code alone;  octets bytes      bytes as they are
 --     memory      the response where memory ran out, which is fixed
 use Rattle.std.specs.Prelude.{ℕ, ◌+◌, List, [], ◌∷◌, map, codes, decimal, flat_map, Option, None, Some}
@@ -87,6 +87,9 @@ line_texts n (line ∷ lines) = line_text n line ∷ line_texts (n + 1) lines
 
 abbrev pub log_body : ℕ → List LogLine → ℕ → List ℕ
 log_body n lines total = coded (codes "log") ((codes "entries", list_text (line_texts n lines)) ∷ (codes "total", decimal total) ∷ [])
+
+abbrev pub history_body : List Id → List ℕ
+history_body ids = coded (codes "history") ((codes "ids", ids_text ids) ∷ [])
 
 -- ---- responses
 

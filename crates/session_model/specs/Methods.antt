@@ -5,7 +5,7 @@ use Rattle.std.specs.Prelude.{ℕ, List, codes}
 use Rattle.session_model.specs.declared.method.Method.{Method}
 use Rattle.session_model.specs.declared.method.Method.TheVariants.{Get, Post, Put}
 use Rattle.session_model.specs.declared.route_name.RouteName.{RouteName}
-use Rattle.session_model.specs.declared.route_name.RouteName.TheVariants.{Contents, Content, Changesets, Changeset, Head, Move, Land, Log}
+use Rattle.session_model.specs.declared.route_name.RouteName.TheVariants.{Contents, Content, Changesets, Changeset, Head, Move, Land, Log, RootFsnode, Fsnode, RootUnode, Unode, History}
 
 abbrev pub method_text : Method → List ℕ
 method_text Get = codes "GET"
@@ -21,3 +21,8 @@ method_of Head = Get
 method_of Move = Put
 method_of Land = Post
 method_of Log = Get
+method_of RootFsnode = Get
+method_of Fsnode = Get
+method_of RootUnode = Get
+method_of Unode = Get
+method_of History = Get

@@ -1,6 +1,6 @@
 -- The parameters of routes. Each is percent-decoded (RFC 3986; a `%` without two hex digits stands for itself); one that isn't UTF-8 is refused at place 0.
 --     name_parameter raw      a bookmark's name;  id_parameter raw      an id;  maybe_id_parameter raw      an id, or `none`
---     number_parameter raw      1 to 19 decimal digits
+--     number_parameter raw      1 to 19 decimal digits;  path_parameter raw      a path
 use Rattle.std.specs.Prelude.{ℕ, Bool, ◌&&◌, nat_lt, nat_le, if◌then◌else◌, List, [], ◌∷◌, length, bytes_eq, codes, decimal, Option, None, Some, Result, Ok, Err}
 use Rattle.std.specs.List.{list_all}
 use Rattle.std.specs.Char.{is_ascii_digit}
@@ -9,6 +9,7 @@ use Rattle.hex.specs.Hex.{decode_of}
 use Rattle.hex.specs.declared.error.FromHexError.{FromHexError}
 use Rattle.percent_encoding.specs.Percent.{percent_decode}
 use Rattle.byte_fields.specs.Bytes.{Id, is_text}
+use Rattle.changeset_model.specs.Path.{Path, elements, path_fault}
 use Rattle.history_model.specs.Bookmark.{name_fault}
 use Rattle.object_id.specs.Hex.{hex_fault}
 use Rattle.session_model.specs.declared.status.Status.TheVariants.{BadRequest}
@@ -24,6 +25,9 @@ bad_name at = bad_at (codes "bad-name") at
 
 abbrev pub bad_id : ℕ → Response
 bad_id at = bad_at (codes "bad-id") at
+
+abbrev pub bad_path : ℕ → Response
+bad_path at = bad_at (codes "bad-path") at
 
 abbrev pub bad_number : Response
 bad_number = of_code BadRequest (codes "bad-number")
@@ -71,3 +75,13 @@ number_of text = if is_number text then Ok (digits_value 10 text) else Err bad_n
 
 abbrev pub number_parameter : List ℕ → Result ℕ Response
 number_parameter raw = number_of (percent_decode raw)
+
+abbrev pub path_unless : Option ℕ → List ℕ → Result Path Response
+path_unless None text = Ok (elements text)
+path_unless (Some at) text = Err (bad_path at)
+
+abbrev pub path_of : List ℕ → Result Path Response
+path_of text = if is_text text then path_unless (path_fault text) text else Err (bad_path 0)
+
+abbrev pub path_parameter : List ℕ → Result Path Response
+path_parameter raw = path_of (percent_decode raw)

@@ -10,7 +10,7 @@ use Rattle.std.specs.List.{starts_with}
 use Rattle.byte_fields.specs.Bytes.{is_text, first_some}
 use Rattle.changeset_model.specs.Path.{elements, text_of}
 use Rattle.session_model.specs.declared.route_name.RouteName.{RouteName}
-use Rattle.session_model.specs.declared.route_name.RouteName.TheVariants.{Contents, Content, Changesets, Changeset, Head, Move, Land, Log}
+use Rattle.session_model.specs.declared.route_name.RouteName.TheVariants.{Contents, Content, Changesets, Changeset, Head, Move, Land, Log, RootFsnode, Fsnode, RootUnode, Unode, History}
 
 pub record Pattern : Type 0 where
   pub word : List ℕ
@@ -19,6 +19,10 @@ pub record Pattern : Type 0 where
 
 abbrev pub of_word : List ℕ → List (List ℕ) → Pattern
 of_word word parameters = record { word = word; parameters = parameters; rest = None }
+
+-- of an id, and a path that takes the rest
+abbrev pub of_path : List ℕ → Pattern
+of_path word = record { word = word; parameters = codes "id" ∷ []; rest = Some (codes "path") }
 
 abbrev pub pattern_of : RouteName → Pattern
 pattern_of Contents = of_word (codes "content") []
@@ -29,10 +33,15 @@ pattern_of Head = of_word (codes "bookmark") (codes "name" ∷ [])
 pattern_of Move = of_word (codes "bookmark") (codes "name" ∷ codes "from" ∷ codes "to" ∷ [])
 pattern_of Land = of_word (codes "land") (codes "name" ∷ codes "id" ∷ [])
 pattern_of Log = of_word (codes "log") (codes "from" ∷ [])
+pattern_of RootFsnode = of_word (codes "fsnode") (codes "id" ∷ [])
+pattern_of Fsnode = of_path (codes "fsnode")
+pattern_of RootUnode = of_word (codes "unode") (codes "id" ∷ [])
+pattern_of Unode = of_path (codes "unode")
+pattern_of History = of_path (codes "history")
 
 -- a router keeps its routes in this order
 abbrev pub order : List RouteName
-order = Move ∷ Head ∷ Changeset ∷ Changesets ∷ Content ∷ Contents ∷ Land ∷ Log ∷ []
+order = Move ∷ Head ∷ Changeset ∷ Changesets ∷ Content ∷ Contents ∷ Fsnode ∷ RootFsnode ∷ History ∷ Land ∷ Log ∷ Unode ∷ RootUnode ∷ []
 
 pub record Route : Type 0 where
   pub name : RouteName

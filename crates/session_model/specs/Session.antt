@@ -1,5 +1,4 @@
 -- A session: what goes out and what the history is then, for the bytes that came in.
---     Relation      how a repository answers a call of a seat: the header, the history that the seat has seen, its number, the call, the answer, and the history that it has seen then
 --     Answers replies header who h q out after      the request q is answered at h by these bytes, and the history is then `after`
 --     Serves replies header who h requests texts after      so are these requests in order, each by its text
 --     Session replies header who h s out after end      for all bytes read, where the session came to this end
@@ -10,7 +9,7 @@ use Rattle.std.specs.List.{concat}
 use mathlib.Core.List.{IsPrefix}
 use Rattle.history_model.specs.History.{Entry}
 use Rattle.history_model.specs.Journal.{Header}
-use Rattle.reply_model.specs.After.{Answer, Call, Asks, Looks}
+use Rattle.reply_model.specs.After.{Relation, Answer, Call, Asks, Looks}
 use Rattle.http_model.specs.declared.head_refusal.HeadRefusal.{HeadRefusal}
 use Rattle.http_model.specs.declared.head_refusal.HeadRefusal.TheVariants as refusals
 use Rattle.http_model.specs.Refusals.{code_of, status_of}
@@ -22,9 +21,6 @@ use Rattle.session_model.specs.Responses.{Response, text_of}
 use Rattle.session_model.specs.Bodies.{of_code, memory}
 use Rattle.session_model.specs.Asking as asking
 use Rattle.session_model.specs.Asking.{Asked, asked, change_response, read_response}
-
-abbrev pub Relation : Type 1
-Relation = Header → List Entry → ℕ → Call → Answer → List Entry → Type 0
 
 -- ---- one request
 

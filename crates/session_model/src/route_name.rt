@@ -22,6 +22,16 @@ pub enum RouteName {
     Land,
     /// A page of the log.
     Log,
+    /// The fsnode of a changeset's root.
+    RootFsnode,
+    /// The fsnode of a directory.
+    Fsnode,
+    /// The unode of a changeset's root.
+    RootUnode,
+    /// The unode of a file or a directory.
+    Unode,
+    /// The history of a file.
+    History,
 }
 
 impl RouteName {
@@ -33,9 +43,16 @@ impl RouteName {
     {
         match self {
             RouteName::Contents | RouteName::Changesets | RouteName::Move => Method::Put,
-            RouteName::Content | RouteName::Changeset | RouteName::Head | RouteName::Log =>
-                Method::Get,
             RouteName::Land => Method::Post,
+            RouteName::Content
+            | RouteName::Changeset
+            | RouteName::Head
+            | RouteName::Log
+            | RouteName::RootFsnode
+            | RouteName::Fsnode
+            | RouteName::RootUnode
+            | RouteName::Unode
+            | RouteName::History => Method::Get,
         }
     }
 }

@@ -19,5 +19,8 @@ returns-in-BadName c = in_case _ _ _ _ _ c.in-BadName.is c.put_bad_parameter.ens
 pub returns-in-BadId : goal.returns-in-BadId
 returns-in-BadId c = in_case _ _ _ _ _ c.in-BadId.is c.put_bad_parameter-in-BadId.ensures
 
+pub returns-in-BadPath : goal.returns-in-BadPath
+returns-in-BadPath c = in_case _ _ _ _ _ c.in-BadPath.is c.put_bad_parameter-in-BadPath.ensures
+
 pub returns-in-BadNumber : goal.returns-in-BadNumber
 returns-in-BadNumber c = in_case _ _ _ _ _ c.in-BadNumber.is c.put_code-in-BadNumber.ensures

@@ -1,0 +1,29 @@
+-- A seat that shows what a read asks for, or tells why it shows nothing, whatever the history is. It grants no change.
+--     IsTold call answer      it may answer the call so;  lawful      a seat may have this relation
+use Rattle.reply_model.specs.Reply.{Seen}
+use Rattle.reply_model.specs.After.{Call, Asks, Looks, Derives, Answer, Grants, Refuses, Shows, Lacks, Roots, DiskFault, ReadFault, BadBytes, NodeCollision, Memory}
+use Rattle.seat_calls.specs.Replying.{Shown, IsReplying}
+
+abbrev pub IsShown : Call → Seen → Type 0
+IsShown (Asks ask) seen = ⊥
+IsShown (Looks question) seen = Shown question seen
+IsShown (Derives x) seen = ⊥
+
+abbrev pub IsTold : Call → Answer → Type 0
+IsTold call (Grants g) = ⊥
+IsTold call (Refuses refusal) = ⊥
+IsTold call (Shows seen) = IsShown call seen
+IsTold call (Lacks absent) = Unit {0}
+IsTold call (Roots fs un) = ⊥
+IsTold call DiskFault = ⊥
+IsTold call ReadFault = Unit {0}
+IsTold call (BadBytes wanted found) = Unit {0}
+IsTold call (NodeCollision x) = Unit {0}
+IsTold call Memory = Unit {0}
+
+pub lawful : IsReplying (λ header h who call answer new. IsTold call answer)
+lawful = record {
+  fits = λ header h who ask granted new r. absurd r;
+  shown = λ header h who question seen new r. r;
+  memory = λ header h who call answer new none r. tt;
+}
