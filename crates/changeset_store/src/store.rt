@@ -9,7 +9,7 @@ ghost use Rattle.history_model.specs.History as history;
 ghost use Rattle.history_model.specs.History.{with_id, each_id_once, changeset_of};
 ghost use Rattle.history_model.specs.Chain.{HasParents, changesets, first_parent};
 ghost use Rattle.history_model.specs.Pushrebase as pushrebase;
-ghost use Rattle.changeset_store.specs.Store.{number_in, known_at, changeset_at};
+ghost use Rattle.changeset_store.specs.Store.{number_in, parent_at, known_at, changeset_at};
 ghost use Rattle.changeset_store.specs.Fork.{chain_at, following_at, fork_between, IsAncestor, IsFork};
 ghost use Rattle.changeset_store.specs.Numbers.{most};
 ghost use Rattle.changeset_store.specs.Shared.{values};
@@ -248,6 +248,15 @@ impl ChangesetStore {
         self.following_shared(alloc, fork.root, fork.draft)
     }
 
+    /// The number of a changeset's first parent, if it has one.
+    pub fn parent(&self, number: u32) -> Option<u32>
+        requires { number < length self.now.known }
+        ensures parent { result ≡ parent_at self.now.known number }
+        ensures earlier { IfSome result (λ parent. parent < number) }
+    {
+        self.chain.parent(number)
+    }
+
     /// The number of the changeset before the last of a chain, unless the last is this ancestor itself. So the changesets that
     /// follow the ancestor are gone through newest first, without a list of them.
     pub fn previous(&self, ancestor: u32, last: u32) -> Option<u32>
@@ -310,8 +319,8 @@ impl ChangesetStore {
         Ok(found)
     }
 
-    // The changeset of a number, shared.
-    fn shared_at(&self, number: u32) -> Result<Arc<Commit>, AllocError>
+    /// The changeset of a number, shared: it outlives the store's borrow.
+    pub fn shared_at(&self, number: u32) -> Result<Arc<Commit>, AllocError>
         requires { number < length self.now.known }
         ensures { IfOk result (λ shared. arc_value shared ≡ changeset_at self.now.known number) }
     {

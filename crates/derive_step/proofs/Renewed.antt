@@ -6,6 +6,7 @@ use mathlib.Core.Bool.{true≢false}
 use Rattle.std.proofs.lemmas.Bool.{ne_eqb}
 use Rattle.std.specs.Option.{option_to_list}
 use Rattle.std.specs.Borrow.{Bor}
+use Rattle.std.specs.Arc.{arc_value}
 use Rattle.std.specs.BTreeMap.{BTreeMap, get, Updates}
 use Rattle.byte_fields.specs.Bytes.{Id}
 use Rattle.changeset_model.specs.Path.{Path, path_cmp}
@@ -82,7 +83,7 @@ step_from c older job d made b of renewed under e = record { right = of.right; c
 pub root_seen : (c : Known) (older : List Known) (job : Job) (b : Option (Bor DirNodes)) → IsJobOf c older job → before_of b ≡ nodes_before job.parent [] → before_of b ≡ cond (is_covered c.changeset []) None (nodes_on older [])
 root_seen c older job b of e = e ∙ of.nodes [] refl ∙ sym (ap (λ v. cond v None (nodes_on older [])) (uncovered_dir c older of.right [] refl))
 
-pub dir_seen : (c : Known) (older : List Known) (job : Job) (d : Path) (b : Option (Bor DirNodes)) → IsJobOf c older job → is_renewed c.changeset d ≡ true → before_of b ≡ cond (is_covered job.commit d) None (nodes_before job.parent d)
+pub dir_seen : (c : Known) (older : List Known) (job : Job) (d : Path) (b : Option (Bor DirNodes)) → IsJobOf c older job → is_renewed c.changeset d ≡ true → before_of b ≡ cond (is_covered (arc_value job.commit) d) None (nodes_before job.parent d)
     → before_of b ≡ cond (is_covered c.changeset d) None (nodes_on older d)
 dir_seen c older job d b of renewed e = e ∙ (λ i. cond (is_covered (of.changeset i) d) None (of.nodes d renewed i))
 

@@ -4,6 +4,7 @@
 --     IsDoneOf c older job done      the roots are those of the definitions' manifests of c, and of the nodes of these the new ones are here and all others are the parent's
 use Rattle.std.specs.Prelude.{◌≡◌, ◌⊎◌, ℕ, ◌+◌, ◌*◌, ◌≤◌, true, if◌then◌else◌, List, [], ◌∷◌, length, Contains, Option, None, Some}
 use Rattle.std.specs.List.{AllByRecursion}
+use Rattle.std.specs.Arc.{arc_value}
 use Rattle.byte_fields.specs.Bytes.{is_bytes}
 use Rattle.changeset_model.specs.Path.{Path}
 use Rattle.changeset_model.specs.Changeset.{is_changeset, id_of, sets_of}
@@ -49,7 +50,7 @@ all_nodes_on (c ∷ older) = nodes_in (manifests_on c.id (c ∷ older))
 
 pub record IsJobOf (c : Known) (older : List Known) (job : Job) : Type 0 where
   pub right : IsRight (c ∷ older)
-  pub changeset : job.commit ≡ c.changeset
+  pub changeset : arc_value job.commit ≡ c.changeset
   pub id : c.id ≡ id_of c.changeset
   pub roots : roots_before job.parent ≡ roots_on older
   pub nodes : (d : Path) → is_renewed c.changeset d ≡ true → nodes_before job.parent d ≡ nodes_on older d

@@ -12,6 +12,7 @@
 use Rattle.std.specs.Prelude.{◌≡◌, ℕ, true, false, if◌then◌else◌, List, [], ◌∷◌, ◌++◌, map, flat_map, reverse, is_some, Option, None, option_map}
 use Rattle.std.specs.Borrow.{Bor}
 use Rattle.std.specs.List.{list_any}
+use Rattle.std.specs.Arc.{arc_value}
 use Rattle.std.specs.BTreeMap.{BTreeMap, get}
 use Rattle.std.specs.BTreeSet.{BTreeSet, contains}
 use Rattle.std.specs.Ordering.{eq_by_cmp}
@@ -52,7 +53,7 @@ pub record IsBefore (c : Known) (older : List Known) (d : Path) (nodes : Option 
 
 pub record IsStep (c : Known) (older : List Known) (job : Job) (d : Path) (made : BTreeMap Path Made) (nodes : Option (Bor DirNodes)) : Type 0 where
   pub right : IsRight (c ∷ older)
-  pub changeset : job.commit ≡ c.changeset
+  pub changeset : arc_value job.commit ≡ c.changeset
   pub id : c.id ≡ id_of c.changeset
   pub renewed : is_renewed c.changeset d ≡ true
   pub before : IsBefore c older d nodes

@@ -1,5 +1,6 @@
 //! The nodes of touched directories, each after those under it.
 ghost use Rattle.std.specs.Prelude.{◌≡◌, ◌++◌, ◌∷◌, [], List, None, true, if◌then◌else◌, IfOk, OnOk};
+ghost use Rattle.std.specs.Arc.{arc_value};
 ghost use Rattle.std.specs.BTreeMap.{get};
 ghost use Rattle.changeset_model.specs.Path.{Path, path_cmp};
 ghost use Rattle.history_model.specs.History.{Known};
@@ -113,7 +114,7 @@ fn root_before(job: &Job) -> Option<&DirNodes>
 
 // The nodes of a directory at the parent, unless a file is set there or above.
 fn nodes_before<'a>(job: &'a Job, dir: &RepoPath) -> Option<&'a DirNodes>
-    ensures { before_of result ≡ (if is_covered_by job.now.commit dir.now then None else nodes_of_job job.now.parent dir.now) }
+    ensures { before_of result ≡ (if is_covered_by (arc_value job.now.commit) dir.now then None else nodes_of_job job.now.parent dir.now) }
 {
     if is_covered(job.commit.changeset().edits(), dir) {
         return None;

@@ -8,6 +8,7 @@ use repo_path::RepoPath;
 use std::alloc::Global;
 use std::collections::BTreeMap;
 use std::str;
+use std::sync::Arc;
 use std::test::Fail;
 use unode::{Unode, UnodeChild, UnodeEntry, UnodeManifest};
 
@@ -154,7 +155,7 @@ impl Store {
             self.alloc,
             Job {
                 number: 7,
-                commit,
+                commit: Arc::new(self.alloc, commit)?,
                 parent,
             },
         )?;

@@ -17,8 +17,8 @@ returns c = λ k older step dir same.
     let m = c.in_ok-manifest.manifest in
     let told = c.in_ok-manifest.ensures in
     let edits = edits_view c.edits-edits.result.now in
-    let are_edits : edits ≡ k.changeset.changes = c.edits-edits.ensures.edits ∙ ap (λ x. x.changes) (c.changeset.ensures ∙ step.changeset) in
-    let is_link : c.id-link.result ≡ k.id = c.id-link.ensures ∙ ap id_of step.changeset ∙ sym step.id in
+    let are_edits : edits ≡ k.changeset.changes = c.edits-edits.ensures.edits ∙ ap (λ x. x.changes) (c.changeset.ensures ∙ c.deref-2.ensures ∙ step.changeset) in
+    let is_link : c.id-link.result ≡ k.id = c.id-link.ensures ∙ ap id_of (c.deref.ensures ∙ step.changeset) ∙ sym step.id in
     put_all k older job d made before step dir c.id-link.result edits is_link are_edits
     c.put_nodes.result (fsnode_seen c.args.fsnode.now) (manifest_seen m) (nodes_seen c.args.nodes.now.items) (nodes_seen c.manifest_in.new.nodes.items) (nodes_seen c.put_nodes.new.nodes.items) same
     (unode_is k older job d made before step dir c.id-link.result edits is_link are_edits m told.entries told.rising told.parent told.link)

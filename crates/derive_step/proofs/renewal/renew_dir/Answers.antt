@@ -16,7 +16,7 @@ returns-then-is_empty c = λ k older of renewed under new.
     let node = c.in_ok-fsnode.fsnode in
     let told = c.in_ok-fsnode.ensures in
     let edits = edits_view c.edits.result.now in
-    let are_edits : edits ≡ k.changeset.changes = c.edits.ensures.edits ∙ ap (λ x. x.changes) (c.changeset.ensures ∙ of.changeset) in
+    let are_edits : edits ≡ k.changeset.changes = c.edits.ensures.edits ∙ ap (λ x. x.changes) (c.changeset.ensures ∙ c.deref.ensures ∙ of.changeset) in
     let step = step_from k older job d made before of renewed under (dir_seen k older job d before of renewed c.nodes_before-before.ensures) in
     left_out k older job d made before step edits are_edits node told.entries told.rising (nodes_seen c.args.nodes.now.items) (not_there k older job d made before step edits are_edits node told.entries told.rising (no_root d (ap is_path (sym c.dir.view_is) ∙ c.dir.invariant)) (is_empty_list node.entries.items c.is_empty.result (c.is_empty.ensures ∙ ap (λ n. n == 0) node.entries.ok.0) c.if-is_empty.true)) new
 
@@ -29,7 +29,7 @@ returns c = λ k older of renewed under new.
     let node = c.in_ok-fsnode.fsnode in
     let told = c.in_ok-fsnode.ensures in
     let edits = edits_view c.edits.result.now in
-    let are_edits : edits ≡ k.changeset.changes = c.edits.ensures.edits ∙ ap (λ x. x.changes) (c.changeset.ensures ∙ of.changeset) in
+    let are_edits : edits ≡ k.changeset.changes = c.edits.ensures.edits ∙ ap (λ x. x.changes) (c.changeset.ensures ∙ c.deref.ensures ∙ of.changeset) in
     let step = step_from k older job d made before of renewed under (dir_seen k older job d before of renewed c.nodes_before-before.ensures) in
     let dir = there k older job d made before step edits are_edits node told.entries told.rising (no_root d (ap is_path (sym c.dir.view_is) ∙ c.dir.invariant)) (is_some_list node.entries.items c.is_empty.result (c.is_empty.ensures ∙ ap (λ n. n == 0) node.entries.ok.0) c.if-is_empty.false) in
     let same = node_is k older job d made before step edits are_edits node told.entries told.rising told.summary dir in

@@ -9,6 +9,6 @@ returns c = λ k older of under.
     let made = c.args.made.now in
     let before = c.root_before-before.result in
     let told = c.in_ok-fsnode.ensures in
-    let are_edits : edits_view c.edits.result.now ≡ k.changeset.changes = c.edits.ensures.edits ∙ ap (λ x. x.changes) (c.changeset.ensures ∙ of.changeset) in
+    let are_edits : edits_view c.edits.result.now ≡ k.changeset.changes = c.edits.ensures.edits ∙ ap (λ x. x.changes) (c.changeset.ensures ∙ c.deref.ensures ∙ of.changeset) in
     let step = step_from k older job [] made before of refl under (root_seen k older job before of c.root_before-before.ensures) in
     c.put_dir.ensures k older step refl (node_is k older job [] made before step (edits_view c.edits.result.now) are_edits c.in_ok-fsnode.fsnode told.entries told.rising told.summary refl)

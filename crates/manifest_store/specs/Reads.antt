@@ -1,0 +1,56 @@
+-- What is read of the manifests of a known changeset.
+--     fsnode_at ks n d, unode_at ks n p      of the changeset of a number: the bytes of the fsnode of a directory, and of the unode of a path
+--     history_at ks n p      the changesets that set a file, newest first
+--     IsAbsence fault read      what is absent, or want of memory
+use Rattle.std.specs.Prelude.{◌≡◌, ℕ, List, [], Option, None, Some, Result, Ok, Err}
+use Rattle.std.specs.Borrow.{Bor}
+use Rattle.byte_fields.specs.Bytes.{Id}
+use Rattle.changeset_model.specs.Path.{Path}
+use Rattle.history_model.specs.History.{Known}
+use Rattle.history_model.specs.Chain.{line}
+use Rattle.history_model.specs.Tree.{files_of, is_file, is_dir}
+use Rattle.manifest_model.specs.Fsnode.{fsnode, fsnode_bytes}
+use Rattle.manifest_model.specs.Unode.{unode, unode_bytes}
+use Rattle.manifest_model.specs.FileHistory.{file_history}
+use Rattle.reply_model.specs.Reply.{Absent, NoPath, NotADir, NotAFile, present, refuse_if, ◌>>=◌}
+use Rattle.changeset_store.specs.Store.{known_at}
+use Rattle.manifest_store.specs.declared.fault.ManifestFault.{ManifestFault}
+use Rattle.manifest_store.specs.declared.fault.ManifestFault.TheVariants as faults
+
+-- the path of a directory, which is the root where none is given
+abbrev pub dir_of : Option (Bor Path) → Path
+dir_of None = []
+dir_of (Some d) = d.now
+
+-- by the changeset's id
+abbrev pub fsnode_by : List Known → Id → Path → Result (List ℕ) Absent
+fsnode_by ks x d = do
+  _ ← present ks x d
+  _ ← refuse_if (is_file (files_of ks x) d) NotADir
+  Ok (fsnode_bytes (fsnode (files_of ks x) d))
+
+abbrev pub unode_by : List Known → Id → Path → Result (List ℕ) Absent
+unode_by ks x p = do
+  _ ← present ks x p
+  Ok (unode_bytes (unode (line ks x) p))
+
+abbrev pub history_by : List Known → Id → Path → Result (List Id) Absent
+history_by ks x p = do
+  _ ← present ks x p
+  _ ← refuse_if (is_dir (files_of ks x) p) NotAFile
+  Ok (file_history (line ks x) p)
+
+abbrev pub fsnode_at : List Known → ℕ → Path → Result (List ℕ) Absent
+fsnode_at ks n d = fsnode_by ks (known_at ks n).id d
+
+abbrev pub unode_at : List Known → ℕ → Path → Result (List ℕ) Absent
+unode_at ks n p = unode_by ks (known_at ks n).id p
+
+abbrev pub history_at : List Known → ℕ → Path → Result (List Id) Absent
+history_at ks n p = history_by ks (known_at ks n).id p
+
+abbrev pub IsAbsence : {X : Type 0} → ManifestFault → Result X Absent → Type 0
+IsAbsence faults.NoPath read = read ≡ Err NoPath
+IsAbsence faults.NotADir read = read ≡ Err NotADir
+IsAbsence faults.NotAFile read = read ≡ Err NotAFile
+IsAbsence faults.Memory read = Unit {0}

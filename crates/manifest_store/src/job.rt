@@ -1,0 +1,100 @@
+//! The next job of a chain.
+ghost use Rattle.std.specs.Prelude.{◌≡◌, ◌<◌, ℕ, true, length, IfOk, IfSome, IfNone};
+ghost use Rattle.bonsai.specs.View.{edits_view};
+ghost use Rattle.node_table.specs.Table.{is_settled};
+ghost use Rattle.changeset_store.specs.Fork.{IsAncestor};
+ghost use Rattle.manifest_store.specs.Lines.{line_at};
+ghost use Rattle.manifest_store.specs.Manifests.{AreManifests};
+ghost use Rattle.manifest_store.specs.Jobs.{IsJobOn, IsNext, is_ready as is_ready_in};
+ghost use Rattle.manifest_store.specs.Parents.{IsParentOf};
+
+use crate::dirs::parent_nodes;
+use crate::store::ManifestStore;
+use bonsai::Edit;
+use changeset_store::ChangesetStore;
+use derive_step::{Job, Parent};
+use std::alloc::{AllocError, Global};
+
+impl ManifestStore {
+    /// The job to derive the manifests of the oldest changeset in the chain of a number that isn't settled, or `None` where
+    /// the whole chain is. Of its parent's nodes it has those of the directories above the change paths, and it reads no
+    /// others.
+    pub fn next_job(
+        &self,
+        alloc: Global,
+        changesets: &ChangesetStore,
+        number: u32,
+    ) -> Result<Option<Job>, AllocError>
+        requires manifests { AreManifests changesets.now.known self.now }
+        requires known { number < length changesets.now.known }
+        ensures { IfOk result (λ next. IsNext changesets.now.known self.now number next) }
+    {
+        match self.oldest_unsettled(changesets, number) {
+            Some(oldest) => Ok(Some(self.job_of(alloc, changesets, oldest)?)),
+            None => Ok(None),
+        }
+    }
+
+    // The oldest changeset of a chain that isn't settled. Those before it are.
+    fn oldest_unsettled(&self, changesets: &ChangesetStore, number: u32) -> Option<u32>
+        requires manifests { AreManifests changesets.now.known self.now }
+        requires known { number < length changesets.now.known }
+        ensures none { IfNone result ((m : ℕ) → IsAncestor changesets.now.known m number → is_settled self.now m ≡ true) }
+        ensures in_chain { IfSome result (λ oldest. IsAncestor changesets.now.known oldest number) }
+        ensures ready { IfSome result (λ oldest. is_ready_in changesets.now.known self.now oldest ≡ true) }
+    {
+        // What the store keeps of its numbers.
+        let _count = changesets.len();
+        if self.is_settled(number) {
+            return None;
+        }
+        let mut oldest = number;
+        while let Some(parent) = changesets.parent(oldest) {
+            if self.is_settled(parent) {
+                return Some(oldest);
+            }
+            oldest = parent;
+        }
+        Some(oldest)
+    }
+
+    // The job of a changeset whose parent is settled, if it has one.
+    fn job_of(
+        &self,
+        alloc: Global,
+        changesets: &ChangesetStore,
+        number: u32,
+    ) -> Result<Job, AllocError>
+        requires manifests { AreManifests changesets.now.known self.now }
+        requires known { number < length changesets.now.known }
+        requires ready { is_ready_in changesets.now.known self.now number ≡ true }
+        ensures number { IfOk result (λ job. job.number ≡ number) }
+        ensures job { IfOk result (λ job. IsJobOn (line_at changesets.now.known number) job) }
+    {
+        let commit = changesets.shared_at(number)?;
+        let edits = commit.changeset().edits();
+        let parent = self.parent_of(alloc, changesets, number, edits)?;
+        Ok(Job {
+            number,
+            commit,
+            parent,
+        })
+    }
+
+    // What a job with these edits needs of the parent, if there is one.
+    fn parent_of(
+        &self,
+        alloc: Global,
+        changesets: &ChangesetStore,
+        number: u32,
+        edits: &[Edit],
+    ) -> Result<Option<Parent>, AllocError>
+        requires { number < length changesets.now.known }
+        ensures { IfOk result (λ parent. IsParentOf changesets.now.known self.now number (edits_view edits.now) parent) }
+    {
+        match changesets.parent(number) {
+            Some(parent) => parent_nodes(alloc, &self.table, parent, edits),
+            None => Ok(None),
+        }
+    }
+}

@@ -1,0 +1,26 @@
+//! Laws of manifests in a table, each the contract of a function that does nothing.
+ghost use Rattle.std.specs.Prelude.{◌≡◌, ◌<◌, ◌++◌, ℕ, List, length, Ok, Err};
+ghost use Rattle.byte_fields.specs.Bytes.{Id};
+ghost use Rattle.changeset_model.specs.Path.{Path};
+ghost use Rattle.history_model.specs.History.{Entry, Known, known};
+ghost use Rattle.reply_model.specs.Reply.{Absent, SeenBytes, SeenIds, seen_fsnode, seen_unode, seen_history};
+ghost use Rattle.node_table.specs.Table.{Table};
+ghost use Rattle.manifest_store.specs.Lines.{line_at, IsStore};
+ghost use Rattle.manifest_store.specs.Manifests.{AreManifests, AreRight};
+ghost use Rattle.manifest_store.specs.Reads.{fsnode_by, unode_by, history_by};
+
+/// Where more changesets become known, those before keep their lines, so that their jobs and manifests stay right.
+pub fn manifests_stay_where_more_is_known()
+    ensures lines { (ks more : List Known) (n : ℕ) → IsStore (ks ++ more) → n < length ks → line_at (ks ++ more) n ≡ line_at ks n }
+    ensures manifests { (ks more : List Known) (t : Table) → IsStore (ks ++ more) → AreRight (ks ++ more) → AreManifests ks t → AreManifests (ks ++ more) t }
+{}
+
+/// What is read of the changesets that a history makes known is what is seen at the history.
+pub fn what_is_read_is_what_is_seen()
+    ensures fsnode { (h : List Entry) (x : Id) (d : Path) (bytes : List ℕ) → fsnode_by (known h) x d ≡ Ok bytes → seen_fsnode h x d ≡ Ok (SeenBytes bytes) }
+    ensures no_fsnode { (h : List Entry) (x : Id) (d : Path) (absent : Absent) → fsnode_by (known h) x d ≡ Err absent → seen_fsnode h x d ≡ Err absent }
+    ensures unode { (h : List Entry) (x : Id) (p : Path) (bytes : List ℕ) → unode_by (known h) x p ≡ Ok bytes → seen_unode h x p ≡ Ok (SeenBytes bytes) }
+    ensures no_unode { (h : List Entry) (x : Id) (p : Path) (absent : Absent) → unode_by (known h) x p ≡ Err absent → seen_unode h x p ≡ Err absent }
+    ensures history { (h : List Entry) (x : Id) (p : Path) (ids : List Id) → history_by (known h) x p ≡ Ok ids → seen_history h x p ≡ Ok (SeenIds ids) }
+    ensures no_history { (h : List Entry) (x : Id) (p : Path) (absent : Absent) → history_by (known h) x p ≡ Err absent → seen_history h x p ≡ Err absent }
+{}

@@ -1,0 +1,18 @@
+//! The derived manifests of the known changesets, kept in memory: which are settled, the next job of a chain, what was
+//! derived of one put in, and the reads of a settled changeset.
+#![tactic(auto)]
+
+mod dirs;
+pub mod fault;
+mod history;
+mod job;
+pub mod laws;
+mod nodes;
+mod place;
+mod reads;
+mod settle;
+pub mod store;
+mod walk;
+
+pub use fault::ManifestFault;
+pub use store::ManifestStore;

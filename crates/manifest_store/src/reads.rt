@@ -1,0 +1,74 @@
+//! Reads of a settled changeset's manifests.
+ghost use Rattle.std.specs.Prelude.{◌≡◌, ℕ, List, true, Ok, Some, IfOk, IfErr};
+ghost use Rattle.std.specs.FinMap as map;
+ghost use Rattle.history_model.specs.History.{Known};
+ghost use Rattle.node_table.specs.Table.{is_settled};
+ghost use Rattle.manifest_store.specs.Manifests.{AreManifests};
+ghost use Rattle.manifest_store.specs.Reads.{IsAbsence, dir_of, fsnode_at, unode_at};
+
+use crate::fault::ManifestFault;
+use crate::store::ManifestStore;
+use crate::walk::{Fsnodes, Unodes, walk};
+use object_id::Id;
+use repo_path::RepoPath;
+use std::alloc::{AllocError, Global};
+use unode::UnodeEntry;
+
+impl ManifestStore {
+    /// The bytes of the fsnode of a directory of a settled changeset, of its root where none is given.
+    pub fn fsnode(
+        &self,
+        alloc: Global,
+        number: u32,
+        dir: Option<&RepoPath>,
+    ) -> Result<Vec<u8>, ManifestFault>
+        requires manifests { (ks : List Known) × AreManifests ks self.now }
+        requires settled { is_settled self.now number ≡ true }
+        ensures bytes { (ks : List Known) → AreManifests ks self.now → IfOk result (λ bytes. fsnode_at ks number (dir_of dir.entry) ≡ Ok bytes.items) }
+        ensures absent { (ks : List Known) → AreManifests ks self.now → IfErr result (λ fault. IsAbsence fault (fsnode_at ks number (dir_of dir.entry))) }
+    {
+        let Some(roots) = self.table.roots(number) else {
+            unreachable!()
+        };
+        let fsnodes = Fsnodes { table: &self.table };
+        match walk(alloc, &fsnodes, roots.fsnode, dir)? {
+            Some(UnodeEntry::Directory(id)) => Ok(self.bytes_of(alloc, &id)?),
+            Some(UnodeEntry::File(_)) => Err(ManifestFault::NotADir),
+            None => Err(ManifestFault::NoPath),
+        }
+    }
+
+    /// The bytes of the unode of a path of a settled changeset, of its root where none is given.
+    pub fn unode(
+        &self,
+        alloc: Global,
+        number: u32,
+        path: Option<&RepoPath>,
+    ) -> Result<Vec<u8>, ManifestFault>
+        requires manifests { (ks : List Known) × AreManifests ks self.now }
+        requires settled { is_settled self.now number ≡ true }
+        ensures bytes { (ks : List Known) → AreManifests ks self.now → IfOk result (λ bytes. unode_at ks number (dir_of path.entry) ≡ Ok bytes.items) }
+        ensures absent { (ks : List Known) → AreManifests ks self.now → IfErr result (λ fault. IsAbsence fault (unode_at ks number (dir_of path.entry))) }
+    {
+        let Some(roots) = self.table.roots(number) else {
+            unreachable!()
+        };
+        let unodes = Unodes { table: &self.table };
+        match walk(alloc, &unodes, roots.unode, path)? {
+            Some(UnodeEntry::Directory(id)) => Ok(self.bytes_of(alloc, &id)?),
+            Some(UnodeEntry::File(id)) => Ok(self.bytes_of(alloc, &id)?),
+            None => Err(ManifestFault::NoPath),
+        }
+    }
+
+    // A copy of the node that stands under an id.
+    fn bytes_of(&self, alloc: Global, id: &Id) -> Result<Vec<u8>, AllocError>
+        requires { (bytes : List ℕ) × (map.get self.now.nodes id.now ≡ Some bytes) }
+        ensures { IfOk result (λ bytes. map.get self.now.nodes id.now ≡ Some bytes.items) }
+    {
+        let Some(bytes) = self.table.get(id) else {
+            unreachable!()
+        };
+        Ok(Vec::from_slice(alloc, bytes)?)
+    }
+}

@@ -1,0 +1,52 @@
+//! Putting in what was derived.
+ghost use Rattle.std.specs.Prelude.{◌≡◌, ◌<◌, false, length, IsOk, IfErr, OnErr, OnOk};
+ghost use Rattle.manifest_store.specs.Lines.{line_at};
+ghost use Rattle.manifest_store.specs.Manifests.{AreManifests};
+ghost use Rattle.manifest_store.specs.Jobs.{IsDoneOn, is_ready as is_ready_in, settled_by};
+ghost use Rattle.manifest_store.specs.Settling.{IsCollision};
+
+use crate::store::ManifestStore;
+use changeset_store::ChangesetStore;
+use derive_step::Done;
+use node_table::TableFault;
+use std::alloc::Global;
+
+impl ManifestStore {
+    /// Puts in what was derived of a changeset, or nothing. One that is settled already, or whose parent isn't, changes
+    /// nothing.
+    pub fn settle(
+        &mut self,
+        alloc: Global,
+        changesets: &ChangesetStore,
+        done: Done,
+    ) -> Result<(), TableFault>
+        requires manifests { AreManifests changesets.now.known self.old }
+        requires known { done.number < length changesets.now.known }
+        requires derived { IsDoneOn (line_at changesets.now.known done.number) done }
+        ensures ok { OnOk result (self.new ≡ settled_by changesets.now.known self.old done) }
+        ensures err { OnErr result (self.new ≡ self.old) }
+        ensures late { is_ready_in changesets.now.known self.old done.number ≡ false → IsOk result }
+        ensures collision { IfErr result (λ fault. IsCollision changesets.now.known fault) }
+        ensures manifests { AreManifests changesets.now.known self.new }
+    {
+        if !self.is_ready(changesets, done.number) {
+            return Ok(());
+        }
+        self.table
+            .settle(alloc, done.number, done.roots, done.nodes)
+    }
+
+    // Whether a changeset isn't settled, and its parent is, if it has one.
+    fn is_ready(&self, changesets: &ChangesetStore, number: u32) -> bool
+        requires { number < length changesets.now.known }
+        ensures { result ≡ is_ready_in changesets.now.known self.now number }
+    {
+        if self.is_settled(number) {
+            return false;
+        }
+        match changesets.parent(number) {
+            Some(parent) => self.is_settled(parent),
+            None => true,
+        }
+    }
+}

@@ -1,0 +1,121 @@
+//! From the root of a manifest down a path, by the nodes on the path alone.
+ghost use Rattle.std.specs.Prelude.{◌≡◌, ℕ, List, Option, IfOk, option_map};
+ghost use Rattle.byte_fields.specs.Bytes.{Id as IdBytes};
+ghost use Rattle.manifest_model.specs.Unode.{UnodeEntry as ModelEntry, UnodeDir};
+ghost use Rattle.fsnode.specs.Parts.{entry_seen as fs_entry_seen};
+ghost use Rattle.unode.specs.Parts.{entry_seen};
+ghost use Rattle.manifest_store.specs.Nodes.{entry_of as entry_of_fs, fs_entry_under, unode_entry_under, walk as walked};
+ghost use Rattle.manifest_store.specs.Dirs.{left};
+ghost use Rattle.manifest_store.specs.Reads.{dir_of};
+
+use crate::nodes::{fs_entry, fsnode_under, manifest_under, unode_entry};
+use crate::place::parted;
+use fsnode::FsEntry;
+use node_table::NodeTable;
+use object_id::Id;
+use repo_path::RepoPath;
+use std::alloc::{AllocError, Global};
+use unode::UnodeEntry;
+
+/// Manifests whose directories tell what they have under a name: a file or a directory, by the id of its node or, for a
+/// file of an fsnode, of its content.
+pub(crate) trait Tree {
+    ghost look: { Self → IdBytes → List ℕ → Option ModelEntry };
+
+    fn entry(
+        &self,
+        alloc: Global,
+        dir: &Id,
+        name: &str,
+    ) -> Result<Option<UnodeEntry>, AllocError>
+        ensures { IfOk result (λ entry. option_map entry_seen entry ≡ look self.now dir.now name.now) };
+}
+
+/// The fsnodes of a table.
+pub(crate) struct Fsnodes<'a> {
+    pub(crate) table: &'a NodeTable,
+}
+
+/// The unodes of a table.
+pub(crate) struct Unodes<'a> {
+    pub(crate) table: &'a NodeTable,
+}
+
+impl<'a> Tree for Fsnodes<'a> {
+    ghost look = { λ t x n. fs_entry_under t.table.now.nodes x n };
+
+    fn entry(
+        &self,
+        alloc: Global,
+        dir: &Id,
+        name: &str,
+    ) -> Result<Option<UnodeEntry>, AllocError> {
+        let Some(node) = fsnode_under(alloc, self.table, dir)? else {
+            return Ok(None);
+        };
+        match fs_entry(&node, name) {
+            Some(entry) => Ok(Some(entry_of(entry))),
+            None => Ok(None),
+        }
+    }
+}
+
+impl<'a> Tree for Unodes<'a> {
+    ghost look = { λ t x n. unode_entry_under t.table.now.nodes x n };
+
+    fn entry(
+        &self,
+        alloc: Global,
+        dir: &Id,
+        name: &str,
+    ) -> Result<Option<UnodeEntry>, AllocError> {
+        let Some(node) = manifest_under(alloc, self.table, dir)? else {
+            return Ok(None);
+        };
+        Ok(unode_entry(&node, name))
+    }
+}
+
+fn entry_of(entry: FsEntry) -> UnodeEntry
+    ensures { entry_seen result ≡ entry_of_fs (fs_entry_seen entry) }
+{
+    match entry {
+        FsEntry::File { content, .. } => UnodeEntry::File(content),
+        FsEntry::Directory { id, .. } => UnodeEntry::Directory(id),
+    }
+}
+
+/// The entry of a path, from the root on.
+pub(crate) fn walk<T: Tree>(
+    alloc: Global,
+    tree: &T,
+    root: Id,
+    path: Option<&RepoPath>,
+) -> Result<Option<UnodeEntry>, AllocError>
+    ensures { IfOk result (λ entry. option_map entry_seen entry ≡ walked (T.look tree.now) (UnodeDir root) (dir_of path.entry)) }
+{
+    let mut at = UnodeEntry::Directory(root);
+    let mut rest = text_of(path);
+    while let Some(text) = rest {
+        let UnodeEntry::Directory(dir) = at else {
+            return Ok(None);
+        };
+        let (name, after) = parted(text);
+        let Some(entry) = tree.entry(alloc, &dir, name)? else {
+            return Ok(None);
+        };
+        at = entry;
+        rest = after;
+    }
+    Ok(Some(at))
+}
+
+// The text of a path, if it isn't the root.
+fn text_of<'a>(path: Option<&'a RepoPath>) -> Option<&'a str>
+    ensures { left result ≡ dir_of path.entry }
+{
+    match path {
+        Some(path) => Some(path.as_str()),
+        None => None,
+    }
+}
