@@ -125,6 +125,16 @@ impl ChangesetStore {
         Some(self.at(number))
     }
 
+    /// The same, shared: it outlives the store's borrow.
+    pub fn get_shared(&self, id: &Id) -> Result<Option<Arc<Commit>>, AllocError>
+        ensures { IfOk result (λ found. option_map arc_value found ≡ changeset_of self.now.known id.now) }
+    {
+        match self.number_of(id) {
+            Some(number) => Ok(Some(self.shared_at(number)?)),
+            None => Ok(None),
+        }
+    }
+
     /// Makes room for more changesets, so that they are added without allocation. It answers want of memory also where
     /// there would be more than 2,147,483,648 changesets, which the capacity of a journal doesn't let come about.
     pub fn reserve(&mut self, more: u32) -> Result<(), AllocError>

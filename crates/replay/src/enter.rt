@@ -1,7 +1,6 @@
 //! The entry of one payload.
 ghost use Rattle.std.specs.Prelude.{◌≡◌, ◌↔◌, ◌++◌, ◌∷◌, ℕ, List, [], None, Some, Ok, Err, OnOk, OnErr, IsTrue, IsSome};
 ghost use Rattle.sha2.specs.Sha256.{sha256};
-ghost use Rattle.byte_fields.specs.Bytes.{are_bytes};
 ghost use Rattle.changeset_model.specs.Changeset.{spelling};
 ghost use Rattle.changeset_model.specs.Decoding.{decoded};
 ghost use Rattle.history_model.specs.History as model;
@@ -62,7 +61,7 @@ fn enter_body(
 {
     match body {
         Body::Content { id, length: _ } => enter_content(alloc, machine, id, &payload[1..]),
-        Body::Change(commit) => enter_changeset(alloc, machine, commit),
+        Body::Change(commit) => enter_changeset(alloc, machine, commit, payload),
         Body::Book(movement) => enter_move(alloc, machine, &movement),
         Body::Land(landing) => enter_landing(alloc, machine, &landing, payload),
     }
@@ -89,14 +88,19 @@ fn enter_content(
 }
 
 // Enters a changeset that may be put there.
-fn enter_changeset(alloc: Global, machine: &mut Machine, commit: Commit) -> Result<(), ReplayFault>
+fn enter_changeset(
+    alloc: Global,
+    machine: &mut Machine,
+    commit: Commit,
+    payload: &[u8],
+) -> Result<(), ReplayFault>
+    requires spelled { payload.now ≡ spelling commit }
     requires decoded { decoded (spelling commit) ≡ Ok commit }
-    requires bytes { IsTrue (are_bytes (spelling commit)) }
     ensures enters { Enters machine.old.history (asked_entry machine.old.header machine.old.history (spelling commit) (PutChangeset (spelling commit))) result machine.new.history }
     ensures header { machine.new.header ≡ machine.old.header }
     ensures legal { IsLegal machine.new.header machine.new.history }
 {
-    let judged = machine.judge_commit(alloc, NO_SEAT, commit)?;
+    let judged = machine.judge_commit(alloc, NO_SEAT, commit, payload)?;
     enter_judged(machine, judged)
 }
 

@@ -5,6 +5,7 @@
 pub mod body;
 pub mod decoding;
 pub mod encoding;
+pub mod framing;
 pub mod limits;
 mod mark;
 mod parts;
@@ -13,5 +14,6 @@ pub mod payload_fault;
 pub use body::{Body, Landing, Move};
 pub use decoding::decode_payload;
 pub use encoding::{encode_entry, encode_landing};
+pub use framing::frame_payload;
 pub use limits::{FRAME, MOST_PAYLOAD, MOST_STACK};
 pub use payload_fault::PayloadFault;

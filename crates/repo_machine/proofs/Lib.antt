@@ -26,3 +26,5 @@ pub mod ClearedEntries
 pub mod Unseating
 pub mod Looking
 pub mod Renewed
+pub mod GrantedIds
+pub mod Preparing

@@ -27,7 +27,7 @@ use Rattle.repo_machine.proofs.Judging.{judged_up}
 
 -- ---- a fault of the bytes
 
-fault_refused : (header : Header) (h : List Entry) (bytes : List ℕ) (up : is_down h ≡ false) (fault : decoding.DecodeFault) → decoded bytes ≡ Err fault → judge header h (PutChangeset bytes) ≡ Err (Rattle.reply_model.specs.Reply.upload_refusal fault)
+pub fault_refused : (header : Header) (h : List Entry) (bytes : List ℕ) (up : is_down h ≡ false) (fault : decoding.DecodeFault) → decoded bytes ≡ Err fault → judge header h (PutChangeset bytes) ≡ Err (Rattle.reply_model.specs.Reply.upload_refusal fault)
 fault_refused header h bytes up fault e =
     judged_up header h (PutChangeset bytes) up
     ∙ ap (λ d. accepted d >>= λ c.

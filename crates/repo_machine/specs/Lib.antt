@@ -15,3 +15,4 @@ pub mod Counting
 pub mod Seats
 pub mod Clashes
 pub mod Again
+pub mod Prepared

@@ -71,7 +71,7 @@ impl Machine {
         let movement = Move { name, from, to };
         // It is short.
         let _length = movement.payload_length();
-        self.prepare(alloc, who, granted, Body::Book(movement), &[])
+        self.make(alloc, who, granted, Body::Book(movement), &[])
     }
 
     // The id, if no changeset has it.

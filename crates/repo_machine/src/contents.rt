@@ -1,22 +1,22 @@
 //! Contents.
-ghost use Rattle.std.specs.Prelude.{◌≡◌, ◌≤◌, true, false, length, option_map, OnOk, IfOk, IfErr, IfSome};
+ghost use Rattle.std.specs.Prelude.{◌≡◌, ◌≤◌, true, false, length, option_map, Err, IsErr, OnOk, IfOk, IfErr, IfSome};
 ghost use Rattle.sha2.specs.Sha256.{sha256};
 ghost use Rattle.history_model.specs.History.{content_len, is_down};
-ghost use Rattle.reply_model.specs.Reply.{PutContent, ContentPut, judge};
+ghost use Rattle.reply_model.specs.Reply.{PutContent, judge};
 ghost use Rattle.reply_model.specs.After.{Asks, Replies};
 ghost use Rattle.reply_model.specs.Legal.{IsLegal};
 ghost use Rattle.repo_calls.specs.Calls.{content_answer};
 ghost use Rattle.repo_machine.specs.Entering.{Judges};
 ghost use Rattle.repo_machine.specs.Indexes.{StandsAt};
 ghost use Rattle.repo_machine.specs.Landings.{IsRefusal};
+ghost use Rattle.repo_machine.specs.Prepared.{IsReadyContent};
 
-use crate::judged::Judged;
+use crate::judged::{Judged, Made};
 use crate::machine::Machine;
 use crate::place::Place;
-use bonsai::MOST_CONTENT;
+use crate::prepared::content_frame;
 use object_id::Id;
-use repo_calls::{Granted, Refusal};
-use repo_events::Body;
+use repo_calls::{Ask, Granted, Refusal};
 use std::alloc::Global;
 
 impl Machine {
@@ -26,37 +26,15 @@ impl Machine {
         ensures legal { IsLegal self.new.header self.new.history }
         ensures header { self.new.header ≡ self.old.header }
     {
-        let judged = self.judge_content(alloc, who, bytes)?;
+        let judged = self.judge(alloc, who, &Ask::PutContent(bytes))?;
         match self.admit(judged) {
             Granted::Content(id) => Ok(id),
             _ => unreachable!(),
         }
     }
 
-    /// Judges the content that the seat `who` asks to store, and makes room for it and for one fault after it.
-    pub fn judge_content(
-        &mut self,
-        alloc: Global,
-        who: u64,
-        bytes: &[u8],
-    ) -> Result<Judged, Refusal>
-        ensures ok { IfOk result (Judges self.old.header self.old.history self.new.room who (PutContent bytes.now)) }
-        ensures granted { IfOk result (λ judged. judged.granted ≡ ContentPut (sha256 bytes.now)) }
-        ensures err { IfErr result (IsRefusal (judge self.old.header self.old.history (PutContent bytes.now))) }
-        ensures header { self.new.header ≡ self.old.header }
-        ensures history { self.new.history ≡ self.old.history }
-        ensures legal { IsLegal self.old.header self.old.history }
-    {
-        self.check_up()?;
-        if bytes.len() as u64 > MOST_CONTENT {
-            return Err(Refusal::TooLong {
-                length: bytes.len() as u64,
-            });
-        }
-        self.judge_hashed(alloc, who, Id::of(bytes), bytes)
-    }
-
-    /// Judges a content of at most 1,048,576 bytes whose id is known, as in a payload that was decoded.
+    /// Judges a content of at most 1,048,576 bytes whose id is known, as in a payload that was decoded, for the seat `who`.
+    /// It makes room for the content and for one fault after it.
     pub fn judge_hashed(
         &mut self,
         alloc: Global,
@@ -67,7 +45,26 @@ impl Machine {
         requires id { id ≡ sha256 bytes.now }
         requires short { length bytes.now ≤ 1_048_576 }
         ensures ok { IfOk result (Judges self.old.header self.old.history self.new.room who (PutContent bytes.now)) }
-        ensures granted { IfOk result (λ judged. judged.granted ≡ ContentPut (sha256 bytes.now)) }
+        ensures err { IfErr result (IsRefusal (judge self.old.header self.old.history (PutContent bytes.now))) }
+        ensures header { self.new.header ≡ self.old.header }
+        ensures history { self.new.history ≡ self.old.history }
+        ensures legal { IsLegal self.old.header self.old.history }
+    {
+        let frame = content_frame(alloc, id, bytes)?;
+        self.judge_content(alloc, who, id, bytes, frame)
+    }
+
+    // The same of a content whose record is there.
+    pub(crate) fn judge_content(
+        &mut self,
+        alloc: Global,
+        who: u64,
+        id: Id,
+        bytes: &[u8],
+        frame: Vec<u8>,
+    ) -> Result<Judged, Refusal>
+        requires ready { IsReadyContent bytes.now id frame.items }
+        ensures ok { IfOk result (Judges self.old.header self.old.history self.new.room who (PutContent bytes.now)) }
         ensures err { IfErr result (IsRefusal (judge self.old.header self.old.history (PutContent bytes.now))) }
         ensures header { self.new.header ≡ self.old.header }
         ensures history { self.new.history ≡ self.old.history }
@@ -79,7 +76,7 @@ impl Machine {
             return Ok(Judged::unchanged(alloc, who, granted));
         }
         let length = bytes.len() as u64;
-        self.prepare(alloc, who, granted, Body::Content { id, length }, bytes)
+        self.make_framed(alloc, who, granted, Made::Content { id, length }, frame)
     }
 
     /// Where the content with this id stands in the file.
@@ -88,6 +85,17 @@ impl Machine {
         ensures place { IfSome result (StandsAt self.now.history id.now) }
     {
         self.contents.get(id).copied()
+    }
+
+    // Refuses a change for this, or for a breaking fault before it.
+    pub(crate) fn refuse(&self, refusal: Refusal) -> Result<Judged, Refusal>
+        ensures refused { IsErr result }
+        ensures up { is_down self.now.history ≡ false → result ≡ Err refusal }
+        ensures down { is_down self.now.history ≡ true → result ≡ Err Refusal.Down }
+        ensures legal { IsLegal self.now.header self.now.history }
+    {
+        self.check_up()?;
+        Err(refusal)
     }
 
     // Refuses each change after a breaking fault.

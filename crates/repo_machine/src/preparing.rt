@@ -10,6 +10,7 @@ ghost use Rattle.repo_calls.specs.Calls.{granted_seen};
 ghost use Rattle.repo_events.specs.Entries.{body_of, landing_of};
 ghost use Rattle.repo_machine.specs.Entering.{IsPrepared, Prevents};
 ghost use Rattle.repo_machine.specs.Held.{HasRoom};
+ghost use Rattle.repo_machine.specs.Judged.{Frames};
 ghost use Rattle.repo_machine.specs.Made.{made_of, landing_made, HasNumbers, IsMadeReady};
 
 use crate::judged::{Judged, LandMade, Made};
@@ -17,7 +18,7 @@ use crate::machine::Machine;
 use bonsai::Commit;
 use object_id::Id;
 use repo_calls::{Granted, Refusal};
-use repo_events::{Body, Landing, encode_entry};
+use repo_events::{Body, FRAME, Landing, encode_entry};
 use repo_path::BookName;
 use std::alloc::{AllocError, Global};
 use std::collections::BTreeMap;
@@ -25,7 +26,7 @@ use std::sync::Arc;
 
 impl Machine {
     // What is entered of a body that some change makes here, if its record fits. `content` has the bytes of a content.
-    pub(crate) fn prepare(
+    pub(crate) fn make(
         &mut self,
         alloc: Global,
         who: u64,
@@ -41,9 +42,30 @@ impl Machine {
         ensures header { self.new.header ≡ self.old.header }
         ensures history { self.new.history ≡ self.old.history }
     {
-        self.check_size(body.payload_length())?;
         let frame = encode_entry(alloc, &body, content)?;
         let made = made_from(alloc, body)?;
+        self.make_framed(alloc, who, granted, made, frame)
+    }
+
+    // The same of an entry whose record is there already.
+    pub(crate) fn make_framed(
+        &mut self,
+        alloc: Global,
+        who: u64,
+        granted: Granted,
+        made: Made,
+        frame: Vec<u8>,
+    ) -> Result<Judged, Refusal>
+        requires frames { Frames (Some (made_of made)) frame.items }
+        requires ready { IsMadeReady made }
+        requires short { payload_len (made_of made) ≤ 16_777_216 }
+        requires few { length (changesets_in (made_of made)) ≤ 100 }
+        ensures ok { IfOk result (IsPrepared self.old.header self.old.history self.new.room who (granted_seen granted) (made_of made)) }
+        ensures err { IfErr result (Prevents self.old.header self.old.history (made_of made)) }
+        ensures header { self.new.header ≡ self.old.header }
+        ensures history { self.new.history ≡ self.old.history }
+    {
+        self.check_size((frame.len() - FRAME) as u64)?;
         self.make_room(alloc, &made)?;
         Ok(Judged {
             who,

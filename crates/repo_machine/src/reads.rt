@@ -1,5 +1,6 @@
-//! Reads that take no memory.
-ghost use Rattle.std.specs.Prelude.{◌≡◌, option_map, IfSome};
+//! Reads.
+ghost use Rattle.std.specs.Prelude.{◌≡◌, option_map, IfOk, IfSome};
+ghost use Rattle.std.specs.Arc.{arc_value};
 ghost use Rattle.changeset_model.specs.Changeset.{id_of};
 ghost use Rattle.history_model.specs.Bookmark.{head};
 ghost use Rattle.history_model.specs.History.{known, changeset_of};
@@ -9,6 +10,8 @@ use crate::machine::Machine;
 use bonsai::Commit;
 use object_id::Id;
 use repo_path::BookName;
+use std::alloc::AllocError;
+use std::sync::Arc;
 
 impl Machine {
     /// The head of a bookmark.
@@ -24,6 +27,13 @@ impl Machine {
         ensures has_id { IfSome result (λ c. id_of c.now ≡ id.now) }
     {
         self.changesets.get(id)
+    }
+
+    /// The same, shared: it outlives the machine's borrow.
+    pub fn shared_changeset(&self, id: &Id) -> Result<Option<Arc<Commit>>, AllocError>
+        ensures { IfOk result (λ found. option_map arc_value found ≡ changeset_of (known self.now.history) id.now) }
+    {
+        self.changesets.get_shared(id)
     }
 
     /// The number of the changeset with this id: its place among the known ones.

@@ -1,28 +1,28 @@
 //! Uploads of changesets.
-ghost use Rattle.std.specs.Prelude.{◌≡◌, ℕ, List, true, false, Ok, option_map, IsTrue, OnOk, IfOk, IfErr};
+ghost use Rattle.std.specs.Prelude.{◌≡◌, true, false, Ok, option_map, OnOk, IfOk, IfErr};
+ghost use Rattle.std.specs.Arc.{arc_value};
 ghost use Rattle.std.specs.HashMap.{get};
-ghost use Rattle.byte_fields.specs.Bytes.{are_bytes};
-ghost use Rattle.changeset_model.specs.Changeset.{id_of, spelling};
+ghost use Rattle.changeset_model.specs.Changeset.{spelling};
 ghost use Rattle.changeset_model.specs.Decoding.{decoded};
 ghost use Rattle.history_model.specs.History.{is_known};
-ghost use Rattle.reply_model.specs.Reply.{PutChangeset, ChangesetPut, judge};
+ghost use Rattle.reply_model.specs.Reply.{PutChangeset, judge};
 ghost use Rattle.reply_model.specs.After.{Asks, Replies};
 ghost use Rattle.reply_model.specs.Legal.{IsLegal};
 ghost use Rattle.bonsai.specs.View.{edit_view, edits_view};
 ghost use Rattle.repo_calls.specs.Calls.{changeset_answer};
 ghost use Rattle.repo_machine.specs.Checking.{Checks, parents_refusal, edit_refusal, contents_refusal};
 ghost use Rattle.repo_machine.specs.Entering.{Judges};
-ghost use Rattle.repo_machine.specs.Faults.{fault_refusal};
 ghost use Rattle.repo_machine.specs.Landings.{IsRefusal};
+ghost use Rattle.repo_machine.specs.Prepared.{IsReadyChangeset};
 
-use crate::judged::Judged;
+use crate::judged::{Judged, Made};
 use crate::machine::Machine;
 use crate::place::Place;
-use bonsai::{Change, Changeset, Commit, DecodeFault, Edit};
+use crate::prepared::{FramedChangeset, framed_changeset};
+use bonsai::{Change, Changeset, Commit, Edit};
 use changeset_store::ChangesetStore;
 use object_id::Id;
-use repo_calls::{Granted, Refusal};
-use repo_events::Body;
+use repo_calls::{Ask, Granted, Refusal};
 use std::alloc::Global;
 use std::collections::HashMap;
 
@@ -33,51 +33,49 @@ impl Machine {
         ensures legal { IsLegal self.new.header self.new.history }
         ensures header { self.new.header ≡ self.old.header }
     {
-        let judged = self.judge_changeset(alloc, who, bytes)?;
+        let judged = self.judge(alloc, who, &Ask::PutChangeset(bytes))?;
         match self.admit(judged) {
             Granted::Changeset(id) => Ok(id),
             _ => unreachable!(),
         }
     }
 
-    /// Judges the changeset that the seat `who` asks to store, and makes room for it and for one fault after it.
-    pub fn judge_changeset(
-        &mut self,
-        alloc: Global,
-        who: u64,
-        bytes: &[u8],
-    ) -> Result<Judged, Refusal>
-        ensures ok { IfOk result (Judges self.old.header self.old.history self.new.room who (PutChangeset bytes.now)) }
-        ensures granted { IfOk result (λ judged. (x : List ℕ) × (judged.granted ≡ ChangesetPut x)) }
-        ensures err { IfErr result (IsRefusal (judge self.old.header self.old.history (PutChangeset bytes.now))) }
-        ensures header { self.new.header ≡ self.old.header }
-        ensures history { self.new.history ≡ self.old.history }
-        ensures legal { IsLegal self.old.header self.old.history }
-    {
-        self.check_up()?;
-        let commit = match Commit::decode(alloc, bytes) {
-            Ok(commit) => commit,
-            Err(fault) => return Err(refusal_of(fault)),
-        };
-        self.judge_commit(alloc, who, commit)
-    }
-
-    /// Judges a changeset that was decoded, as in a payload.
+    /// Judges a changeset that was decoded of these bytes, as in a payload, for the seat `who`. It makes room for the
+    /// changeset and for one fault after it.
     pub fn judge_commit(
         &mut self,
         alloc: Global,
         who: u64,
         commit: Commit,
+        bytes: &[u8],
     ) -> Result<Judged, Refusal>
+        requires spelled { bytes.now ≡ spelling commit }
         requires decoded { decoded (spelling commit) ≡ Ok commit }
-        requires bytes { IsTrue (are_bytes (spelling commit)) }
         ensures ok { IfOk result (Judges self.old.header self.old.history self.new.room who (PutChangeset (spelling commit))) }
-        ensures granted { IfOk result (λ judged. judged.granted ≡ ChangesetPut (id_of commit)) }
         ensures err { IfErr result (IsRefusal (judge self.old.header self.old.history (PutChangeset (spelling commit)))) }
         ensures header { self.new.header ≡ self.old.header }
         ensures history { self.new.history ≡ self.old.history }
         ensures legal { IsLegal self.old.header self.old.history }
     {
+        let framed = framed_changeset(alloc, commit, bytes)?;
+        self.judge_changeset(alloc, who, framed)
+    }
+
+    // The same of a changeset whose record is there.
+    pub(crate) fn judge_changeset(
+        &mut self,
+        alloc: Global,
+        who: u64,
+        framed: FramedChangeset,
+    ) -> Result<Judged, Refusal>
+        requires ready { IsReadyChangeset (arc_value framed.commit) framed.frame.items }
+        ensures ok { IfOk result (Judges self.old.header self.old.history self.new.room who (PutChangeset (spelling (arc_value framed.commit)))) }
+        ensures err { IfErr result (IsRefusal (judge self.old.header self.old.history (PutChangeset (spelling (arc_value framed.commit))))) }
+        ensures header { self.new.header ≡ self.old.header }
+        ensures history { self.new.history ≡ self.old.history }
+        ensures legal { IsLegal self.old.header self.old.history }
+    {
+        let FramedChangeset { commit, frame } = framed;
         self.check_up()?;
         check_parents(&self.changesets, commit.changeset())?;
         check_contents(&self.contents, alloc, commit.changeset().edits())?;
@@ -89,21 +87,7 @@ impl Machine {
         if self.changesets.is_known(&id) {
             return Ok(Judged::unchanged(alloc, who, granted));
         }
-        self.prepare(alloc, who, granted, Body::Change(commit), &[])
-    }
-}
-
-// What is wrong with an upload's bytes.
-fn refusal_of(fault: DecodeFault) -> Refusal
-    ensures { result ≡ fault_refusal fault }
-{
-    match fault {
-        DecodeFault::TooLong { length } => Refusal::TooLong {
-            length: length as u64,
-        },
-        DecodeFault::BadEncoding { at } => Refusal::BadEncoding { at: at as u64 },
-        DecodeFault::SelfConflict { short, long } => Refusal::SelfConflict { short, long },
-        DecodeFault::Memory => Refusal::Memory,
+        self.make_framed(alloc, who, granted, Made::Change(commit), frame)
     }
 }
 

@@ -29,10 +29,8 @@ absent_replies header h who x none =
     unmade header h who (Looks (ContentOf x)) (Lacks (AbsentContent x))
     (refl, subst (SeesContent x (Err (AbsentContent x))) (sym none) refl)
 
-pub bytes_replies : (header : Header) (h : List Entry) (who : ℕ) (x : Id) (n : ℕ) (bytes : List ℕ) → content_len h x ≡ Some n → IsContent x n bytes → Replies header h who (Looks (ContentOf x)) (Shows (SeenBytes bytes)) h
-bytes_replies header h who x n bytes found is =
-    unmade header h who (Looks (ContentOf x)) (Shows (SeenBytes bytes))
-    (refl, subst (SeesContent x (Ok (SeenBytes bytes))) (sym found) (bytes, refl, is))
+pub bytes_answered : (header : Header) (h : List Entry) (x : Id) (n : ℕ) (bytes : List ℕ) → content_len h x ≡ Some n → IsContent x n bytes → Answers header h (Looks (ContentOf x)) (Shows (SeenBytes bytes)) nothing
+bytes_answered header h x n bytes found is = (refl, subst (SeesContent x (Ok (SeenBytes bytes))) (sym found) (bytes, refl, is))
 
 is_some_of : (o : Option ℕ) (n : ℕ) → o ≡ Some n → IsSome o
 is_some_of o n e = subst (λ o. IsSome o) (sym e) search
@@ -40,8 +38,8 @@ is_some_of o n e = subst (λ o. IsSome o) (sym e) search
 pub fault_read : (header : Header) (h : List Entry) (who : ℕ) (x : Id) (n : ℕ) → content_len h x ≡ Some n → Replies header h who (Looks (ContentOf x)) ReadFault (h ++ record { who = who; body = Fault false } ∷ [])
 fault_read header h who x n found = record { made = only_fault false; answers = (refl, is_some_of (content_len h x) n found); new_is = refl }
 
-pub bad_bytes_replies : (header : Header) (h : List Entry) (who : ℕ) (x found : Id) (n : ℕ) → content_len h x ≡ Some n → found ≢ x → Replies header h who (Looks (ContentOf x)) (BadBytes x found) h
-bad_bytes_replies header h who x found n stored other = unmade header h who (Looks (ContentOf x)) (BadBytes x found) (refl, is_some_of (content_len h x) n stored, refl, other)
+pub bad_bytes_answered : (header : Header) (h : List Entry) (x found : Id) (n : ℕ) → content_len h x ≡ Some n → found ≢ x → Answers header h (Looks (ContentOf x)) (BadBytes x found) nothing
+bad_bytes_answered header h x found n stored other = (refl, is_some_of (content_len h x) n stored, refl, other)
 
 pub page_answers : (header : Header) (h : List Entry) (n : ℕ) (page : LogPage) → lines_seen page.entries.items ≡ log_lines h n → page.total ≡ length (stored h)
     → (answer : Answer) × IsAnswer (Ok (Log page)) answer × Answers header h (Looks (LogFrom n)) answer nothing

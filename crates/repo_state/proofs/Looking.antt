@@ -8,15 +8,15 @@ use Rattle.disk_model.specs.Meaning as disk
 use Rattle.history_model.specs.History.{content_len}
 use Rattle.reply_model.specs.Legal.{IsLegal}
 use Rattle.reply_model.specs.Reply.{ContentOf}
-use Rattle.reply_model.specs.After.{Looks, Replies}
+use Rattle.reply_model.specs.After.{Answers, Looks, Replies, nothing}
 use Rattle.turn_history.specs.Opening.{Opening}
 use Rattle.repo_machine.specs.declared.place.Place.{Place}
 use Rattle.repo_machine.specs.Indexes.{StandsAt}
 use Rattle.seat_calls.specs.declared.calls.AskFault.{AskFault}
 use Rattle.seat_calls.specs.declared.calls.AskFault.TheVariants.{BadBytes}
 use Rattle.seat_calls.specs.Asking.{bytes_answer, fault_answer, is_bad_bytes}
-use Rattle.repo_state.specs.Asking.{TellsDigest}
-use Rattle.repo_state.proofs.Answered.{bytes_replies, bad_bytes_replies}
+use Rattle.repo_state.specs.Asking.{IsReadFor, TellsDigest}
+use Rattle.repo_state.proofs.Answered.{bytes_answered, bad_bytes_answered, unmade}
 use Rattle.repo_state.proofs.Contents.{honest_content}
 use Rattle.ports.specs.Faults.{Counts}
 use Rattle.disk_model.specs.Images.{IsImage}
@@ -53,23 +53,41 @@ holds_cleared header header1 h h1 journal first m eh e legal holds =
 
 -- ---- the bytes that were read
 
-pub checked_replies : {A : Type 0} (header : Header) (h h1 : List Entry) (who : ℕ) (x : Id) (n : ℕ) (bytes : List ℕ) (result : Result (Vec ℕ A) AskFault) → h1 ≡ h → Some n ≡ content_len h x → length bytes ≡ n
+pub checked_answers : {A : Type 0} (header : Header) (h : List Entry) (x : Id) (bytes : List ℕ) (result : Result (Vec ℕ A) AskFault) → content_len h x ≡ Some (length bytes)
+    → IfOk result (λ same. (same.items ≡ bytes) × (sha256 bytes ≡ x)) → IfErr result (λ fault. (fault ≡ BadBytes x (sha256 bytes)) × (sha256 bytes ≢ x))
+    → Answers header h (Looks (ContentOf x)) (bytes_answer result) nothing
+checked_answers header h x bytes (Ok same) stored ok err = bytes_answered header h x (length bytes) same.items stored (ap (λ b. sha256 b) ok.0 ∙ ok.1, ap (λ (b : List ℕ). length b) ok.0)
+checked_answers header h x bytes (Err fault) stored ok err =
+    subst (λ f. Answers header h (Looks (ContentOf x)) (fault_answer f) nothing) (sym err.0) (bad_bytes_answered header h x (sha256 bytes) (length bytes) stored err.1)
+
+pub checked_replies : {A : Type 0} (header : Header) (h h1 : List Entry) (who : ℕ) (x : Id) (bytes : List ℕ) (result : Result (Vec ℕ A) AskFault) → h1 ≡ h → content_len h x ≡ Some (length bytes)
     → IfOk result (λ same. (same.items ≡ bytes) × (sha256 bytes ≡ x)) → IfErr result (λ fault. (fault ≡ BadBytes x (sha256 bytes)) × (sha256 bytes ≢ x))
     → Replies header h who (Looks (ContentOf x)) (bytes_answer result) h1
-checked_replies header h h1 who x n bytes (Ok same) e found len ok err =
-    subst (λ g. Replies header h who (Looks (ContentOf x)) (bytes_answer (Ok same)) g) (sym e) (bytes_replies header h who x n same.items (sym found) (ap (λ b. sha256 b) ok.0 ∙ ok.1, ap (λ (b : List ℕ). length b) ok.0 ∙ len))
-checked_replies {A = A} header h h1 who x n bytes (Err fault) e found len ok err =
-    subst (λ g. Replies header h who (Looks (ContentOf x)) (fault_answer fault) g) (sym e)
-    (subst (λ f. Replies header h who (Looks (ContentOf x)) (fault_answer f) h) (sym err.0) (bad_bytes_replies header h who x (sha256 bytes) n (sym found) err.1))
+checked_replies header h h1 who x bytes result e stored ok err =
+    subst (λ g. Replies header h who (Looks (ContentOf x)) (bytes_answer result) g) (sym e) (unmade header h who (Looks (ContentOf x)) (bytes_answer result) (checked_answers header h x bytes result stored ok err))
 
-pub checked_found : {A : Type 0} (m : Meaning) (h : List Entry) (x : Id) (place : Place) (len : ℕ) (bytes : List ℕ) (result : Result (Vec ℕ A) AskFault) → StandsAt h x place → len ≡ place.length → ForSome m.reads (λ file. bytes ≡ take len (drop place.at file))
+pub checked_found : {A : Type 0} (m : Meaning) (h : List Entry) (x : Id) (bytes : List ℕ) (result : Result (Vec ℕ A) AskFault) → IsReadFor m h x bytes
     → IfErr result (λ fault. (fault ≡ BadBytes x (sha256 bytes)) × (sha256 bytes ≢ x)) → TellsDigest m h result
-checked_found m h x place len bytes (Ok same) stands short read err = tt
-checked_found {A = A} m h x place len bytes (Err fault) stands short read err =
-    subst (λ (f : AskFault). TellsDigest {T = Vec ℕ A} m h (Err f)) (sym err.0) (λ file e. (place, stands, ap (λ b. sha256 b) (read file e ∙ ap (λ k. take k (drop place.at file)) short)))
+checked_found m h x bytes (Ok same) there err = tt
+checked_found {A = A} m h x bytes (Err fault) there err =
+    subst (λ (f : AskFault). TellsDigest {T = Vec ℕ A} m h (Err f)) (sym err.0) (λ file e. (there.place, there.stands, ap (λ b. sha256 b) (there.read file e)))
 
-pub checked_honest : {A : Type 0} (opening : Opening) (h : List Entry) (m : Meaning) (x : Id) (place : Place) (len : ℕ) (bytes : List ℕ) (result : Result (Vec ℕ A) AskFault) → IsSound opening h m → disk.IsSound m → StandsAt h x place → len ≡ place.length
-    → ForSome m.reads (λ file. bytes ≡ take len (drop place.at file)) → IfErr result (λ fault. (fault ≡ BadBytes x (sha256 bytes)) × (sha256 bytes ≢ x)) → IsTrue m.honest → is_bad_bytes result ≡ false
-checked_honest opening h m x place len bytes (Ok same) sound told stands short read err honest = refl
-checked_honest opening h m x place len bytes (Err fault) sound told stands short read err honest =
-    absurd (err.1 (honest_content opening h stands.before stands.later m stands.who x place.length place.at bytes stands.history_is stands.at_is sound told honest (λ file e. read file e ∙ ap (λ k. take k (drop place.at file)) short)).0)
+pub checked_honest : {A : Type 0} (x : Id) (bytes : List ℕ) (result : Result (Vec ℕ A) AskFault) → sha256 bytes ≡ x → IfErr result (λ fault. (fault ≡ BadBytes x (sha256 bytes)) × (sha256 bytes ≢ x)) → is_bad_bytes result ≡ false
+checked_honest x bytes (Ok same) is err = refl
+checked_honest x bytes (Err fault) is err = absurd (err.1 is)
+
+-- ---- the bytes, before their digest is compared
+
+pub read_for : (m : Meaning) (h : List Entry) (x : Id) (place : Place) (len : ℕ) (bytes : List ℕ) → Some place.length ≡ content_len h x → StandsAt h x place → len ≡ place.length → length bytes ≡ len → ForSome m.reads (λ file. bytes ≡ take len (drop place.at file)) → IsReadFor m h x bytes
+read_for m h x place len bytes found stands short long read = record {
+  stored = sym found ∙ ap Some (sym short ∙ sym long);
+  place = place;
+  stands = stands;
+  long = long ∙ short;
+  read = λ file e. read file e ∙ ap (λ k. take k (drop place.at file)) short;
+}
+
+pub read_honest : (opening : Opening) (h : List Entry) (m : Meaning) (x : Id) (bytes : List ℕ) → IsSound opening h m → disk.IsSound m → IsReadFor m h x bytes → IsTrue m.honest → sha256 bytes ≡ x
+read_honest opening h m x bytes sound told there honest =
+    let stands = there.stands in
+    (honest_content opening h stands.before stands.later m stands.who x there.place.length there.place.at bytes stands.history_is stands.at_is sound told honest there.read).0

@@ -1,15 +1,23 @@
--- The bytes of a content that isn't what it should be.
+-- The bytes that are read for a content, and one that isn't what it should be.
+--     IsReadFor m h x bytes      a content of this id and as many bytes is stored, and these are what is read at its place
 --     TellsDigest m h result      an id that was found is the SHA-256 (FIPS 180-4) of what is read at the content's place
-use Rattle.std.specs.Prelude.{◌≡◌, List, take, drop, Result, Ok, Err, ⊤}
+use Rattle.std.specs.Prelude.{◌≡◌, ℕ, List, length, take, drop, Some, Result, Ok, Err, ⊤}
 use Rattle.std.specs.Option.{ForSome}
 use Rattle.sha2.specs.Sha256.{sha256}
 use Rattle.byte_fields.specs.Bytes.{Id}
 use Rattle.disk_model.specs.Meaning.{Meaning}
-use Rattle.history_model.specs.History.{Entry}
+use Rattle.history_model.specs.History.{Entry, content_len}
 use Rattle.repo_machine.specs.declared.place.Place.{Place}
 use Rattle.repo_machine.specs.Indexes.{StandsAt}
 use Rattle.seat_calls.specs.declared.calls.AskFault.{AskFault}
 use Rattle.seat_calls.specs.declared.calls.AskFault.TheVariants.{NoContent, NoChangeset, ReadFault, BadBytes, Memory}
+
+pub record IsReadFor (m : Meaning) (h : List Entry) (x : Id) (bytes : List ℕ) : Type 0 where
+  pub stored : content_len h x ≡ Some (length bytes)
+  pub place : Place
+  pub stands : StandsAt h x place
+  pub long : length bytes ≡ place.length
+  pub read : ForSome m.reads (λ file. bytes ≡ take place.length (drop place.at file))
 
 abbrev pub IsDigestThere : Meaning → List Entry → Id → Id → Type 0
 IsDigestThere m h wanted found = ForSome m.reads (λ file. (place : Place) × StandsAt h wanted place × (found ≡ sha256 (take place.length (drop place.at file))))

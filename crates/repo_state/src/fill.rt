@@ -36,8 +36,8 @@ pub(crate) fn fill<D: Disk>(
     }
 }
 
-// The bytes, if they have the id that is wanted.
-pub(crate) fn check(bytes: Vec<u8>, wanted: Id) -> Result<Vec<u8>, AskFault>
+/// The bytes, if they have the id that is wanted.
+pub fn check_digest(bytes: Vec<u8>, wanted: Id) -> Result<Vec<u8>, AskFault>
     ensures ok { IfOk result (λ same. (same.items ≡ bytes.items) × (sha256 bytes.items ≡ wanted)) }
     ensures asked { is_early result ≡ false }
     ensures err { IfErr result (λ fault. (fault ≡ AskFault.BadBytes wanted (sha256 bytes.items)) × (sha256 bytes.items ≢ wanted)) }

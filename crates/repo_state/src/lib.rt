@@ -4,7 +4,7 @@
 pub mod counts;
 pub mod exchange;
 pub mod exchanged;
-mod fill;
+pub mod fill;
 pub mod laws;
 pub mod look;
 pub mod plan;
@@ -15,4 +15,5 @@ pub mod state;
 pub mod store;
 
 pub use exchanged::Exchanged;
+pub use fill::check_digest;
 pub use state::RepoState;

@@ -1,22 +1,26 @@
 //! Reads.
-ghost use Rattle.std.specs.Prelude.{◌≡◌, IsTrue, false, not};
+ghost use Rattle.std.specs.Prelude.{◌≡◌, IsTrue, false, not, Some, IfOk, IfErr};
+ghost use Rattle.std.specs.Arc.{arc_value};
 ghost use Rattle.ports.specs.Faults.{Counts};
+ghost use Rattle.sha2.specs.Sha256.{sha256};
 ghost use Rattle.disk_model.specs.Images.{IsImage};
 ghost use Rattle.disk_model.specs.Calls.{Kept, LeavesOnly, Looked};
+ghost use Rattle.history_model.specs.History.{changeset_of, known};
 ghost use Rattle.reply_model.specs.After.{Answer, Answers, Looks, Replies, nothing};
 ghost use Rattle.reply_model.specs.Reply.{ChangesetOf, ContentOf, LogFrom};
-ghost use Rattle.seat_calls.specs.Asking.{bytes_answer, is_bad_bytes, is_early, is_read_fault, IsAnswer, question_seen, reads_file};
-ghost use Rattle.repo_state.specs.Asking.{TellsDigest};
+ghost use Rattle.seat_calls.specs.Asking.{bytes_answer, fault_answer, is_bad_bytes, is_early, is_read_fault, IsAnswer, question_seen, reads_file};
+ghost use Rattle.repo_state.specs.Asking.{IsReadFor, TellsDigest};
 ghost use Rattle.repo_state.specs.Cores.{LooksSo};
 ghost use Rattle.repo_state.specs.State.{IsSound};
 
-use crate::fill::{check, fill};
+use crate::fill::{check_digest, fill};
 use crate::state::RepoState;
 use blob_disk::Disk;
-use bonsai::encode;
+use bonsai::{Commit, encode};
 use object_id::Id;
 use seat_calls::{AskFault, Question, Seen};
 use std::alloc::Global;
+use std::sync::Arc;
 
 impl<D: Disk> RepoState<D> {
     /// Answers a read of the seat `who`. A content is read from the file, and all else is known.
@@ -68,11 +72,23 @@ impl<D: Disk> RepoState<D> {
         ensures sound { IsSound self.now.opening self.now.history self.now.disk }
         ensures read { (is_read_fault result ≡ false) × (is_bad_bytes result ≡ false) }
     {
-        let Some(commit) = self.machine.changeset(&id) else {
-            return Err(AskFault::NoChangeset { id });
-        };
+        let commit = self.changeset(id)?;
         match encode(alloc, commit.changeset()) {
             Ok(bytes) => Ok(Seen::Bytes(bytes)),
+            Err(_) => Err(AskFault::Memory),
+        }
+    }
+
+    /// The changeset with this id, shared, so that it can be encoded where nobody waits for the repository.
+    pub fn changeset(&self, id: Id) -> Result<Arc<Commit>, AskFault>
+        ensures ok { IfOk result (λ commit. changeset_of (known self.now.history) id ≡ Some (arc_value commit)) }
+        ensures err { IfErr result (λ fault. Answers self.now.header self.now.history (Looks (ChangesetOf id)) (fault_answer fault) nothing) }
+        ensures read { (is_read_fault result ≡ false) × (is_bad_bytes result ≡ false) }
+        ensures sound { IsSound self.now.opening self.now.history self.now.disk }
+    {
+        match self.machine.shared_changeset(&id) {
+            Ok(Some(commit)) => Ok(commit),
+            Ok(None) => Err(AskFault::NoChangeset { id }),
             Err(_) => Err(AskFault::Memory),
         }
     }
@@ -101,6 +117,44 @@ impl<D: Disk> RepoState<D> {
         // It is a step of the repository of many seats.
         ensures core { LooksSo self.old.header self.old.history who (not (is_read_fault result)) self.new.history }
     {
+        match self.content_unchecked(alloc, who, id) {
+            Ok(bytes) => check_digest(bytes, id),
+            Err(fault) => Err(fault),
+        }
+    }
+
+    /// The bytes that stand in the file for a content. Whether they have its id is left to `check_digest`, which can be
+    /// called where nobody waits for the repository. Where the disk fails to read, that is entered as a fault that the seat
+    /// `who` met.
+    pub fn content_unchecked(
+        &mut self,
+        alloc: Global,
+        who: u64,
+        id: Id,
+    ) -> Result<Vec<u8>, AskFault>
+        ensures ok { IfOk result (λ bytes. IsReadFor self.old.disk self.old.history id bytes.items) }
+        ensures same { IfOk result (λ bytes. self.new.history ≡ self.old.history) }
+        ensures err { IfErr result (λ fault. Replies self.old.header self.old.history who (Looks (ContentOf id)) (fault_answer fault) self.new.history) }
+        ensures unchecked { is_bad_bytes result ≡ false }
+        ensures header { self.new.header ≡ self.old.header }
+        ensures opening { self.new.opening ≡ self.old.opening }
+        ensures sound { IsSound self.new.opening self.new.history self.new.disk }
+        ensures looked { Looked self.old.disk self.new.disk }
+        ensures leaves { LeavesOnly (IsImage self.new.disk.state) self.old.disk self.new.disk }
+        ensures kept { Kept self.old.disk self.new.disk }
+
+        // The disk fails it only where a call of it failed.
+        ensures faults { Counts self.old.disk.faults self.new.disk.faults (is_read_fault result) }
+
+        // An honest disk gives the bytes of the content.
+        ensures honest { IsTrue self.old.disk.honest → IfOk result (λ bytes. sha256 bytes.items ≡ id) }
+
+        // Where there is no such content or no memory, the disk isn't asked.
+        ensures early { IsTrue (is_early result) → self.new.disk ≡ self.old.disk }
+
+        // It is a step of the repository of many seats.
+        ensures core { LooksSo self.old.header self.old.history who (not (is_read_fault result)) self.new.history }
+    {
         let Some(place) = self.machine.content_place(&id) else {
             return Err(AskFault::NoContent { id });
         };
@@ -111,7 +165,7 @@ impl<D: Disk> RepoState<D> {
             return Err(AskFault::Memory);
         };
         match fill(&self.journal, &mut self.disk, place.at, bytes) {
-            Ok(bytes) => check(bytes, id),
+            Ok(bytes) => Ok(bytes),
             Err(_) => {
                 self.machine.fault(who, false);
                 Err(AskFault::ReadFault)

@@ -12,8 +12,9 @@ ghost use Rattle.repo_state.specs.Trees.{LandsAs};
 
 use crate::state::RepoState;
 use blob_disk::Disk;
-use repo_calls::{Ask, Granted};
+use repo_calls::{Ask, Granted, Refusal};
 use repo_journal::AppendFault;
+use repo_machine::{Prepared, prepare};
 use seat_calls::ChangeFault;
 use std::alloc::Global;
 
@@ -43,7 +44,44 @@ impl<D: Disk> RepoState<D> {
         // It is these steps of the repository of many seats.
         ensures core { Stores self.old.header self.old.history who (ask_seen ask.now) (stored_answer result) self.new.history }
     {
-        let judged = match self.machine.judge(alloc, who, ask) {
+        // It keeps its rules.
+        let _ = &self.disk;
+        match prepare(alloc, ask) {
+            Ok(prepared) => self.store_prepared(alloc, who, prepared),
+            Err(_) => Err(ChangeFault::Refused(Refusal::Memory)),
+        }
+    }
+
+    /// Makes a change that was made ready, as `store` does the change itself. No upload is hashed, decoded or encoded here.
+    pub fn store_prepared(
+        &mut self,
+        alloc: Global,
+        who: u64,
+        prepared: Prepared,
+    ) -> Result<Granted, ChangeFault>
+        ensures reply { Replies self.old.header self.old.history who (Asks prepared.entry) (stored_answer result) self.new.history }
+        ensures header { self.new.header ≡ self.old.header }
+        ensures opening { self.new.opening ≡ self.old.opening }
+        ensures sound { IsSound self.new.opening self.new.history self.new.disk }
+
+        // A change that is refused, and one that makes no entry, leave all as it was.
+        ensures same { is_disk_fault result ≡ false → self.new.history ≡ self.old.history → self.new.disk ≡ self.old.disk }
+
+        // Each image stood for the history before or after, or for the one before and the entry left over.
+        ensures leaves { IsTrue self.old.disk.honest → LeavesChange self.old.header self.old.history self.new.history (is_disk_fault result) self.old.disk self.new.disk }
+        ensures kept { Kept self.old.disk self.new.disk }
+
+        // The disk fails the change only where a call of it failed.
+        ensures faults { Counts self.old.disk.faults self.new.disk.faults (is_disk_fault result) }
+
+        // Where a stack lands, the new head's tree has what it sets, and else what the old head's has, in which no path that
+        // the stack touches was changed since the root.
+        ensures lands { IfOk result (λ granted. LandsAs prepared.entry (granted_seen granted) self.old.history self.new.history) }
+
+        // It is these steps of the repository of many seats.
+        ensures core { Stores self.old.header self.old.history who prepared.entry (stored_answer result) self.new.history }
+    {
+        let judged = match self.machine.judge_prepared(alloc, who, prepared) {
             Ok(judged) => judged,
             Err(refusal) => return Err(ChangeFault::Refused(refusal)),
         };

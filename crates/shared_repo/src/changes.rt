@@ -1,4 +1,5 @@
-//! Changes of a repository that many seats share, each one turn but for landings.
+//! Changes of a repository that many seats share: made ready outside of every turn, and then entered under one, but for
+//! landings.
 ghost use Rattle.std.specs.Prelude.{◌≡◌};
 ghost use Rattle.bookmark_lock.specs.Place.{with_front};
 ghost use Rattle.bookmark_lock.specs.Turns.{IsTurn};
@@ -10,11 +11,12 @@ ghost use Rattle.shared_repo.specs.Front.{IsFront, history_of, opening_of};
 
 use crate::repo::Repo;
 use crate::seat::RepoSeat;
-use crate::turns::change_in;
+use crate::turns::store_in;
 use blob_disk::Disk;
 use object_id::Id;
 use ports::Gate;
-use repo_calls::{Ask, Granted};
+use repo_calls::{Ask, Granted, Refusal};
+use repo_machine::prepare;
 use repo_path::BookName;
 use repo_state::RepoState;
 use seat_calls::ChangeFault;
@@ -35,16 +37,7 @@ impl<D: Disk> Repo<D> {
         ensures after { After self.now.opening.header seat.old.front seat.old.number (Asks (PutContent bytes.now)) (stored_answer result) seat.new.front }
         ensures front { IsFront self.now.opening seat.new.front }
     {
-        let who = seat.inner.number();
-        self.lock.enter(
-            rt,
-            &mut seat.inner,
-            |state: &mut RepoState<D>| -> (bool, Result<Granted, ChangeFault>)
-                ensures reply { Replies state.old.opening.header state.old.history who (Asks (PutContent bytes.entry.now)) (stored_answer result.1) state.new.history }
-                ensures turn { IsTurn history_of opening_of who state.old state.new result.0 }
-                ensures front { IsFront state.new.opening state.new.history }
-            { change_in(state, alloc, who, &Ask::PutContent(bytes)) },
-        )
+        self.store(rt, alloc, seat, &Ask::PutContent(bytes))
     }
 
     /// Stores the changeset that these bytes encode.
@@ -60,16 +53,7 @@ impl<D: Disk> Repo<D> {
         ensures after { After self.now.opening.header seat.old.front seat.old.number (Asks (PutChangeset bytes.now)) (stored_answer result) seat.new.front }
         ensures front { IsFront self.now.opening seat.new.front }
     {
-        let who = seat.inner.number();
-        self.lock.enter(
-            rt,
-            &mut seat.inner,
-            |state: &mut RepoState<D>| -> (bool, Result<Granted, ChangeFault>)
-                ensures reply { Replies state.old.opening.header state.old.history who (Asks (PutChangeset bytes.entry.now)) (stored_answer result.1) state.new.history }
-                ensures turn { IsTurn history_of opening_of who state.old state.new result.0 }
-                ensures front { IsFront state.new.opening state.new.history }
-            { change_in(state, alloc, who, &Ask::PutChangeset(bytes)) },
-        )
+        self.store(rt, alloc, seat, &Ask::PutChangeset(bytes))
     }
 
     /// Moves a bookmark, if its head is `from`. `None` stands for no bookmark.
@@ -87,16 +71,7 @@ impl<D: Disk> Repo<D> {
         ensures after { After self.now.opening.header seat.old.front seat.old.number (Asks (SetBookmark name.now from to)) (stored_answer result) seat.new.front }
         ensures front { IsFront self.now.opening seat.new.front }
     {
-        let who = seat.inner.number();
-        self.lock.enter(
-            rt,
-            &mut seat.inner,
-            |state: &mut RepoState<D>| -> (bool, Result<Granted, ChangeFault>)
-                ensures reply { Replies state.old.opening.header state.old.history who (Asks (SetBookmark name.entry.now from to)) (stored_answer result.1) state.new.history }
-                ensures turn { IsTurn history_of opening_of who state.old state.new result.0 }
-                ensures front { IsFront state.new.opening state.new.history }
-            { change_in(state, alloc, who, &Ask::SetBookmark { name, from, to }) },
-        )
+        self.store(rt, alloc, seat, &Ask::SetBookmark { name, from, to })
     }
 
     /// Makes a change. The gate is passed by landings alone.
@@ -114,12 +89,37 @@ impl<D: Disk> Repo<D> {
         ensures front { IsFront self.now.opening seat.new.front }
     {
         match *ask {
-            Ask::PutContent(bytes) => self.put_content(rt, alloc, seat, bytes),
-            Ask::PutChangeset(bytes) => self.put_changeset(rt, alloc, seat, bytes),
-            Ask::SetBookmark { name, from, to } => {
-                self.set_bookmark(rt, alloc, seat, name, from, to)
-            }
             Ask::Land { name, draft } => self.land(rt, alloc, seat, name, draft, gate),
+            _ => self.store(rt, alloc, seat, ask),
         }
+    }
+
+    // Makes a change ready outside of every turn, and enters it under one.
+    #[tactic(auto, using(crate::proofs::Fronts::sees_nothing, crate::proofs::Fronts::after_nothing))]
+    fn store<R: Wait>(
+        &self,
+        rt: &R,
+        alloc: Global,
+        seat: &mut RepoSeat,
+        ask: &Ask,
+    ) -> Result<Granted, ChangeFault>
+        requires place { seat.old.lock ≡ self.now }
+        ensures seat { seat.new ≡ with_front seat.old seat.new.front }
+        ensures after { After self.now.opening.header seat.old.front seat.old.number (Asks (ask_seen ask.now)) (stored_answer result) seat.new.front }
+        ensures front { IsFront self.now.opening seat.new.front }
+    {
+        let who = seat.inner.number();
+        let Ok(prepared) = prepare(alloc, ask) else {
+            return Err(ChangeFault::Refused(Refusal::Memory));
+        };
+        self.lock.enter(
+            rt,
+            &mut seat.inner,
+            |state: &mut RepoState<D>| -> (bool, Result<Granted, ChangeFault>)
+                ensures reply { Replies state.old.opening.header state.old.history who (Asks prepared.entry) (stored_answer result.1) state.new.history }
+                ensures turn { IsTurn history_of opening_of who state.old state.new result.0 }
+                ensures front { IsFront state.new.opening state.new.history }
+            { store_in(state, alloc, who, prepared) },
+        )
     }
 }

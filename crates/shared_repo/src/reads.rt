@@ -1,22 +1,26 @@
 //! Reads of a repository that many seats share, each one turn.
-ghost use Rattle.std.specs.Prelude.{◌≡◌};
+ghost use Rattle.std.specs.Prelude.{◌≡◌, false, length, Some, IfOk, IfErr};
+ghost use Rattle.std.specs.Arc.{arc_value};
 ghost use Rattle.bookmark_lock.specs.Place.{with_front};
 ghost use Rattle.bookmark_lock.specs.Turns.{IsTurn};
 ghost use Rattle.reply_model.specs.Reply.{HeadOf, ContentOf, ChangesetOf, LogFrom};
-ghost use Rattle.reply_model.specs.After.{After, Answer, Looks, Replies};
-ghost use Rattle.seat_calls.specs.Asking.{IsAnswer, question_seen};
+ghost use Rattle.history_model.specs.History.{changeset_of, content_len, known};
+ghost use Rattle.reply_model.specs.After.{After, Answer, Answers, Looks, Replies, nothing};
+ghost use Rattle.seat_calls.specs.Asking.{IsAnswer, fault_answer, question_seen};
 ghost use Rattle.shared_repo.specs.Front.{IsFront, history_of, opening_of};
+ghost use Rattle.shared_repo.specs.Landing.{SeesMore};
 
 use crate::repo::Repo;
 use crate::seat::RepoSeat;
-use crate::turns::look_in;
+use crate::turns::{changeset_in, content_in, look_in};
 use blob_disk::Disk;
+use bonsai::{Commit, encode};
 use object_id::Id;
 use repo_path::BookName;
-use repo_state::RepoState;
+use repo_state::{RepoState, check_digest};
 use seat_calls::{AskFault, Question, Seen};
 use std::alloc::Global;
-use std::sync::Wait;
+use std::sync::{Arc, Wait};
 
 impl<D: Disk> Repo<D> {
     /// The head of a bookmark.
@@ -44,7 +48,8 @@ impl<D: Disk> Repo<D> {
         )
     }
 
-    /// The bytes of a content.
+    /// The bytes of a content, which are hashed outside of the turn.
+    #[tactic(auto, using(crate::proofs::Fronts::after_nothing, crate::proofs::Contents::checked))]
     pub fn content<R: Wait>(
         &self,
         rt: &R,
@@ -57,19 +62,45 @@ impl<D: Disk> Repo<D> {
         ensures after { (answer : Answer) × IsAnswer result answer × After self.now.opening.header seat.old.front seat.old.number (Looks (ContentOf id)) answer seat.new.front }
         ensures front { IsFront self.now.opening seat.new.front }
     {
+        let bytes = match self.content_unchecked(rt, alloc, seat, id) {
+            Ok(bytes) => bytes,
+            Err(fault) => return Err(fault),
+        };
+        match check_digest(bytes, id) {
+            Ok(bytes) => Ok(Seen::Bytes(bytes)),
+            Err(fault) => Err(fault),
+        }
+    }
+
+    // The turn of a content's read.
+    fn content_unchecked<R: Wait>(
+        &self,
+        rt: &R,
+        alloc: Global,
+        seat: &mut RepoSeat,
+        id: Id,
+    ) -> Result<Vec<u8>, AskFault>
+        requires place { seat.old.lock ≡ self.now }
+        ensures seat { seat.new ≡ with_front seat.old seat.new.front }
+        ensures ok { IfOk result (λ bytes. SeesMore seat.old.front seat.old.number seat.new.front × (content_len seat.new.front id ≡ Some (length bytes.items))) }
+        ensures err { IfErr result (λ fault. After self.now.opening.header seat.old.front seat.old.number (Looks (ContentOf id)) (fault_answer fault) seat.new.front) }
+        ensures front { IsFront self.now.opening seat.new.front }
+    {
         let who = seat.inner.number();
         self.lock.enter(
             rt,
             &mut seat.inner,
-            |state: &mut RepoState<D>| -> (bool, Result<Seen, AskFault>)
-                ensures reply { (answer : Answer) × IsAnswer result.1 answer × Replies state.old.opening.header state.old.history who (Looks (ContentOf id)) answer state.new.history }
+            |state: &mut RepoState<D>| -> (bool, Result<Vec<u8>, AskFault>)
+                ensures ok { IfOk result.1 (λ bytes. (state.new.history ≡ state.old.history) × (content_len state.old.history id ≡ Some (length bytes.items))) }
+                ensures err { IfErr result.1 (λ fault. Replies state.old.opening.header state.old.history who (Looks (ContentOf id)) (fault_answer fault) state.new.history) }
                 ensures turn { IsTurn history_of opening_of who state.old state.new result.0 }
                 ensures front { IsFront state.new.opening state.new.history }
-            { look_in(state, alloc, who, &Question::Content(id)) },
+            { content_in(state, alloc, who, id) },
         )
     }
 
-    /// The encoding of a changeset.
+    /// The encoding of a changeset, which is made outside of the turn.
+    #[tactic(auto, using(crate::proofs::Fronts::after_nothing))]
     pub fn changeset<R: Wait>(
         &self,
         rt: &R,
@@ -82,15 +113,41 @@ impl<D: Disk> Repo<D> {
         ensures after { (answer : Answer) × IsAnswer result answer × After self.now.opening.header seat.old.front seat.old.number (Looks (ChangesetOf id)) answer seat.new.front }
         ensures front { IsFront self.now.opening seat.new.front }
     {
-        let who = seat.inner.number();
+        let commit = match self.shared_changeset(rt, seat, id) {
+            Ok(commit) => commit,
+            Err(fault) => return Err(fault),
+        };
+        match encode(alloc, commit.changeset()) {
+            Ok(bytes) => Ok(Seen::Bytes(bytes)),
+            Err(_) => Err(AskFault::Memory),
+        }
+    }
+
+    // The turn of a changeset's read, which hands the changeset out.
+    fn shared_changeset<R: Wait>(
+        &self,
+        rt: &R,
+        seat: &mut RepoSeat,
+        id: Id,
+    ) -> Result<Arc<Commit>, AskFault>
+        requires place { seat.old.lock ≡ self.now }
+        ensures seat { seat.new ≡ with_front seat.old seat.new.front }
+        ensures more { SeesMore seat.old.front seat.old.number seat.new.front }
+        ensures ok { IfOk result (λ commit. changeset_of (known seat.new.front) id ≡ Some (arc_value commit)) }
+        ensures err { IfErr result (λ fault. Answers self.now.opening.header seat.new.front (Looks (ChangesetOf id)) (fault_answer fault) nothing) }
+        ensures front { IsFront self.now.opening seat.new.front }
+    {
         self.lock.enter(
             rt,
             &mut seat.inner,
-            |state: &mut RepoState<D>| -> (bool, Result<Seen, AskFault>)
-                ensures reply { (answer : Answer) × IsAnswer result.1 answer × Replies state.old.opening.header state.old.history who (Looks (ChangesetOf id)) answer state.new.history }
-                ensures turn { IsTurn history_of opening_of who state.old state.new result.0 }
+            |state: &mut RepoState<D>| -> (bool, Result<Arc<Commit>, AskFault>)
+                ensures same { state.new.history ≡ state.old.history }
+                ensures opening { state.new.opening ≡ state.old.opening }
+                ensures none { result.0 ≡ false }
+                ensures ok { IfOk result.1 (λ commit. changeset_of (known state.old.history) id ≡ Some (arc_value commit)) }
+                ensures err { IfErr result.1 (λ fault. Answers state.old.opening.header state.old.history (Looks (ChangesetOf id)) (fault_answer fault) nothing) }
                 ensures front { IsFront state.new.opening state.new.history }
-            { look_in(state, alloc, who, &Question::Changeset(id)) },
+            { (false, changeset_in(state, id)) },
         )
     }
 

@@ -1,23 +1,27 @@
 //! What a seat does with the repository in one turn, and whether it made an entry.
-ghost use Rattle.std.specs.Prelude.{◌≡◌, ◌≢◌, IfOk, IfErr, IsSome, MatchBool, MatchOption, Some};
+ghost use Rattle.std.specs.Prelude.{◌≡◌, ◌≢◌, IfOk, IfErr, IsSome, length, MatchBool, MatchOption, Some};
+ghost use Rattle.std.specs.Arc.{arc_value};
 ghost use Rattle.bookmark_lock.specs.Turns.{IsTurn};
 ghost use Rattle.history_model.specs.Bookmark.{head};
+ghost use Rattle.history_model.specs.History.{changeset_of, content_len, known};
 ghost use Rattle.reply_model.specs.After.{Answer, Answers, Asks, Looks, Replies, nothing};
-ghost use Rattle.reply_model.specs.Reply.{LandDraft};
-ghost use Rattle.repo_calls.specs.Calls.{ask_seen, refused};
+ghost use Rattle.reply_model.specs.Reply.{ChangesetOf, ContentOf, LandDraft};
+ghost use Rattle.repo_calls.specs.Calls.{refused};
 ghost use Rattle.repo_machine.specs.Plans.{IsPlan, WasPlanned};
-ghost use Rattle.seat_calls.specs.Asking.{IsAnswer, question_seen, stored_answer};
+ghost use Rattle.seat_calls.specs.Asking.{IsAnswer, fault_answer, question_seen, stored_answer};
 ghost use Rattle.shared_repo.specs.Front.{IsFront, history_of, opening_of};
 ghost use Rattle.shared_repo.specs.Landing.{outcome_of};
 
 use blob_disk::Disk;
+use bonsai::Commit;
 use object_id::Id;
-use repo_calls::{Ask, Granted, Refusal};
-use repo_machine::{Plan, Rebased};
+use repo_calls::{Granted, Refusal};
+use repo_machine::{Plan, Prepared, Rebased};
 use repo_path::BookName;
 use repo_state::{Exchanged, RepoState};
 use seat_calls::{AskFault, ChangeFault, Question, Seen};
 use std::alloc::Global;
+use std::sync::Arc;
 
 fn differ(before: u64, after: u64) -> bool
     ensures { MatchBool result (after ≢ before) (after ≡ before) }
@@ -25,18 +29,18 @@ fn differ(before: u64, after: u64) -> bool
     before != after
 }
 
-pub(crate) fn change_in<D: Disk>(
+pub(crate) fn store_in<D: Disk>(
     state: &mut RepoState<D>,
     alloc: Global,
     who: u64,
-    ask: &Ask,
+    prepared: Prepared,
 ) -> (bool, Result<Granted, ChangeFault>)
-    ensures reply { Replies state.old.opening.header state.old.history who (Asks (ask_seen ask.now)) (stored_answer result.1) state.new.history }
+    ensures reply { Replies state.old.opening.header state.old.history who (Asks prepared.entry) (stored_answer result.1) state.new.history }
     ensures turn { IsTurn history_of opening_of who state.old state.new result.0 }
     ensures front { IsFront state.new.opening state.new.history }
 {
     let before = state.history_length();
-    let answer = state.store(alloc, who, ask);
+    let answer = state.store_prepared(alloc, who, prepared);
     (differ(before, state.history_length()), answer)
 }
 
@@ -53,6 +57,38 @@ pub(crate) fn look_in<D: Disk>(
     let before = state.history_length();
     let answer = state.look(alloc, who, question);
     (differ(before, state.history_length()), answer)
+}
+
+// The bytes in the file for a content, before their digest is compared.
+pub(crate) fn content_in<D: Disk>(
+    state: &mut RepoState<D>,
+    alloc: Global,
+    who: u64,
+    id: Id,
+) -> (bool, Result<Vec<u8>, AskFault>)
+    ensures ok { IfOk result.1 (λ bytes. (state.new.history ≡ state.old.history) × (content_len state.old.history id ≡ Some (length bytes.items))) }
+    ensures err { IfErr result.1 (λ fault. Replies state.old.opening.header state.old.history who (Looks (ContentOf id)) (fault_answer fault) state.new.history) }
+    ensures turn { IsTurn history_of opening_of who state.old state.new result.0 }
+    ensures front { IsFront state.new.opening state.new.history }
+{
+    let before = state.history_length();
+    let answer = state.content_unchecked(alloc, who, id);
+    (differ(before, state.history_length()), answer)
+}
+
+pub(crate) fn changeset_in<D: Disk>(
+    state: &mut RepoState<D>,
+    id: Id,
+) -> Result<Arc<Commit>, AskFault>
+    ensures same { state.new.history ≡ state.old.history }
+    ensures opening { state.new.opening ≡ state.old.opening }
+    ensures ok { IfOk result (λ commit. changeset_of (known state.old.history) id ≡ Some (arc_value commit)) }
+    ensures err { IfErr result (λ fault. Answers state.old.opening.header state.old.history (Looks (ChangesetOf id)) (fault_answer fault) nothing) }
+    ensures front { IsFront state.new.opening state.new.history }
+{
+    // It keeps its rules.
+    let _ = state.history_length();
+    state.changeset(id)
 }
 
 #[tactic(auto, using(crate::proofs::Landings::refused_plan))]

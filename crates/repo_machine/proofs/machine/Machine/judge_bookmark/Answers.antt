@@ -20,5 +20,5 @@ returns-then-eq-clause-ok c =
 
 pub returns-clause-ok : goal.returns-clause-ok
 returns-clause-ok c =
-    if_ok c.prepare.result _ _
-    (λ j p. judges_made c.args.self.now.header c.args.self.now.history c.prepare.new.self.room c.args.who (SetBookmark c.args.name.now c.args.from c.args.to) c.keep_rules.ensures BookmarkSet _ (subst (λ name. judge c.args.self.now.header c.args.self.now.history (SetBookmark c.args.name.now c.args.from c.args.to) ≡ entered c.args.self.now.header c.args.self.now.history BookmarkSet (Book (record { name = name; from = c.args.from; to = c.args.to }))) (sym c.in_ok-name.ensures) (moving_as c.args.self.now.header c.args.self.now.history c.in_ok-check_up.ensures.ok c.args.name.now c.args.from c.args.to c.head-found.result c.unknown.result c.unknown.ensures c.in_default.is c.head-found.ensures (sym c.ne.ensures ∙ c.if-ne.false) (sym c.eq.ensures ∙ c.if-eq.false))) tt j p) c.prepare.ensures.ok
+    if_ok c.make.result _ _
+    (λ j p. judges_made c.args.self.now.header c.args.self.now.history c.make.new.self.room c.args.who (SetBookmark c.args.name.now c.args.from c.args.to) c.keep_rules.ensures BookmarkSet _ (subst (λ name. judge c.args.self.now.header c.args.self.now.history (SetBookmark c.args.name.now c.args.from c.args.to) ≡ entered c.args.self.now.header c.args.self.now.history BookmarkSet (Book (record { name = name; from = c.args.from; to = c.args.to }))) (sym c.in_ok-name.ensures) (moving_as c.args.self.now.header c.args.self.now.history c.in_ok-check_up.ensures.ok c.args.name.now c.args.from c.args.to c.head-found.result c.unknown.result c.unknown.ensures c.in_default.is c.head-found.ensures (sym c.ne.ensures ∙ c.if-ne.false) (sym c.eq.ensures ∙ c.if-eq.false))) tt j p) c.make.ensures.ok

@@ -1,28 +1,38 @@
-use Rattle.std.proofs.Common.{◌≡◌, true, sym, subst, arith}
-use Rattle.std.specs.Prelude.{Ok}
-use Rattle.byte_fields.specs.Bytes.{are_bytes}
-use Rattle.changeset_model.specs.Decoding.{decoded}
-use Rattle.reply_model.specs.Reply.{PutChangeset, judge}
-use Rattle.repo_machine.specs.Entering.{Judges}
-use Rattle.repo_machine.specs.Landings.{IsRefusal}
-use Rattle.repo_machine.proofs.Putting.{are_bytes-from}
-use Rattle.repo_machine.proofs.Uploading.{fault_judged, spelled}
-use Rattle.repo_machine.proofs.Granting.{if_ok, if_err}
+use Rattle.std.proofs.Common.{true, false, sym, ap, ◌∙◌}
+use Rattle.std.specs.Arc.{arc_value}
+use Rattle.changeset_model.specs.Changeset.{spelling}
+use Rattle.history_model.specs.History.{Change}
+use Rattle.reply_model.specs.Reply.{PutChangeset, ChangesetPut}
+use Rattle.repo_machine.specs.Held.{repository}
+use Rattle.repo_machine.proofs.Judging.{passes_refusal}
+use Rattle.repo_machine.proofs.Uploading.{parents_found, contents_found, collision_found, judged_as, is_new}
+use Rattle.repo_machine.proofs.Granting.{judges_nothing, judges_made, if_ok, all_prevented}
 use Rattle.repo_machine.proofs.machine.Machine.judge_changeset.Goals as goal
 
-pub returns-in-Err-clause-err : goal.returns-in-Err-clause-err
-returns-in-Err-clause-err c = subst (IsRefusal (judge c.args.self.now.header c.args.self.now.history (PutChangeset c.args.bytes.now))) (sym c.refusal_of.ensures) (fault_judged c.args.self.now.header c.args.self.now.history c.args.bytes.now c.in_ok-check_up.ensures.ok c.in-Err.fault c.in-Err.ensures)
+pub returns-in_err-check_parents-clause-err : goal.returns-in_err-check_parents-clause-err
+returns-in_err-check_parents-clause-err c =
+    passes_refusal _ c.from_residual-in_err-check_parents.result _ c.from_residual-in_err-check_parents.ensures.1 (parents_found c.self.invariant.1 (repository c.args.self.now) (ap repository c.self.view_is) c.in_ok-check_up.ensures.ok (spelling (arc_value c.args.framed.commit)) (arc_value c.args.framed.commit) c.requires.ready.decodes _ c.changeset.ensures _ c.in_err-check_parents.ensures)
 
-pub judge_commit-requires-clause-decoded : goal.judge_commit-requires-clause-decoded
-judge_commit-requires-clause-decoded c = subst (λ bytes. decoded bytes ≡ Ok c.in-Ok.commit) (spelled c.args.bytes.now c.in-Ok.commit (λ i. omega (arith, c.type_inv.bytes i)) c.in-Ok.ensures) c.in-Ok.ensures
+pub returns-in_err-check_contents-clause-err : goal.returns-in_err-check_contents-clause-err
+returns-in_err-check_contents-clause-err c =
+    passes_refusal _ c.from_residual-in_err-check_contents.result _ c.from_residual-in_err-check_contents.ensures.1 (contents_found c.self.invariant.1 (repository c.args.self.now) (ap repository c.self.view_is) c.in_ok-check_up.ensures.ok (spelling (arc_value c.args.framed.commit)) (arc_value c.args.framed.commit) c.requires.ready.decodes _ c.changeset.ensures c.in_ok-check_parents.ensures _ (c.edits.ensures.edits ∙ ap (λ m. m.changes) c.changeset-2.ensures) _ c.in_err-check_contents.ensures)
 
-pub judge_commit-requires-clause-bytes : goal.judge_commit-requires-clause-bytes
-judge_commit-requires-clause-bytes c = subst (λ bytes. are_bytes bytes ≡ true) (spelled c.args.bytes.now c.in-Ok.commit (λ i. omega (arith, c.type_inv.bytes i)) c.in-Ok.ensures) (are_bytes-from c.args.bytes.now (λ i. omega (arith, c.type_inv.bytes i)))
+pub returns-then-is_other-clause-err : goal.returns-then-is_other-clause-err
+returns-then-is_other-clause-err c = collision_found c.self.invariant.1 (repository c.args.self.now) (ap repository c.self.view_is) c.in_ok-check_up.ensures.ok (spelling (arc_value c.args.framed.commit)) (arc_value c.args.framed.commit) c.requires.ready.decodes _ c.changeset.ensures c.in_ok-check_parents.ensures _ (c.edits.ensures.edits ∙ ap (λ m. m.changes) c.changeset-2.ensures) c.in_ok-check_contents.ensures (sym c.is_other.ensures.found ∙ c.if-is_other.true) c.id-id.result c.id-id.ensures
+
+pub returns-then-is_known-clause-ok : goal.returns-then-is_known-clause-ok
+returns-then-is_known-clause-ok c =
+    judges_nothing c.args.self.now.header c.args.self.now.history c.args.self.now.room c.args.who (PutChangeset (spelling (arc_value c.args.framed.commit))) c.requires.ready.are (ChangesetPut c.id-id.result)
+    (judged_as c.self.invariant.1 (repository c.args.self.now) (ap repository c.self.view_is) c.in_ok-check_up.ensures.ok (spelling (arc_value c.args.framed.commit)) (arc_value c.args.framed.commit) c.requires.ready.decodes _ c.changeset.ensures c.in_ok-check_parents.ensures _ (c.edits.ensures.edits ∙ ap (λ m. m.changes) c.changeset-2.ensures) c.in_ok-check_contents.ensures (sym c.is_other.ensures.found ∙ c.if-is_other.false) c.id-id.result c.id-id.ensures true (sym c.if-is_known.true ∙ c.is_known.ensures)) c.unchanged.result c.unchanged.ensures
 
 pub returns-clause-ok : goal.returns-clause-ok
 returns-clause-ok c =
-    if_ok c.judge_commit.result _ _ (λ j judges. subst (λ bytes. Judges c.args.self.now.header c.args.self.now.history c.judge_commit.new.self.room c.args.who (PutChangeset bytes) j) (sym (spelled c.args.bytes.now c.in-Ok.commit (λ i. omega (arith, c.type_inv.bytes i)) c.in-Ok.ensures)) judges) c.judge_commit.ensures.ok
+    if_ok c.make_framed.result _ _
+    (λ j p. judges_made c.args.self.now.header c.args.self.now.history c.make_framed.new.self.room c.args.who (PutChangeset (spelling (arc_value c.args.framed.commit))) c.requires.ready.are (ChangesetPut c.id-id.result) (Change (arc_value c.args.framed.commit))
+    (judged_as c.self.invariant.1 (repository c.args.self.now) (ap repository c.self.view_is) c.in_ok-check_up.ensures.ok (spelling (arc_value c.args.framed.commit)) (arc_value c.args.framed.commit) c.requires.ready.decodes _ c.changeset.ensures c.in_ok-check_parents.ensures _ (c.edits.ensures.edits ∙ ap (λ m. m.changes) c.changeset-2.ensures) c.in_ok-check_contents.ensures (sym c.is_other.ensures.found ∙ c.if-is_other.false) c.id-id.result c.id-id.ensures false (sym c.if-is_known.false ∙ c.is_known.ensures))
+    (is_new c.self.invariant.1 (repository c.args.self.now) (ap repository c.self.view_is) c.in_ok-check_up.ensures.ok (spelling (arc_value c.args.framed.commit)) (arc_value c.args.framed.commit) c.requires.ready.decodes _ c.changeset.ensures c.in_ok-check_parents.ensures _ (c.edits.ensures.edits ∙ ap (λ m. m.changes) c.changeset-2.ensures) c.in_ok-check_contents.ensures (sym c.is_other.ensures.found ∙ c.if-is_other.false) c.id-id.result c.id-id.ensures (sym c.if-is_known.false ∙ c.is_known.ensures)) j p) c.make_framed.ensures.ok
 
 pub returns-clause-err : goal.returns-clause-err
 returns-clause-err c =
-    if_err c.judge_commit.result _ _ (λ e refusal. subst (λ bytes. IsRefusal (judge c.args.self.now.header c.args.self.now.history (PutChangeset bytes)) e) (sym (spelled c.args.bytes.now c.in-Ok.commit (λ i. omega (arith, c.type_inv.bytes i)) c.in-Ok.ensures)) refusal) c.judge_commit.ensures.err
+    all_prevented c.make_framed.result c.args.self.now.header c.args.self.now.history (PutChangeset (spelling (arc_value c.args.framed.commit))) (ChangesetPut c.id-id.result) (Change (arc_value c.args.framed.commit))
+    (judged_as c.self.invariant.1 (repository c.args.self.now) (ap repository c.self.view_is) c.in_ok-check_up.ensures.ok (spelling (arc_value c.args.framed.commit)) (arc_value c.args.framed.commit) c.requires.ready.decodes _ c.changeset.ensures c.in_ok-check_parents.ensures _ (c.edits.ensures.edits ∙ ap (λ m. m.changes) c.changeset-2.ensures) c.in_ok-check_contents.ensures (sym c.is_other.ensures.found ∙ c.if-is_other.false) c.id-id.result c.id-id.ensures false (sym c.if-is_known.false ∙ c.is_known.ensures)) c.make_framed.ensures.err

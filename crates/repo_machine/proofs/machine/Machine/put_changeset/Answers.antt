@@ -8,10 +8,10 @@ use Rattle.repo_machine.proofs.machine.Machine.put_changeset.Goals as goal
 
 pub returns-in_err-judged-clause-reply : goal.returns-in_err-judged-clause-reply
 returns-in_err-judged-clause-reply c =
-    answers_refusal changeset_answer (λ e. refl) c.args.self.now.header c.args.self.now.history c.args.who (PutChangeset c.args.bytes.now) c.from_residual.result _ c.judge_changeset.new.self.history c.from_residual.ensures.1 c.in_err-judged.ensures.err c.judge_changeset.ensures.history
+    answers_refusal changeset_answer (λ e. refl) c.args.self.now.header c.args.self.now.history c.args.who (PutChangeset c.args.bytes.now) c.from_residual.result _ c.judge.new.self.history c.from_residual.ensures.1 c.in_err-judged.ensures.err c.judge.ensures.history
 
 pub returns-clause-reply : goal.returns-clause-reply
 returns-clause-reply c =
     subst (λ g. Replies c.args.self.now.header c.args.self.now.history c.args.who (Asks (PutChangeset c.args.bytes.now)) (Grants g) c.admit.new.self.history) (sym c.admit.ensures.granted ∙ ap granted_seen c.in-Changeset.is)
     (replies_admitted c.args.self.now.header c.args.self.now.history c.args.who (PutChangeset c.args.bytes.now) c.in_ok-judged.judged c.admit.new.self.history c.in_ok-judged.ensures.ok.is_judged c.in_ok-judged.ensures.ok.by
-    (c.admit.ensures.history ∙ ap (λ h. h ++ entries_of c.in_ok-judged.judged.who (record { entry = c.in_ok-judged.judged.made; fault = None })) c.judge_changeset.ensures.history))
+    (c.admit.ensures.history ∙ ap (λ h. h ++ entries_of c.in_ok-judged.judged.who (record { entry = c.in_ok-judged.judged.made; fault = None })) c.judge.ensures.history))

@@ -1,56 +1,12 @@
-use Rattle.std.proofs.Common.{false, List, [], ◌∷◌, ◌++◌, refl, sym, ap, ◌∙◌}
-use Rattle.history_model.specs.History.{Fault, Entry}
-use Rattle.reply_model.specs.After.{entry_by}
-use Rattle.repo_state.specs.State.{opening_of}
-use Rattle.repo_state.proofs.Looking.{read_as, holds_read, holds_read_failed, checked_replies, checked_found, checked_honest}
-use Rattle.repo_state.proofs.Stepping.{looks_fault}
+use Rattle.repo_state.proofs.Looking.{checked_replies, checked_found, checked_honest}
 use Rattle.repo_state.proofs.state.RepoState.content.Goals as goal
 
-pub invariant_of-self-in-Ok-fill : goal.invariant_of-self-in-Ok-fill
-invariant_of-self-in-Ok-fill g c =
-    let e = c.in-Ok-fill.ensures in
-    holds_read c.self.inside.machine.header c.room.new.self.header c.self.inside.machine.history c.room.new.self.history c.self.inside.journal _ _ _ c.room.ensures.header c.room.ensures.history
-    (read_as _ _ _ _ refl e.kept e.faults e.quiet e.looked e.leaves) c.self.invariant
+pub returns-in-Ok-clause-reply : goal.returns-in-Ok-clause-reply
+returns-in-Ok-clause-reply g c =
+    checked_replies c.args.self.now.header c.args.self.now.history c.content_unchecked.new.self.history c.args.who c.args.id c.in-Ok.bytes.items c.check_digest.result c.in-Ok.ensures.same c.in-Ok.ensures.ok.stored c.check_digest.ensures.ok c.check_digest.ensures.err
 
-pub invariant_of-self-in-Err : goal.invariant_of-self-in-Err
-invariant_of-self-in-Err g c =
-    let e = c.in-Err.ensures in
-    holds_read_failed c.self.inside.machine.header c.room.new.self.header c.fault.new.self.header c.self.inside.machine.history c.room.new.self.history c.fault.new.self.history c.args.who c.self.inside.journal _ _ _
-    c.room.ensures.header c.fault.ensures.header c.room.ensures.history c.fault.ensures.history (read_as _ _ _ _ refl e.kept e.faults e.quiet e.looked e.leaves) c.self.invariant
+pub returns-in-Ok-clause-found : goal.returns-in-Ok-clause-found
+returns-in-Ok-clause-found g c = checked_found c.args.self.now.disk c.args.self.now.history c.args.id c.in-Ok.bytes.items c.check_digest.result c.in-Ok.ensures.ok c.check_digest.ensures.err
 
-pub returns-in-Ok-fill-clause-reply : goal.returns-in-Ok-fill-clause-reply
-returns-in-Ok-fill-clause-reply g c =
-    let short = sym c.in-Ok.bytes.ok.0 ∙ c.in-Ok.ensures.len in
-    rw (← c.self.view_is)
-    (checked_replies c.self.inside.machine.header c.self.inside.machine.history c.room.new.self.history c.args.who c.args.id c.in-Some.place.length c.in-Ok-fill.bytes.items c.check.result c.room.ensures.history
-    c.in-Some.ensures.length (c.in-Ok-fill.ensures.length ∙ short) c.check.ensures.ok c.check.ensures.err)
-
-pub returns-in-Ok-fill-clause-sound : goal.returns-in-Ok-fill-clause-sound
-returns-in-Ok-fill-clause-sound g c =
-    let e = c.in-Ok-fill.ensures in
-    (holds_read c.self.inside.machine.header c.room.new.self.header c.self.inside.machine.history c.room.new.self.history c.self.inside.journal _ _ _ c.room.ensures.header c.room.ensures.history
-    (read_as _ _ _ _ refl e.kept e.faults e.quiet e.looked e.leaves) c.self.invariant).0
-
-pub returns-in-Ok-fill-clause-found : goal.returns-in-Ok-fill-clause-found
-returns-in-Ok-fill-clause-found g c =
-    let short = sym c.in-Ok.bytes.ok.0 ∙ c.in-Ok.ensures.len in
-    rw (← c.self.view_is)
-    (checked_found (g.D.Disk.meaning c.self.inside.disk) c.self.inside.machine.history c.args.id c.in-Some.place _ c.in-Ok-fill.bytes.items c.check.result c.in-Some.ensures.place short c.in-Ok-fill.ensures.bytes c.check.ensures.err)
-
-pub returns-in-Ok-fill-clause-honest : goal.returns-in-Ok-fill-clause-honest
-returns-in-Ok-fill-clause-honest g c =
-    let short = sym c.in-Ok.bytes.ok.0 ∙ c.in-Ok.ensures.len in
-    rw (← c.self.view_is)
-    (checked_honest (opening_of c.self.inside.machine.header c.self.inside.journal.opening (g.D.Disk.meaning c.self.inside.first.value)) c.self.inside.machine.history (g.D.Disk.meaning c.self.inside.disk)
-    c.args.id c.in-Some.place _ c.in-Ok-fill.bytes.items c.check.result c.self.invariant.0 (g.met.D.Disk.sound c.self.inside.disk) c.in-Some.ensures.place short c.in-Ok-fill.ensures.bytes c.check.ensures.err)
-
-pub returns-in-Err-clause-sound : goal.returns-in-Err-clause-sound
-returns-in-Err-clause-sound g c =
-    let e = c.in-Err.ensures in
-    (holds_read_failed c.self.inside.machine.header c.room.new.self.header c.fault.new.self.header c.self.inside.machine.history c.room.new.self.history c.fault.new.self.history c.args.who c.self.inside.journal _ _ _
-    c.room.ensures.header c.fault.ensures.header c.room.ensures.history c.fault.ensures.history (read_as _ _ _ _ refl e.kept e.faults e.quiet e.looked e.leaves) c.self.invariant).0
-
-pub returns-in-Err-clause-core : goal.returns-in-Err-clause-core
-returns-in-Err-clause-core g c =
-    rw (← c.self.view_is)
-    (looks_fault c.self.inside.machine.header c.self.inside.machine.history c.fault.new.self.history c.args.who (c.fault.ensures.history ∙ ap (λ (h : List Entry). h ++ entry_by c.args.who (Fault false) ∷ []) c.room.ensures.history))
+pub returns-in-Ok-clause-honest : goal.returns-in-Ok-clause-honest
+returns-in-Ok-clause-honest g c = λ honest. checked_honest c.args.id c.in-Ok.bytes.items c.check_digest.result (c.in-Ok.ensures.honest honest) c.check_digest.ensures.err

@@ -1,0 +1,34 @@
+-- What is made ready of an upload.
+use Rattle.std.proofs.Common.{◌≡◌, ◌≢◌, ℕ, ◌+◌, ◌≤◌, ◌<◌, true, List, [], ◌∷◌, length, refl, sym, ap, subst, ◌∙◌, suc, absurd, arith}
+use Rattle.std.specs.Prelude.{Ok, Err, Some}
+use Rattle.byte_fields.specs.Bytes.{IsBytes, are_bytes}
+use Rattle.changeset_model.specs.Changeset.{Changeset, spelling, most_content}
+use Rattle.changeset_model.specs.Decoding.{decoded}
+use Rattle.changeset_model.specs.Decoding as decoding
+use Rattle.history_model.specs.History.{Body, Content, Change, Book, Land, Fault, Entry, is_down}
+use Rattle.history_model.specs.Journal.{Header, IsPayload, payload_len}
+use Rattle.bonsai.specs.declared.decode_fault.DecodeFault.{DecodeFault}
+use Rattle.bonsai.specs.declared.decode_fault.DecodeFault.TheVariants as faults
+use Rattle.bonsai.specs.Decodes.{Refuses}
+use Rattle.reply_model.specs.Reply.{PutContent, PutChangeset, TooLong, BadEncoding, SelfConflict}
+use Rattle.repo_calls.specs.declared.refusal.Refusal.TheVariants as refusals
+use Rattle.repo_machine.specs.Faults.{fault_refusal}
+use Rattle.repo_machine.specs.Prepared.{IsRefusedAs}
+use Rattle.repo_machine.proofs.Judging.{judged_long}
+use Rattle.repo_machine.proofs.Uploading.{fault_refused}
+
+pub too_long : (bytes : List ℕ) → most_content < length bytes → IsRefusedAs (PutContent bytes) (refusals.TooLong (length bytes))
+too_long bytes long = record { refusal = TooLong (length bytes); same = refl; always = λ header h up. judged_long header h bytes up long }
+
+pub faulty : (bytes : List ℕ) (fault : DecodeFault) → Refuses fault (decoded bytes) → fault ≢ faults.Memory → IsRefusedAs (PutChangeset bytes) (fault_refusal fault)
+faulty bytes (faults.TooLong n) e known = record { refusal = TooLong n; same = refl; always = λ header h up. fault_refused header h bytes up (decoding.TooLong n) e }
+faulty bytes (faults.BadEncoding at) e known = record { refusal = BadEncoding at; same = refl; always = λ header h up. fault_refused header h bytes up (decoding.BadEncoding at) e }
+faulty bytes (faults.SelfConflict short long) e known = record { refusal = SelfConflict short long; same = refl; always = λ header h up. fault_refused header h bytes up (decoding.SelfConflict short long) e }
+faulty bytes faults.Memory e known = absurd (known refl)
+
+pub payload_length : (body : Body) (bytes : List ℕ) → IsPayload body bytes → length bytes ≡ payload_len body
+payload_length (Content x n) bytes is = ap (λ xs. length xs) is.2 ∙ ap (λ k. suc k) is.1.1 ∙ omega arith
+payload_length (Change c) bytes is = ap (λ xs. length xs) is.2
+payload_length (Book move) bytes is = ap (λ xs. length xs) is.2
+payload_length (Land landing) bytes is = ap (λ xs. length xs) is.2
+payload_length (Fault breaking) bytes is = ap (λ xs. length xs) is.2

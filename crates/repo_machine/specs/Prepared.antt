@@ -1,0 +1,82 @@
+-- Changes that are made ready where no machine is at hand.
+--     ask_of ready      the change that was asked for
+--     IsRefusedAs ask e      it is refused so at each history at which no disk has failed
+--     IsReadyContent bytes id frame, IsReadyChangeset c frame      an upload that may be judged, with its record
+--     IsReadyTo ready      what is ready is so for the change
+--     coded_ask      a change as sums and pairs
+use Rattle.std.specs.Prelude.{◌≡◌, ◌≤◌, ◌⊎◌, ℕ, true, false, List, length, Option, Some, Ok, Err, refl}
+use mathlib.Core.Logic.{inl, inr}
+use Rattle.std.specs.Arc.{arc_value}
+use Rattle.std.specs.Coded.{Coded, code_by, coded_ℕ, coded_list, coded_option, coded×, coded⊎}
+use Rattle.sha2.specs.Sha256.{sha256}
+use Rattle.byte_fields.specs.Bytes.{Id, are_bytes}
+use Rattle.changeset_model.specs.Changeset.{Changeset, spelling, most_content}
+use Rattle.changeset_model.specs.Codes.{coded_id}
+use Rattle.changeset_model.specs.Decoding.{decoded}
+use Rattle.history_model.specs.History.{Content, Change, Entry, is_down}
+use Rattle.history_model.specs.Journal.{Header}
+use Rattle.reply_model.specs.Reply as reply
+use Rattle.reply_model.specs.Reply.{Ask, judge}
+use Rattle.reply_model.specs.After.{Refuses}
+use Rattle.repo_calls.specs.Calls.{ask_seen, refused}
+use Rattle.repo_calls.specs.declared.refusal.Refusal as refusals
+use Rattle.repo_machine.specs.declared.prepared.Ready.{Ready}
+use Rattle.repo_machine.specs.declared.prepared.Ready.TheVariants as ready
+use Rattle.repo_machine.specs.Judged.{Frames}
+
+abbrev pub ask_of : Ready → Ask
+ask_of (ready.Refused ask refusal) = ask_seen ask
+ask_of (ready.Content bytes id frame) = reply.PutContent bytes.now
+ask_of (ready.Changeset framed) = reply.PutChangeset (spelling (arc_value framed.commit))
+ask_of (ready.Bookmark name from to) = reply.SetBookmark name.now from to
+ask_of (ready.Landing name draft) = reply.LandDraft name.now draft
+
+pub record IsRefusedAs (ask : Ask) (e : refusals.Refusal) : Type 0 where
+  pub refusal : reply.Refusal
+  pub same : refused e ≡ Refuses refusal
+  pub always : (header : Header) (h : List Entry) → is_down h ≡ false → judge header h ask ≡ Err refusal
+
+pub record IsReadyContent (bytes : List ℕ) (id : Id) (frame : List ℕ) : Type 0 where
+  pub id_is : id ≡ sha256 bytes
+  pub short : length bytes ≤ most_content
+  pub frames : Frames (Some (Content id (length bytes))) frame
+
+pub record IsReadyChangeset (c : Changeset) (frame : List ℕ) : Type 0 where
+  pub decodes : decoded (spelling c) ≡ Ok c
+  pub are : are_bytes (spelling c) ≡ true
+  pub frames : Frames (Some (Change c)) frame
+
+abbrev pub IsReadyTo : Ready → Type 0
+IsReadyTo (ready.Refused ask refusal) = IsRefusedAs (ask_seen ask) refusal
+IsReadyTo (ready.Content bytes id frame) = IsReadyContent bytes.now id frame.items
+IsReadyTo (ready.Changeset framed) = IsReadyChangeset (arc_value framed.commit) framed.frame.items
+IsReadyTo (ready.Bookmark name from to) = Unit {0}
+IsReadyTo (ready.Landing name draft) = Unit {0}
+
+-- ---- as sums and pairs
+
+abbrev pub AskParts : Type 0
+AskParts = (List ℕ ⊎ List ℕ) ⊎ ((List ℕ × (Option Id × Option Id)) ⊎ (List ℕ × Id))
+
+abbrev pub parts_of : Ask → AskParts
+parts_of (reply.PutContent bytes) = inl (inl bytes)
+parts_of (reply.PutChangeset bytes) = inl (inr bytes)
+parts_of (reply.SetBookmark name from to) = inr (inl (name, (from, to)))
+parts_of (reply.LandDraft name draft) = inr (inr (name, draft))
+
+abbrev pub of_parts : AskParts → Ask
+of_parts (inl (inl bytes)) = reply.PutContent bytes
+of_parts (inl (inr bytes)) = reply.PutChangeset bytes
+of_parts (inr (inl t)) = reply.SetBookmark t.0 t.1.0 t.1.1
+of_parts (inr (inr t)) = reply.LandDraft t.0 t.1
+
+pub of_parts-parts_of : (ask : Ask) → of_parts (parts_of ask) ≡ ask
+of_parts-parts_of (reply.PutContent bytes) = refl
+of_parts-parts_of (reply.PutChangeset bytes) = refl
+of_parts-parts_of (reply.SetBookmark name from to) = refl
+of_parts-parts_of (reply.LandDraft name draft) = refl
+
+abbrev pub coded_ask : Coded Ask
+coded_ask =
+    code_by AskParts (coded⊎ (coded⊎ (coded_list coded_ℕ) (coded_list coded_ℕ)) (coded⊎ (coded× (coded_list coded_ℕ) (coded× (coded_option coded_id) (coded_option coded_id))) (coded× (coded_list coded_ℕ) coded_id))) parts_of of_parts
+    of_parts-parts_of
