@@ -27,4 +27,4 @@ pub mod Unseating
 pub mod Looking
 pub mod Renewed
 pub mod GrantedIds
-pub mod Preparing
+pub mod MadeReady

@@ -76,11 +76,12 @@ impl Machine {
         ensures legal { IsLegal self.old.header self.old.history }
     {
         let FramedChangeset { commit, frame } = framed;
+        let upload: &Commit = &commit;
         self.check_up()?;
-        check_parents(&self.changesets, commit.changeset())?;
-        check_contents(&self.contents, alloc, commit.changeset().edits())?;
-        let id = commit.id();
-        if self.changesets.is_other(&commit) {
+        check_parents(&self.changesets, upload.changeset())?;
+        check_contents(&self.contents, alloc, upload.changeset().edits())?;
+        let id = upload.id();
+        if self.changesets.is_other(upload) {
             return Err(Refusal::Collision { id });
         }
         let granted = Granted::Changeset(id);

@@ -1,20 +1,23 @@
 -- What is made ready of an upload.
 use Rattle.std.proofs.Common.{◌≡◌, ◌≢◌, ℕ, ◌+◌, ◌≤◌, ◌<◌, true, List, [], ◌∷◌, length, refl, sym, ap, subst, ◌∙◌, suc, absurd, arith}
-use Rattle.std.specs.Prelude.{Ok, Err, Some}
-use Rattle.byte_fields.specs.Bytes.{IsBytes, are_bytes}
+use Rattle.std.specs.Prelude.{Result, Ok, Err, Some, IfOk}
+use Rattle.byte_fields.specs.Bytes.{Id, IsBytes, are_bytes}
 use Rattle.changeset_model.specs.Changeset.{Changeset, spelling, most_content}
 use Rattle.changeset_model.specs.Decoding.{decoded}
 use Rattle.changeset_model.specs.Decoding as decoding
 use Rattle.history_model.specs.History.{Body, Content, Change, Book, Land, Fault, Entry, is_down}
-use Rattle.history_model.specs.Journal.{Header, IsPayload, payload_len}
+use Rattle.history_model.specs.Journal.{Header, IsPayload, payload_len, framed}
 use Rattle.bonsai.specs.declared.decode_fault.DecodeFault.{DecodeFault}
 use Rattle.bonsai.specs.declared.decode_fault.DecodeFault.TheVariants as faults
 use Rattle.bonsai.specs.Decodes.{Refuses}
 use Rattle.reply_model.specs.Reply.{PutContent, PutChangeset, TooLong, BadEncoding, SelfConflict}
 use Rattle.repo_calls.specs.declared.refusal.Refusal.TheVariants as refusals
+use Rattle.sha2.specs.Sha256.{sha256}
+use Rattle.repo_machine.specs.Judged.{Frames}
 use Rattle.repo_machine.specs.Faults.{fault_refusal}
-use Rattle.repo_machine.specs.Prepared.{IsRefusedAs}
+use Rattle.repo_machine.specs.Prepared.{IsRefusedAs, IsReadyChangeset}
 use Rattle.repo_machine.proofs.Judging.{judged_long}
+use Rattle.repo_machine.proofs.Putting.{are_bytes-from}
 use Rattle.repo_machine.proofs.Uploading.{fault_refused}
 
 pub too_long : (bytes : List ℕ) → most_content < length bytes → IsRefusedAs (PutContent bytes) (refusals.TooLong (length bytes))
@@ -25,6 +28,20 @@ faulty bytes (faults.TooLong n) e known = record { refusal = TooLong n; same = r
 faulty bytes (faults.BadEncoding at) e known = record { refusal = BadEncoding at; same = refl; always = λ header h up. fault_refused header h bytes up (decoding.BadEncoding at) e }
 faulty bytes (faults.SelfConflict short long) e known = record { refusal = SelfConflict short long; same = refl; always = λ header h up. fault_refused header h bytes up (decoding.SelfConflict short long) e }
 faulty bytes faults.Memory e known = absurd (known refl)
+
+pub mapped_ok : {X E : Type 0} (r : Result X E) (P Q : X → Type 0) → ((x : X) → P x → Q x) → IfOk r P → IfOk r Q
+mapped_ok (Ok x) P Q then h = then x h
+mapped_ok (Err e) P Q then h = tt
+
+pub content_framed : (x : Id) (bytes frame : List ℕ) → x ≡ sha256 bytes → frame ≡ framed (0x42 ∷ bytes) → Frames (Some (Content x (length bytes))) frame
+content_framed x bytes frame is e = (0x42 ∷ bytes, (bytes, (sym is, refl), refl), e)
+
+pub ready_changeset : (bytes : List ℕ) (c : Changeset) (frame : List ℕ) → bytes ≡ spelling c → decoded (spelling c) ≡ Ok c → IsBytes bytes → frame ≡ framed bytes → IsReadyChangeset c frame
+ready_changeset bytes c frame spelled decodes are e = record {
+  decodes = decodes;
+  are = subst (λ b. are_bytes b ≡ true) spelled (are_bytes-from bytes are);
+  frames = (bytes, ([], refl, spelled), e);
+}
 
 pub payload_length : (body : Body) (bytes : List ℕ) → IsPayload body bytes → length bytes ≡ payload_len body
 payload_length (Content x n) bytes is = ap (λ xs. length xs) is.2 ∙ ap (λ k. suc k) is.1.1 ∙ omega arith
