@@ -1,6 +1,6 @@
 -- The number of a changeset's first parent.
 use Rattle.std.proofs.Common.{◌≡◌, ℕ, suc, ◌<◌, true, false, cond, List, [], ◌∷◌, ◌++◌, length, reverse, refl, sym, ap, subst, ◌∙◌, arith, ⊎_elim}
-use Rattle.std.specs.Prelude.{Option, Some, None, IfSome, bytes_eq, slice_get}
+use Rattle.std.specs.Prelude.{Option, Some, None, IfSome, is_some, bytes_eq, slice_get}
 use Rattle.std.specs.Option.{option_and_then}
 use mathlib.Core.Bool.{true≢false}
 use Rattle.std.proofs.lemmas.Bool.{cond-false, cases_eq, false_from_ne_true, or_right}
@@ -15,13 +15,13 @@ use Rattle.ancestry.proofs.Lines.{reverse-cons, slice_get-push_at, slice_get-pus
 use Rattle.changeset_store.specs.Store.{number_in, parent_at, known_at, changeset_at}
 use Rattle.changeset_store.specs.Numbers.{number_among, AreApart, parents_among}
 use Rattle.changeset_store.proofs.Places.{known_at-changeset}
-use Rattle.changeset_store.proofs.Numbering.{number_is, at_older, at_newest}
+use Rattle.changeset_store.proofs.Numbering.{number_is, at_older, at_newest, is_numbered, in_range, known_reverse}
 use Rattle.changeset_store.proofs.Ancestors.{AreKnown, length-parents}
 
-abbrev at : List Known → ℕ → Known
+abbrev pub at : List Known → ℕ → Known
 at ks n = known_at (reverse ks) n
 
-abbrev parent_among : List Known → List Known → ℕ → Option ℕ
+abbrev pub parent_among : List Known → List Known → ℕ → Option ℕ
 parent_among ks js n = option_and_then (number_among ks) (first_parent (at js n).changeset)
 
 kept_number : (k : Known) (older : List Known) (q : Id) → is_known older k.id ≡ false → is_known older q ≡ true → number_among older q ≡ number_among (k ∷ older) q
@@ -32,7 +32,7 @@ kept_parent : (k : Known) (older : List Known) (o : Option Id) → is_known olde
 kept_parent k older None apart known = refl
 kept_parent k older (Some q) apart known = kept_number k older q apart known
 
-abbrev HasParentAt : List Known → ℕ → Type 0
+abbrev pub HasParentAt : List Known → ℕ → Type 0
 HasParentAt ks n = IfSome (first_parent (at ks n).changeset) (λ q. is_known ks q ≡ true)
 
 more_known : (k : Known) (older : List Known) (o : Option Id) → IfSome o (λ q. is_known older q ≡ true) → IfSome o (λ q. is_known (k ∷ older) q ≡ true)
@@ -40,7 +40,7 @@ more_known k older None h = tt
 more_known k older (Some q) h = or_right (bytes_eq k.id q) (is_known older q) h
 
 -- of changesets that are given newest first, the parents with their numbers
-parents_at : (ks : List Known) → AreApart ks → HasParents ks → (n : ℕ) → n < length ks → (slice_get (reverse (parents_among ks)) n ≡ Some (parent_among ks ks n)) × HasParentAt ks n
+pub parents_at : (ks : List Known) → AreApart ks → HasParents ks → (n : ℕ) → n < length ks → (slice_get (reverse (parents_among ks)) n ≡ Some (parent_among ks ks n)) × HasParentAt ks n
 parents_at [] apart parents n less = absurd (omega arith)
 parents_at (k ∷ older) apart parents n less =
     let len = length-reverse (parents_among older) ∙ length-parents older in
@@ -76,3 +76,17 @@ module _ (ks : List Known) (ps : List (Option ℕ)) (k : AreKnown ks ps) where
       (sym e ∙ ap (λ l. slice_get l n) (sym (reverse-reverse ps) ∙ ap reverse k.linked) ∙ (parents_at (reverse ks) k.apart k.parents_known n (let same = length-reverse ks in omega arith)).0)
       ∙ numbered (first_parent (at (reverse ks) n).changeset)
       ∙ ap (λ c. option_and_then (number_in ks) (first_parent c)) (ap (λ js. (known_at js n).changeset) (reverse-reverse ks) ∙ known_at-changeset ks n)
+
+-- ---- what has a number
+
+number_same : (ks : List Known) → AreApart (reverse ks) → (x : Id) → number_in ks x ≡ number_among (reverse ks) x
+number_same ks apart x = ap (λ js. number_in js x) (sym (reverse-reverse ks)) ∙ number_is (reverse ks) apart x
+
+pub number_is_some : (ks : List Known) → AreApart (reverse ks) → (x : Id) → is_some (number_in ks x) ≡ is_known ks x
+number_is_some ks apart x = ap is_some (number_same ks apart x) ∙ is_numbered (reverse ks) x ∙ known_reverse ks x
+
+pub number_below : (ks : List Known) → AreApart (reverse ks) → (x : Id) (n : ℕ) → number_in ks x ≡ Some n → n < length ks
+number_below ks apart x n e =
+    let less = subst (λ o. IfSome o (λ n. n < length (reverse ks))) (sym (number_same ks apart x) ∙ e) (in_range (reverse ks) x) in
+    let same = length-reverse ks in
+    omega arith

@@ -1,10 +1,11 @@
 -- Known changesets by their numbers, as a store of changesets keeps them.
 --     line_at ks n      the changeset of the number n and its ancestors, each the child of the next
---     IsStore ks      each stands under its id, and once, after its parents
-use Rattle.std.specs.Prelude.{◌≡◌, ℕ, List, map, reverse}
+--     IsStore ks      each stands under its id, and once, after its parents, and they can be numbered
+use Rattle.std.specs.Prelude.{◌≡◌, ◌≤◌, ℕ, List, length, map, reverse}
 use Rattle.history_model.specs.History.{Known, with_id, each_id_once}
 use Rattle.history_model.specs.Chain.{HasParents, changesets, line}
 use Rattle.changeset_store.specs.Store.{known_at}
+use Rattle.changeset_store.specs.Numbers.{most}
 
 abbrev pub line_at : List Known → ℕ → List Known
 line_at ks n = line ks (known_at ks n).id
@@ -13,3 +14,4 @@ pub record IsStore (ks : List Known) : Type 0 where
   pub ids : map with_id (changesets ks) ≡ ks
   pub once : each_id_once ks ≡ ks
   pub parents : HasParents (reverse ks)
+  pub few : length ks ≤ most

@@ -1,6 +1,6 @@
 -- What stands in a table under the ids of nodes, whatever the table has. What can't be read as a node of its kind isn't there.
 --     fsnode_under m x, manifest_under m x, file_under m x      the fsnode, the unode of a directory, and that of a file, under an id
---     entry_of e      an entry of an fsnode as a file's or a directory's
+--     entry_of e, entry_id e      an entry of an fsnode as a file's or a directory's;  the id in such an entry
 --     fs_entry_under m x n, unode_entry_under m x n      the entry of a name in the fsnode and in the unode of a directory
 --     walk look e p      the entry of a path from an entry on, where look gives those of names in directories by their ids
 --     dir_under m r      both nodes of a directory by their ids
@@ -38,6 +38,10 @@ file_under m x = option_and_then (λ bytes. file_in (unode_of bytes)) (map.get m
 abbrev pub entry_of : FsEntry → UnodeEntry
 entry_of (FsFile f) = UnodeFile f.content
 entry_of (FsDir x s) = UnodeDir x
+
+abbrev pub entry_id : UnodeEntry → Id
+entry_id (UnodeFile x) = x
+entry_id (UnodeDir x) = x
 
 abbrev pub fs_entry_under : Nodes → Id → List ℕ → Option UnodeEntry
 fs_entry_under m x n = option_and_then (λ node. option_map entry_of (fs_entry_at node n)) (fsnode_under m x)

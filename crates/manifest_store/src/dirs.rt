@@ -117,8 +117,8 @@ fn add_dir(
     dirs: &mut Dirs,
 ) -> Result<bool, AllocError>
     requires dirs { AreDirs table.now.nodes (before_seen root.now) dirs.old }
-    requires above { IsFull table.now.nodes (before_seen root.now) dirs.old (dir_of above.entry) }
-    requires here { here.now ≡ dir_of above.entry ++ name.now ∷ [] }
+    requires above { IsFull table.now.nodes (before_seen root.now) dirs.old (dir_of above) }
+    requires here { here.now ≡ dir_of above ++ name.now ∷ [] }
     ensures dirs { OnOk result (AreDirs table.now.nodes (before_seen root.now) dirs.new) }
     ensures more { OnOk result (IsMore table.now.nodes (before_seen root.now) dirs.old dirs.new) }
     ensures full { OnOk result (IsFull table.now.nodes (before_seen root.now) dirs.new here.now) }

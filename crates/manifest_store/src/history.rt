@@ -39,10 +39,12 @@ impl ManifestStore {
             unreachable!()
         };
         let unodes = Unodes { table: &self.table };
-        match walk(alloc, &unodes, roots.unode, Some(path))? {
-            Some(UnodeEntry::File(id)) => Ok(file_history(alloc, &unodes, id)?),
-            Some(UnodeEntry::Directory(_)) => Err(ManifestFault::NotAFile),
-            None => Err(ManifestFault::NoPath),
+        let Some(entry) = walk(alloc, &unodes, roots.unode, Some(path))? else {
+            return Err(ManifestFault::NoPath);
+        };
+        match entry {
+            UnodeEntry::File(id) => Ok(file_history(alloc, &unodes, id)?),
+            UnodeEntry::Directory(_) => Err(ManifestFault::NotAFile),
         }
     }
 }

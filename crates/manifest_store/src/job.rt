@@ -43,8 +43,6 @@ impl ManifestStore {
         ensures in_chain { IfSome result (λ oldest. IsAncestor changesets.now.known oldest number) }
         ensures ready { IfSome result (λ oldest. is_ready_in changesets.now.known self.now oldest ≡ true) }
     {
-        // What the store keeps of its numbers.
-        let _count = changesets.len();
         if self.is_settled(number) {
             return None;
         }

@@ -11,7 +11,7 @@ ghost use Rattle.manifest_store.specs.Reads.{fsnode_by, unode_by, history_by};
 
 /// Where more changesets become known, those before keep their lines, so that their jobs and manifests stay right.
 pub fn manifests_stay_where_more_is_known()
-    ensures lines { (ks more : List Known) (n : ℕ) → IsStore (ks ++ more) → n < length ks → line_at (ks ++ more) n ≡ line_at ks n }
+    ensures lines { (ks more : List Known) (n : ℕ) → IsStore ks → IsStore (ks ++ more) → n < length ks → line_at (ks ++ more) n ≡ line_at ks n }
     ensures manifests { (ks more : List Known) (t : Table) → IsStore (ks ++ more) → AreRight (ks ++ more) → AreManifests ks t → AreManifests (ks ++ more) t }
 {}
 

@@ -1,20 +1,23 @@
 //! Nodes in a table, read by their ids.
 ghost use Rattle.std.specs.Prelude.{◌≡◌, IfOk, option_map};
+ghost use Rattle.std.specs.Ordering.{nat_cmp};
+ghost use Rattle.std.specs.Cmp.Lexicographic.{slice_cmp};
+ghost use Rattle.std.specs.FinMap.{find as find_key};
 ghost use Rattle.manifest_laws.specs.Entries.{fs_entry_at, unode_entry_at};
-ghost use Rattle.fsnode.specs.Parts.{entry_seen as fs_entry_seen};
+ghost use Rattle.fsnode.specs.Parts.{entry_seen as fs_entry_seen, children_seen as fs_children_seen};
 ghost use Rattle.fsnode.specs.Views.{fsnode_seen};
-ghost use Rattle.unode.specs.Parts.{entry_seen as unode_entry_seen};
+ghost use Rattle.unode.specs.Parts.{entry_seen as unode_entry_seen, children_seen as unode_children_seen};
 ghost use Rattle.unode.specs.Views.{manifest_seen};
 ghost use Rattle.derive_step.specs.Views.{before_seen};
 ghost use Rattle.manifest_store.specs.Nodes.{fsnode_under as fsnode_in_table, manifest_under as manifest_in_table, dir_under as dir_in_table, child_roots as roots_of_child};
 
 use derive_step::DirNodes;
-use fsnode::{FsEntry, Fsnode};
+use fsnode::{FsChild, FsEntry, Fsnode};
 use node_fields::NodeFault;
 use node_table::{NodeTable, Roots};
 use object_id::Id;
 use std::alloc::{AllocError, Global};
-use unode::{Unode, UnodeEntry, UnodeManifest};
+use unode::{Unode, UnodeChild, UnodeEntry, UnodeManifest};
 
 /// The fsnode under an id.
 pub(crate) fn fsnode_under(
@@ -77,23 +80,27 @@ pub(crate) fn dir_under(
 pub(crate) fn child_roots(nodes: &DirNodes, name: &str) -> Option<Roots>
     ensures { result ≡ roots_of_child (before_seen nodes.now) name.now }
 {
-    let fsnode = fs_entry(&nodes.fsnode, name);
-    let unode = unode_entry(&nodes.unode, name);
-    match (fsnode, unode) {
-        (Some(FsEntry::Directory { id, .. }), Some(UnodeEntry::Directory(unode))) => Some(Roots {
-            fsnode: id,
-            unode,
-        }),
-        _ => None,
-    }
+    let FsEntry::Directory { id, .. } = fs_entry(&nodes.fsnode, name)? else {
+        return None;
+    };
+    let UnodeEntry::Directory(unode) = unode_entry(&nodes.unode, name)? else {
+        return None;
+    };
+    Some(Roots { fsnode: id, unode })
 }
 
 /// The entry of a name in an fsnode.
 pub(crate) fn fs_entry(node: &Fsnode, name: &str) -> Option<FsEntry>
     ensures { option_map fs_entry_seen result ≡ fs_entry_at (fsnode_seen node.now) name.now }
 {
-    for child in &node.entries {
-        if child.name.as_bytes() == name.as_bytes() {
+    fs_entry_among(&node.entries, name.as_bytes())
+}
+
+fn fs_entry_among(children: &[FsChild], name: &[u8]) -> Option<FsEntry>
+    ensures { option_map fs_entry_seen result ≡ find_key (slice_cmp nat_cmp) name.now (fs_children_seen children.now) }
+{
+    for child in children {
+        if child.name.as_bytes() == name {
             return Some(child.entry);
         }
     }
@@ -104,8 +111,14 @@ pub(crate) fn fs_entry(node: &Fsnode, name: &str) -> Option<FsEntry>
 pub(crate) fn unode_entry(node: &UnodeManifest, name: &str) -> Option<UnodeEntry>
     ensures { option_map unode_entry_seen result ≡ unode_entry_at (manifest_seen node.now) name.now }
 {
-    for child in &node.entries {
-        if child.name.as_bytes() == name.as_bytes() {
+    unode_entry_among(&node.entries, name.as_bytes())
+}
+
+fn unode_entry_among(children: &[UnodeChild], name: &[u8]) -> Option<UnodeEntry>
+    ensures { option_map unode_entry_seen result ≡ find_key (slice_cmp nat_cmp) name.now (unode_children_seen children.now) }
+{
+    for child in children {
+        if child.name.as_bytes() == name {
             return Some(child.entry);
         }
     }

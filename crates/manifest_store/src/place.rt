@@ -29,7 +29,7 @@ pub(crate) fn text_above(text: &str) -> Option<&str>
 
 /// The front of a path, before what is left of it.
 pub(crate) fn front_of<'a>(text: &'a str, rest: Option<&str>) -> &'a str
-    requires { (d : Path) × (0 < length d) × (elements text.now ≡ d ++ left rest.entry) }
+    requires { (d : Path) × (0 < length d) × (elements text.now ≡ d ++ left rest) }
     ensures { (d : Path) → 0 < length d → elements text.now ≡ d ++ left rest.entry → elements result.now ≡ d }
 {
     let Some(rest) = rest else {

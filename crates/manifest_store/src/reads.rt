@@ -3,6 +3,8 @@ ghost use Rattle.std.specs.Prelude.{◌≡◌, ℕ, List, true, Ok, Some, IfOk, 
 ghost use Rattle.std.specs.FinMap as map;
 ghost use Rattle.history_model.specs.History.{Known};
 ghost use Rattle.node_table.specs.Table.{is_settled};
+ghost use Rattle.unode.specs.Parts.{entry_seen};
+ghost use Rattle.manifest_store.specs.Nodes.{entry_id};
 ghost use Rattle.manifest_store.specs.Manifests.{AreManifests};
 ghost use Rattle.manifest_store.specs.Reads.{IsAbsence, dir_of, fsnode_at, unode_at};
 
@@ -31,10 +33,12 @@ impl ManifestStore {
             unreachable!()
         };
         let fsnodes = Fsnodes { table: &self.table };
-        match walk(alloc, &fsnodes, roots.fsnode, dir)? {
-            Some(UnodeEntry::Directory(id)) => Ok(self.bytes_of(alloc, &id)?),
-            Some(UnodeEntry::File(_)) => Err(ManifestFault::NotADir),
-            None => Err(ManifestFault::NoPath),
+        let Some(entry) = walk(alloc, &fsnodes, roots.fsnode, dir)? else {
+            return Err(ManifestFault::NoPath);
+        };
+        match entry {
+            UnodeEntry::Directory(id) => Ok(self.bytes_of(alloc, &id)?),
+            UnodeEntry::File(_) => Err(ManifestFault::NotADir),
         }
     }
 
@@ -54,11 +58,10 @@ impl ManifestStore {
             unreachable!()
         };
         let unodes = Unodes { table: &self.table };
-        match walk(alloc, &unodes, roots.unode, path)? {
-            Some(UnodeEntry::Directory(id)) => Ok(self.bytes_of(alloc, &id)?),
-            Some(UnodeEntry::File(id)) => Ok(self.bytes_of(alloc, &id)?),
-            None => Err(ManifestFault::NoPath),
-        }
+        let Some(entry) = walk(alloc, &unodes, roots.unode, path)? else {
+            return Err(ManifestFault::NoPath);
+        };
+        Ok(self.bytes_of(alloc, &id_of(entry))?)
     }
 
     // A copy of the node that stands under an id.
@@ -70,5 +73,14 @@ impl ManifestStore {
             unreachable!()
         };
         Ok(Vec::from_slice(alloc, bytes)?)
+    }
+}
+
+// The id of an entry's node.
+fn id_of(entry: UnodeEntry) -> Id
+    ensures { result ≡ entry_id (entry_seen entry) }
+{
+    match entry {
+        UnodeEntry::Directory(id) | UnodeEntry::File(id) => id,
     }
 }

@@ -1,5 +1,7 @@
 //! Putting in what was derived.
-ghost use Rattle.std.specs.Prelude.{◌≡◌, ◌<◌, false, length, IsOk, IfErr, OnErr, OnOk};
+ghost use Rattle.std.specs.Prelude.{◌≡◌, ◌<◌, false, length, is_some, IsOk, IfErr, OnErr, OnOk};
+ghost use Rattle.std.specs.FinMap as map;
+ghost use Rattle.node_table.specs.Table.{is_settled};
 ghost use Rattle.manifest_store.specs.Lines.{line_at};
 ghost use Rattle.manifest_store.specs.Manifests.{AreManifests};
 ghost use Rattle.manifest_store.specs.Jobs.{IsDoneOn, is_ready as is_ready_in, settled_by};
@@ -39,9 +41,10 @@ impl ManifestStore {
     // Whether a changeset isn't settled, and its parent is, if it has one.
     fn is_ready(&self, changesets: &ChangesetStore, number: u32) -> bool
         requires { number < length changesets.now.known }
-        ensures { result ≡ is_ready_in changesets.now.known self.now number }
+        ensures ready { result ≡ is_ready_in changesets.now.known self.now number }
+        ensures rooted { is_some (map.get self.now.roots number) ≡ is_settled self.now number }
     {
-        if self.is_settled(number) {
+        if self.table.roots(number).is_some() {
             return false;
         }
         match changesets.parent(number) {

@@ -32,11 +32,13 @@ pub(crate) trait Tree {
 }
 
 /// The fsnodes of a table.
+#[derive(Clone, Copy)]
 pub(crate) struct Fsnodes<'a> {
     pub(crate) table: &'a NodeTable,
 }
 
 /// The unodes of a table.
+#[derive(Clone, Copy)]
 pub(crate) struct Unodes<'a> {
     pub(crate) table: &'a NodeTable,
 }

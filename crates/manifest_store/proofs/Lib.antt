@@ -1,0 +1,6 @@
+pub mod Finding
+pub mod Lines
+pub mod Held
+pub mod Gathered
+pub mod Settled
+pub mod Reading
