@@ -26,5 +26,4 @@ pub mod ClearedEntries
 pub mod Unseating
 pub mod Looking
 pub mod Renewed
-pub mod GrantedIds
 pub mod MadeReady

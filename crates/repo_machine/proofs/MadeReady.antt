@@ -1,6 +1,6 @@
 -- What is made ready of an upload.
-use Rattle.std.proofs.Common.{◌≡◌, ◌≢◌, ℕ, ◌+◌, ◌≤◌, ◌<◌, true, List, [], ◌∷◌, length, refl, sym, ap, subst, ◌∙◌, suc, absurd, arith}
-use Rattle.std.specs.Prelude.{Result, Ok, Err, Some, IfOk}
+use Rattle.std.proofs.Common.{◌≡◌, ◌≢◌, ℕ, ◌+◌, ◌≤◌, ◌<◌, Bool, true, false, inr, List, [], ◌∷◌, length, refl, sym, ap, subst, ◌∙◌, suc, arith}
+use Rattle.std.specs.Prelude.{Result, Ok, Err, Some, IfOk, IfErr}
 use Rattle.byte_fields.specs.Bytes.{Id, IsBytes, are_bytes}
 use Rattle.changeset_model.specs.Changeset.{Changeset, spelling, most_content}
 use Rattle.changeset_model.specs.Decoding.{decoded}
@@ -10,18 +10,23 @@ use Rattle.history_model.specs.Journal.{Header, IsPayload, payload_len, framed}
 use Rattle.bonsai.specs.declared.decode_fault.DecodeFault.{DecodeFault}
 use Rattle.bonsai.specs.declared.decode_fault.DecodeFault.TheVariants as faults
 use Rattle.bonsai.specs.Decodes.{Refuses}
-use Rattle.reply_model.specs.Reply.{PutContent, PutChangeset, TooLong, BadEncoding, SelfConflict}
+use Rattle.reply_model.specs.Reply.{Ask, judge, PutContent, PutChangeset, TooLong, BadEncoding, SelfConflict}
+use Rattle.repo_calls.specs.declared.refusal.Refusal as refusal
 use Rattle.repo_calls.specs.declared.refusal.Refusal.TheVariants as refusals
+use Rattle.repo_machine.specs.Landings.{IsRefusal}
 use Rattle.sha2.specs.Sha256.{sha256}
 use Rattle.repo_machine.specs.Judged.{Frames}
 use Rattle.repo_machine.specs.Faults.{fault_refusal}
 use Rattle.repo_machine.specs.Prepared.{IsRefusedAs, IsReadyChangeset}
-use Rattle.repo_machine.proofs.Judging.{judged_long}
+use Rattle.repo_machine.proofs.Judging.{judged_long, refused_down}
 use Rattle.repo_machine.proofs.Putting.{are_bytes-from}
 use Rattle.repo_machine.proofs.Uploading.{fault_refused}
 
-pub too_long : (bytes : List ℕ) → most_content < length bytes → IsRefusedAs (PutContent bytes) (refusals.TooLong (length bytes))
-too_long bytes long = record { refusal = TooLong (length bytes); same = refl; always = λ header h up. judged_long header h bytes up long }
+pub too_long : (bytes : List ℕ) (n : ℕ) → n ≡ length bytes → most_content < n → IsRefusedAs (PutContent bytes) (refusals.TooLong n)
+too_long bytes n is over =
+    let long : most_content < length bytes = subst (λ k. most_content < k) is over in
+    subst (λ k. IsRefusedAs (PutContent bytes) (refusals.TooLong k)) (sym is)
+    (record { refusal = TooLong (length bytes); same = refl; always = λ header h up. judged_long header h bytes up long })
 
 pub faulty : (bytes : List ℕ) (fault : DecodeFault) → Refuses fault (decoded bytes) → fault ≢ faults.Memory → IsRefusedAs (PutChangeset bytes) (fault_refusal fault)
 faulty bytes (faults.TooLong n) e known = record { refusal = TooLong n; same = refl; always = λ header h up. fault_refused header h bytes up (decoding.TooLong n) e }
@@ -49,3 +54,11 @@ payload_length (Change c) bytes is = ap (λ xs. length xs) is.2
 payload_length (Book move) bytes is = ap (λ xs. length xs) is.2
 payload_length (Land landing) bytes is = ap (λ xs. length xs) is.2
 payload_length (Fault breaking) bytes is = ap (λ xs. length xs) is.2
+
+pub refused_as : {X : Type 0} (header : Header) (h : List Entry) (ask : Ask) (e : refusal.Refusal) (result : Result X refusal.Refusal) → IsRefusedAs ask e → (is_down h ≡ false → result ≡ Err e) → (is_down h ≡ true → result ≡ Err refusals.Down)
+    → IfErr result (IsRefusal (judge header h ask))
+refused_as header h ask e result refused up down = by (is_down h) refl
+  where
+    by : (b : Bool) → is_down h ≡ b → IfErr result (IsRefusal (judge header h ask))
+    by true is = subst (λ r. IfErr r (IsRefusal (judge header h ask))) (sym (down is)) (refused_down header h ask is)
+    by false is = subst (λ r. IfErr r (IsRefusal (judge header h ask))) (sym (up is)) (inr (refused.refusal, refused.always header h is, refused.same))

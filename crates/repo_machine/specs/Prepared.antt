@@ -1,8 +1,7 @@
 -- Changes that are made ready where no machine is at hand.
---     ask_of ready      the change that was asked for
 --     IsRefusedAs ask e      it is refused so at each history at which no disk has failed
 --     IsReadyContent bytes id frame, IsReadyChangeset c frame      an upload that may be judged, with its record
---     IsReadyTo ready      what is ready is so for the change
+--     IsReadyTo ask ready      what is ready is so for the change
 --     coded_ask      a change as sums and pairs
 use Rattle.std.specs.Prelude.{◌≡◌, ◌≤◌, ◌⊎◌, ℕ, true, false, List, length, Option, Some, Ok, Err, refl}
 use mathlib.Core.Logic.{inl, inr}
@@ -18,18 +17,11 @@ use Rattle.history_model.specs.Journal.{Header}
 use Rattle.reply_model.specs.Reply as reply
 use Rattle.reply_model.specs.Reply.{Ask, judge}
 use Rattle.reply_model.specs.After.{Refuses}
-use Rattle.repo_calls.specs.Calls.{ask_seen, refused}
+use Rattle.repo_calls.specs.Calls.{refused}
 use Rattle.repo_calls.specs.declared.refusal.Refusal as refusals
 use Rattle.repo_machine.specs.declared.prepared.Ready.{Ready}
 use Rattle.repo_machine.specs.declared.prepared.Ready.TheVariants as ready
 use Rattle.repo_machine.specs.Judged.{Frames}
-
-abbrev pub ask_of : Ready → Ask
-ask_of (ready.Refused ask refusal) = ask_seen ask
-ask_of (ready.Content bytes id frame) = reply.PutContent bytes.now
-ask_of (ready.Changeset framed) = reply.PutChangeset (spelling (arc_value framed.commit))
-ask_of (ready.Bookmark name from to) = reply.SetBookmark name.now from to
-ask_of (ready.Landing name draft) = reply.LandDraft name.now draft
 
 pub record IsRefusedAs (ask : Ask) (e : refusals.Refusal) : Type 0 where
   pub refusal : reply.Refusal
@@ -46,12 +38,29 @@ pub record IsReadyChangeset (c : Changeset) (frame : List ℕ) : Type 0 where
   pub are : are_bytes (spelling c) ≡ true
   pub frames : Frames (Some (Change c)) frame
 
-abbrev pub IsReadyTo : Ready → Type 0
-IsReadyTo (ready.Refused ask refusal) = IsRefusedAs (ask_seen ask) refusal
-IsReadyTo (ready.Content bytes id frame) = IsReadyContent bytes.now id frame.items
-IsReadyTo (ready.Changeset framed) = IsReadyChangeset (arc_value framed.commit) framed.frame.items
-IsReadyTo (ready.Bookmark name from to) = Unit {0}
-IsReadyTo (ready.Landing name draft) = Unit {0}
+abbrev pub IsContentOf : Ask → Id → List ℕ → Type 0
+IsContentOf (reply.PutContent bytes) id frame = IsReadyContent bytes id frame
+IsContentOf (reply.PutChangeset bytes) id frame = ⊥
+IsContentOf (reply.SetBookmark name from to) id frame = ⊥
+IsContentOf (reply.LandDraft name draft) id frame = ⊥
+
+abbrev pub IsChangesetOf : Ask → Changeset → List ℕ → Type 0
+IsChangesetOf (reply.PutContent bytes) c frame = ⊥
+IsChangesetOf (reply.PutChangeset bytes) c frame = (spelling c ≡ bytes) × IsReadyChangeset c frame
+IsChangesetOf (reply.SetBookmark name from to) c frame = ⊥
+IsChangesetOf (reply.LandDraft name draft) c frame = ⊥
+
+abbrev pub IsNoUpload : Ask → Type 0
+IsNoUpload (reply.PutContent bytes) = ⊥
+IsNoUpload (reply.PutChangeset bytes) = ⊥
+IsNoUpload (reply.SetBookmark name from to) = Unit {0}
+IsNoUpload (reply.LandDraft name draft) = Unit {0}
+
+abbrev pub IsReadyTo : Ask → Ready → Type 0
+IsReadyTo ask (ready.Refused refusal) = IsRefusedAs ask refusal
+IsReadyTo ask (ready.Content id frame) = IsContentOf ask id frame.items
+IsReadyTo ask (ready.Changeset framed) = IsChangesetOf ask (arc_value framed.commit) framed.frame.items
+IsReadyTo ask ready.Asked = IsNoUpload ask
 
 -- ---- as sums and pairs
 

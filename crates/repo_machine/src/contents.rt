@@ -50,6 +50,7 @@ impl Machine {
         ensures history { self.new.history ≡ self.old.history }
         ensures legal { IsLegal self.old.header self.old.history }
     {
+        self.check_up()?;
         let frame = content_frame(alloc, id, bytes)?;
         self.judge_content(alloc, who, id, bytes, frame)
     }

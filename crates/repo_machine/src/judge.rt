@@ -8,7 +8,7 @@ ghost use Rattle.repo_machine.specs.Landings.{IsRefusal};
 
 use crate::judged::Judged;
 use crate::machine::Machine;
-use crate::prepared::{Prepared, Ready, prepare};
+use crate::prepared::prepare;
 use repo_calls::{Ask, Refusal};
 use std::alloc::Global;
 
@@ -23,29 +23,8 @@ impl Machine {
         ensures history { self.new.history ≡ self.old.history }
         ensures legal { IsLegal self.old.header self.old.history }
     {
+        self.check_up()?;
         let prepared = prepare(alloc, ask)?;
         self.judge_prepared(alloc, who, prepared)
-    }
-
-    /// Judges a change that was made ready, as `judge` does the change itself. No upload is hashed, decoded or encoded here.
-    pub fn judge_prepared(
-        &mut self,
-        alloc: Global,
-        who: u64,
-        prepared: Prepared,
-    ) -> Result<Judged, Refusal>
-        ensures ok { IfOk result (Judges self.old.header self.old.history self.new.room who prepared.entry) }
-        ensures err { IfErr result (IsRefusal (reply.judge self.old.header self.old.history prepared.entry)) }
-        ensures header { self.new.header ≡ self.old.header }
-        ensures history { self.new.history ≡ self.old.history }
-        ensures legal { IsLegal self.old.header self.old.history }
-    {
-        match prepared.ready {
-            Ready::Refused { ask: _, refusal } => self.refuse(refusal),
-            Ready::Content { bytes, id, frame } => self.judge_content(alloc, who, id, bytes, frame),
-            Ready::Changeset(framed) => self.judge_changeset(alloc, who, framed),
-            Ready::Bookmark { name, from, to } => self.judge_bookmark(alloc, who, name, from, to),
-            Ready::Landing { name, draft } => self.judge_landing(alloc, who, name, draft),
-        }
     }
 }

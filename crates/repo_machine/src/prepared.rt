@@ -1,21 +1,25 @@
 //! Changes that are made ready where no machine is at hand.
-ghost use Rattle.std.specs.Prelude.{◌≡◌, ◌≢◌, ◌≤◌, length, Ok, Some, IfOk};
+ghost use Rattle.std.specs.Prelude.{◌≡◌, ◌≢◌, ◌≤◌, length, Ok, Some, IfOk, IfErr};
 ghost use Rattle.std.specs.Arc.{arc_value};
 ghost use Rattle.sha2.specs.Sha256.{sha256};
 ghost use Rattle.changeset_model.specs.Changeset.{spelling};
 ghost use Rattle.changeset_model.specs.Decoding.{decoded};
 ghost use Rattle.history_model.specs.History.{Content};
-ghost use Rattle.reply_model.specs.Reply.{PutContent, PutChangeset};
+ghost use Rattle.reply_model.specs.Reply.{PutContent, PutChangeset, judge};
+ghost use Rattle.reply_model.specs.Legal.{IsLegal};
 ghost use Rattle.repo_calls.specs.Calls.{ask_seen};
+ghost use Rattle.repo_machine.specs.Entering.{Judges};
 ghost use Rattle.repo_machine.specs.Faults.{fault_refusal};
 ghost use Rattle.repo_machine.specs.Judged.{Frames};
-ghost use Rattle.repo_machine.specs.Prepared.{IsReadyChangeset};
+ghost use Rattle.repo_machine.specs.Landings.{IsRefusal};
+ghost use Rattle.repo_machine.specs.Prepared.{IsReadyChangeset, IsReadyTo};
 
+use crate::judged::Judged;
+use crate::machine::Machine;
 use bonsai::{Commit, DecodeFault, MOST_CONTENT};
 use object_id::Id;
 use repo_calls::{Ask, Refusal};
 use repo_events::{Body, encode_entry, frame_payload};
-use repo_path::BookName;
 use std::alloc::{AllocError, Global};
 use std::marker::Model;
 use std::sync::Arc;
@@ -29,79 +33,98 @@ pub(crate) struct FramedChangeset {
 
 /// What is ready of a change.
 #[derive(Drop)]
-pub(crate) enum Ready<'a> {
+pub(crate) enum Ready {
     /// An upload that is refused wherever the disk hasn't failed.
-    Refused { ask: Ask<'a>, refusal: Refusal },
-    /// A content with its id and the record that would store it.
-    Content {
-        bytes: &'a [u8],
-        id: Id,
-        frame: Vec<u8>,
-    },
+    Refused(Refusal),
+    /// A content's id, and the record that would store it.
+    Content { id: Id, frame: Vec<u8> },
     Changeset(FramedChangeset),
-    /// A move of a bookmark, as it is asked for.
-    Bookmark {
-        name: &'a BookName,
-        from: Option<Id>,
-        to: Option<Id>,
-    },
-    /// A landing, as it is asked for.
-    Landing { name: &'a BookName, draft: Id },
+    /// A move or a landing, which is judged as it is asked for.
+    Asked,
 }
 
 /// A change that was made ready: an upload is hashed, decoded and put into its record, or it is known to be refused, so
 /// that a machine judges it without that work. Contracts see the change that was asked for.
 #[derive(Drop)]
 pub struct Prepared<'a> {
-    pub(crate) ready: Ready<'a>,
+    pub(crate) ask: &'a Ask<'a>,
+    pub(crate) ready: Ready,
 }
 
 impl<'a> Model for Prepared<'a> {
     ghost use Rattle.reply_model.specs.Reply.{Ask};
-    ghost use Rattle.repo_machine.specs.Prepared.{ask_of, coded_ask, IsReadyTo};
+    ghost use Rattle.repo_calls.specs.Calls.{ask_seen};
+    ghost use Rattle.repo_machine.specs.Prepared.{coded_ask, IsReadyTo};
 
     ghost Value = { Ask };
 
     ghost coded = { coded_ask };
 
-    ghost view = { λ p. ask_of p.ready };
+    ghost view = { λ p. ask_seen p.ask.now };
 
-    ghost invariant = { λ p. IsReadyTo p.ready };
+    ghost invariant = { λ p. IsReadyTo (ask_seen p.ask.now) p.ready };
+}
+
+impl Machine {
+    /// Judges a change that was made ready, as `judge` does the change itself. No upload is hashed, decoded or encoded here.
+    pub fn judge_prepared(
+        &mut self,
+        alloc: Global,
+        who: u64,
+        prepared: Prepared,
+    ) -> Result<Judged, Refusal>
+        ensures ok { IfOk result (Judges self.old.header self.old.history self.new.room who prepared.entry) }
+        ensures err { IfErr result (IsRefusal (judge self.old.header self.old.history prepared.entry)) }
+        ensures header { self.new.header ≡ self.old.header }
+        ensures history { self.new.history ≡ self.old.history }
+        ensures legal { IsLegal self.old.header self.old.history }
+    {
+        let Prepared { ask, ready } = prepared;
+        match *ask {
+            Ask::PutContent(bytes) => match ready {
+                Ready::Refused(refusal) => self.refuse(refusal),
+                Ready::Content { id, frame } => self.judge_content(alloc, who, id, bytes, frame),
+                _ => unreachable!(),
+            },
+            Ask::PutChangeset(_) => match ready {
+                Ready::Refused(refusal) => self.refuse(refusal),
+                Ready::Changeset(framed) => self.judge_changeset(alloc, who, framed),
+                _ => unreachable!(),
+            },
+            Ask::SetBookmark { name, from, to } => self.judge_bookmark(alloc, who, name, from, to),
+            Ask::Land { name, draft } => self.judge_landing(alloc, who, name, draft),
+        }
+    }
 }
 
 /// Makes a change ready: all of its work that needs no machine. A content's bytes are copied once, into its record.
-pub fn prepare<'a>(alloc: Global, ask: &Ask<'a>) -> Result<Prepared<'a>, AllocError>
+pub fn prepare<'a>(alloc: Global, ask: &'a Ask<'a>) -> Result<Prepared<'a>, AllocError>
     ensures { IfOk result (λ prepared. prepared ≡ ask_seen ask.now) }
 {
+    let ready = ready_for(alloc, ask)?;
+    Ok(Prepared { ask, ready })
+}
+
+fn ready_for(alloc: Global, ask: &Ask) -> Result<Ready, AllocError>
+    ensures { IfOk result (IsReadyTo (ask_seen ask.now)) }
+{
     match *ask {
-        Ask::PutContent(bytes) => prepare_content(alloc, bytes),
-        Ask::PutChangeset(bytes) => prepare_changeset(alloc, bytes),
-        Ask::SetBookmark { name, from, to } => Ok(Prepared {
-            ready: Ready::Bookmark { name, from, to },
-        }),
-        Ask::Land { name, draft } => Ok(Prepared {
-            ready: Ready::Landing { name, draft },
-        }),
+        Ask::PutContent(bytes) => ready_content(alloc, bytes),
+        Ask::PutChangeset(bytes) => ready_changeset(alloc, bytes),
+        Ask::SetBookmark { .. } | Ask::Land { .. } => Ok(Ready::Asked),
     }
 }
 
-fn prepare_content<'a>(alloc: Global, bytes: &'a [u8]) -> Result<Prepared<'a>, AllocError>
-    ensures { IfOk result (λ prepared. prepared ≡ PutContent bytes.now) }
+fn ready_content(alloc: Global, bytes: &[u8]) -> Result<Ready, AllocError>
+    ensures { IfOk result (IsReadyTo (PutContent bytes.now)) }
 {
     let length = bytes.len() as u64;
     if length > MOST_CONTENT {
-        return Ok(Prepared {
-            ready: Ready::Refused {
-                ask: Ask::PutContent(bytes),
-                refusal: Refusal::TooLong { length },
-            },
-        });
+        return Ok(Ready::Refused(Refusal::TooLong { length }));
     }
     let id = Id::of(bytes);
     let frame = content_frame(alloc, id, bytes)?;
-    Ok(Prepared {
-        ready: Ready::Content { bytes, id, frame },
-    })
+    Ok(Ready::Content { id, frame })
 }
 
 // The record of a content of at most 1,048,576 bytes.
@@ -114,17 +137,13 @@ pub(crate) fn content_frame(alloc: Global, id: Id, bytes: &[u8]) -> Result<Vec<u
     encode_entry(alloc, &Body::Content { id, length }, bytes)
 }
 
-fn prepare_changeset<'a>(alloc: Global, bytes: &'a [u8]) -> Result<Prepared<'a>, AllocError>
-    ensures { IfOk result (λ prepared. prepared ≡ PutChangeset bytes.now) }
+fn ready_changeset(alloc: Global, bytes: &[u8]) -> Result<Ready, AllocError>
+    ensures { IfOk result (IsReadyTo (PutChangeset bytes.now)) }
 {
-    let ready = match Commit::decode(alloc, bytes) {
-        Ok(commit) => Ready::Changeset(framed_changeset(alloc, commit, bytes)?),
-        Err(fault) => Ready::Refused {
-            ask: Ask::PutChangeset(bytes),
-            refusal: refusal_of(fault)?,
-        },
-    };
-    Ok(Prepared { ready })
+    match Commit::decode(alloc, bytes) {
+        Ok(commit) => Ok(Ready::Changeset(framed_changeset(alloc, commit, bytes)?)),
+        Err(fault) => Ok(Ready::Refused(refusal_of(fault)?)),
+    }
 }
 
 // A changeset that these bytes spell, with their record.

@@ -57,6 +57,7 @@ impl Machine {
         ensures history { self.new.history ≡ self.old.history }
         ensures legal { IsLegal self.old.header self.old.history }
     {
+        self.check_up()?;
         let framed = framed_changeset(alloc, commit, bytes)?;
         self.judge_changeset(alloc, who, framed)
     }

@@ -5,5 +5,5 @@ use Rattle.repo_machine.proofs.prepared.framed_changeset.Goals as goal
 
 pub returns-clause-ready : goal.returns-clause-ready
 returns-clause-ready c =
-    subst (λ m. IsReadyChangeset m c.in_ok-frame.frame.items) (sym c.in_ok-commit.ensures)
+    subst (λ m. IsReadyChangeset m c.in_ok-frame.frame.items) (sym c.in_ok-commit.ensures.ok)
     (ready_changeset c.args.bytes.now c.args.commit c.in_ok-frame.frame.items c.requires.spelled c.requires.decoded (λ i. omega (arith, c.type_inv.bytes i)) c.in_ok-frame.ensures)
