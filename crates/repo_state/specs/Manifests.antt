@@ -5,7 +5,7 @@
 --     asks_manifest question      the read is answered from manifests
 --     manifest_fault fault, table_fault fault      why a read sees nothing, where manifests can't be read, or put in
 --     ids_answer result      the answer of a read that sees ids
-use Rattle.std.specs.Prelude.{◌≡◌, ℕ, Bool, true, false, List, Option, Some, Vec, Result, Ok, Err}
+use Rattle.std.specs.Prelude.{◌≡◌, ◌<◌, ℕ, Bool, true, false, List, length, Option, Some, Vec, Result, Ok, Err}
 use Rattle.byte_fields.specs.Bytes.{Id}
 use Rattle.history_model.specs.History.{Entry, Known, known}
 use Rattle.history_model.specs.Journal.{Header, is_header}
@@ -33,6 +33,7 @@ pub record HasManifests (header : Header) (h : List Entry) (t : Table) : Type 0 
 
 pub record IsNextOf (ks : List Known) (t : Table) (x : Id) (next : Option Job) : Type 0 where
   pub number : ℕ
+  pub below : number < length ks
   pub numbered : number_in ks x ≡ Some number
   pub is_next : IsNext ks t number next
 

@@ -1,5 +1,5 @@
 //! Reads of manifests, which are derived where they aren't settled.
-ghost use Rattle.std.specs.Prelude.{◌≡◌, ◌×◌, true, Some, Ok, IfOk, IfErr};
+ghost use Rattle.std.specs.Prelude.{◌≡◌, true, Some, IfOk, IfErr};
 ghost use Rattle.history_model.specs.History.{known};
 ghost use Rattle.reply_model.specs.After.{Answers, Derives, Looks, nothing};
 ghost use Rattle.reply_model.specs.Reply.{FsnodeOf, UnodeOf, HistoryOf};

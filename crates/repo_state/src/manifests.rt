@@ -23,6 +23,7 @@ impl<D: Disk> RepoState<D> {
     pub fn next_job(&self, alloc: Global, id: Id) -> Result<Option<Job>, AskFault>
         ensures ok { IfOk result (IsNextOf (known self.now.history) self.now.table id) }
         ensures err { IfErr result (λ fault. Answers self.now.header self.now.history (Derives id) (fault_answer fault) nothing) }
+        ensures manifests { AreManifests (known self.now.history) self.now.table }
     {
         let changesets = self.machine.changesets();
         let Some(number) = changesets.number_of(&id) else {
