@@ -54,10 +54,13 @@ apart_of : (ks : List Known) → AreOnce ks → AreApart ks
 apart_of [] u = tt
 apart_of (k ∷ ks) u = (false_from_ne_true _ u.0, apart_of ks u.1)
 
+pub known_apart : (h : List Entry) → AreApart (reverse (known h))
+known_apart h = apart_of (reverse (known h)) (known_once h)
+
 once : (h : List Entry) → each_id_once (known h) ≡ known h
 once h =
     ap each_id_once (sym (reverse-reverse (known h)))
-    ∙ each_once (reverse (known h)) (apart_of (reverse (known h)) (known_once h))
+    ∙ each_once (reverse (known h)) (known_apart h)
     ∙ reverse-reverse (known h)
 
 -- ---- few enough to be numbered

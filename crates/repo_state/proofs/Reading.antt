@@ -1,12 +1,12 @@
 -- Reads of manifests, and their derivation a changeset at a time.
-use Rattle.std.proofs.Common.{◌≡◌, ◌≢◌, ℕ, zero, suc, ◌+◌, ◌<◌, ◌≤◌, Bool, true, false, cond, ◌||◌, ◌&&◌, not, ◌==◌, List, [], ◌∷◌, ◌++◌, length, refl, sym, ap, subst, ◌∙◌, arith}
-use Rattle.std.specs.Prelude.{Option, None, Some, is_some, option_map, position, bytes_eq, Result, Ok, Err, IsTrue}
+use Rattle.std.proofs.Common.{◌≡◌, ◌≢◌, ℕ, zero, suc, ◌+◌, ◌<◌, ◌≤◌, Bool, true, false, cond, ◌||◌, ◌&&◌, not, ◌==◌, List, [], ◌∷◌, ◌++◌, length, reverse, refl, sym, ap, subst, ◌∙◌, arith}
+use Rattle.std.specs.Prelude.{Option, None, Some, is_some, IfSome, Result, Ok, Err, IsTrue}
 use Rattle.std.specs.Borrow.{Bor}
 use Rattle.std.specs.FinMap as map
 use Rattle.std.specs.List.{list_any}
 use mathlib.Core.Bool.{true≢false}
 use Rattle.std.proofs.lemmas.Bool.{or_left, eqb-true, eq-eqb}
-use Rattle.std.proofs.lemmas.Slice.Eq.{bytes_eq-Decides}
+use Rattle.std.proofs.lemmas.List.{reverse-reverse}
 use Rattle.std.proofs.lemmas.List.Folds.{list_any-append}
 use Rattle.std.proofs.lemmas.Option.{same_Some}
 use Rattle.byte_fields.specs.Bytes.{Id}
@@ -19,11 +19,12 @@ use Rattle.reply_model.specs.Reply as reply
 use Rattle.reply_model.specs.Reply.{Seen, SeenBytes, SeenIds, Absent, AbsentChangeset, present, refuse_if, ◌>>=◌, Question, FsnodeOf, UnodeOf, HistoryOf, Sees}
 use Rattle.reply_model.specs.After as answers
 use Rattle.reply_model.specs.After.{Answers, AsksManifest, Looks, Derives, nothing}
-use Rattle.node_table.specs.Table.{Table, is_settled, settled_with}
+use Rattle.node_table.specs.Table.{Table, is_settled, with_nodes, settled_with}
 use Rattle.node_table.specs.Parts.{nodes_seen}
 use Rattle.node_table.specs.declared.fault.TableFault.{TableFault}
 use Rattle.node_table.specs.declared.fault.TableFault.TheVariants as tables
 use Rattle.changeset_store.specs.Store.{number_in, known_at, parent_at}
+use Rattle.changeset_store.proofs.Numbering.{has_id, number_is}
 use Rattle.derive_step.specs.declared.job.Job.{Job}
 use Rattle.derive_step.specs.declared.done.Done.{Done}
 use Rattle.derive_step.specs.Jobs.{IsJobOf, IsDoneOf}
@@ -38,13 +39,17 @@ use Rattle.manifest_store.proofs.Lines.{itself}
 use Rattle.seat_calls.specs.declared.calls.AskFault.{AskFault}
 use Rattle.seat_calls.specs.declared.calls.AskFault.TheVariants as asked
 use Rattle.seat_calls.specs.Asking.{fault_answer, place_of}
+use Rattle.repo_state.proofs.Known.{known_apart}
 use Rattle.repo_state.specs.Manifests.{IsNextOf, StaySettled, manifest_fault, table_fault}
 
 -- ---- how much isn't settled
 
-pub missing : Table → ℕ → ℕ
+abbrev pub weight : Table → ℕ → ℕ
+weight t n = cond (is_settled t n) 0 1
+
+abbrev pub missing : Table → ℕ → ℕ
 missing t zero = 0
-missing t (suc n) = cond (is_settled t n) 0 1 + missing t n
+missing t (suc n) = weight t n + missing t n
 
 fewer_one : (a b : Bool) → (a ≡ true → b ≡ true) → cond b 0 1 ≤ cond a 0 1
 fewer_one true true h = omega arith
@@ -61,20 +66,20 @@ not_more t u (suc n) stay =
 
 pub fewer : (t u : Table) (n k : ℕ) → StaySettled t u → k < n → is_settled t k ≡ false → is_settled u k ≡ true → missing u n < missing t n
 fewer t u zero k stay less was now = absurd (omega arith)
-fewer t u (suc n) k stay less was now = by (n == k) refl
+fewer t u (suc n) k stay less was now = by (λ below. fewer t u n k stay below was now) (n == k) refl
   where
-    by : (b : Bool) → (n == k) ≡ b → missing u (suc n) < missing t (suc n)
-    by true e =
+    by : (k < n → missing u n < missing t n) → (b : Bool) → (n == k) ≡ b → missing u (suc n) < missing t (suc n)
+    by rest true e =
         let same = eqb-true n k e in
-        let was_last = ap (λ b. cond b 0 1) (ap (is_settled t) same ∙ was) in
-        let now_last = ap (λ b. cond b 0 1) (ap (is_settled u) same ∙ now) in
-        let rest = not_more t u n stay in
-        omega (arith, was_last, now_last, rest)
-    by false e =
+        let was_last : weight t n ≡ 1 = ap (λ b. cond {A = ℕ} b 0 1) (ap (is_settled t) same ∙ was) in
+        let now_last : weight u n ≡ 0 = ap (λ b. cond {A = ℕ} b 0 1) (ap (is_settled u) same ∙ now) in
+        let below = not_more t u n stay in
+        omega (arith, was_last, now_last, below)
+    by rest false e =
         let other : n ≢ k = λ same. true≢false (sym (eq-eqb n k same) ∙ e) in
         let one = fewer_one (is_settled t n) (is_settled u n) (stay n) in
-        let rest = fewer t u n k stay (omega (arith, other)) was now in
-        omega (arith, one, rest)
+        let below = rest (omega (arith, other)) in
+        omega (arith, one, below)
 
 -- ---- a derivation
 
@@ -106,7 +111,7 @@ unsettled ks t n ready = by (is_settled t n) _ ready
 stay_with : (t : Table) (done : Done) → StaySettled t (settled_with t done.number done.roots (nodes_seen done.nodes.items))
 stay_with t done n h = by (is_some (map.get t.roots done.number))
   where
-    by : (b : Bool) → is_settled (cond b t _) n ≡ true
+    by : (b : Bool) → is_settled (cond b t (record { nodes = with_nodes t.nodes (nodes_seen done.nodes.items); roots = map.insert t.roots done.number done.roots; settled = t.settled ++ done.number ∷ [] })) n ≡ true
     by true = h
     by false = list_any-append (λ s. s == n) t.settled (done.number ∷ []) ∙ or_left (is_settled t n) (list_any (λ s. s == n) (done.number ∷ [])) h
 
@@ -119,17 +124,11 @@ stay_by ks t done n h = by (is_ready ks t done.number)
 
 -- ---- the chain of a changeset is settled
 
-found_id : (ks : List Known) (x : Id) (n : ℕ) → number_in ks x ≡ Some n → (known_at ks n).id ≡ x
-found_id [] x n e = absurd cc
-found_id (k ∷ ks) x n e = by (bytes_eq k.id x) refl e
-  where
-    later : (o : Option ℕ) → number_in ks x ≡ o → option_map suc o ≡ Some n → (known_at (k ∷ ks) n).id ≡ x
-    later None eo h = absurd cc
-    later (Some m) eo h = subst (λ n. (known_at (k ∷ ks) n).id ≡ x) (same_Some (suc m) n h) (found_id ks x m eo)
-
-    by : (b : Bool) → bytes_eq k.id x ≡ b → cond b (Some 0) (option_map suc (number_in ks x)) ≡ Some n → (known_at (k ∷ ks) n).id ≡ x
-    by true eb h = subst (λ n. (known_at (k ∷ ks) n).id ≡ x) (same_Some 0 n h) ((bytes_eq-Decides k.id x).0 eb)
-    by false eb h = later (number_in ks x) refl h
+found_id : (h : List Entry) (x : Id) (n : ℕ) → number_in (known h) x ≡ Some n → (known_at (known h) n).id ≡ x
+found_id h x n e =
+    let newest = reverse (known h) in
+    let among = sym (number_is newest (known_apart h) x) ∙ ap (λ ks. number_in ks x) (reverse-reverse (known h)) ∙ e in
+    subst (λ ks. (known_at ks n).id ≡ x) (reverse-reverse (known h)) (subst (λ o. IfSome o (λ n. (known_at (reverse newest) n).id ≡ x)) among (has_id newest x))
 
 pub chain_settled : (ks : List Known) (t : Table) (x : Id) (n : ℕ) → AreManifests ks t → IsNextOf ks t x None → number_in ks x ≡ Some n → is_settled t n ≡ true
 chain_settled ks t x n are next e =
@@ -137,7 +136,7 @@ chain_settled ks t x n are next e =
 
 -- ---- what is read
 
-seen_as : {X : Type 0} → (X → Seen) → Result X Absent → Result Seen Absent
+abbrev seen_as : {X : Type 0} → (X → Seen) → Result X Absent → Result Seen Absent
 seen_as f (Ok x) = Ok (f x)
 seen_as f (Err absent) = Err absent
 
@@ -209,3 +208,51 @@ history_read h x p = record {
 same_place : (o : Option (Bor Path)) → dir_of o ≡ place_of o
 same_place None = refl
 same_place (Some p) = refl
+
+module _ (header : Header) (h : List Entry) (x : Id) (n : ℕ) (numbered : number_in (known h) x ≡ Some n) (dir : Option (Bor Path)) where
+  at_place : {X : Type 0} (read : Id → Path → Result X Absent) (P : Result X Absent → Type 0) → P (read (known_at (known h) n).id (dir_of dir)) → P (read x (place_of dir))
+  at_place read P p = subst (λ d. P (read x d)) (same_place dir) (subst (λ y. P (read y (dir_of dir))) (found_id h x n numbered) p)
+
+  pub fsnode_saw : (bytes : List ℕ) → fsnode_at (known h) n (dir_of dir) ≡ Ok bytes → Answers header h (Looks (FsnodeOf x (place_of dir))) (answers.Shows (SeenBytes bytes)) nothing
+  fsnode_saw bytes e = saw header h x _ SeenBytes (fsnode_by (known h) x (place_of dir)) (fsnode_read h x (place_of dir)) bytes (at_place (fsnode_by (known h)) (λ r. r ≡ Ok bytes) e)
+
+  pub fsnode_absent : (fault : ManifestFault) → IsAbsence fault (fsnode_at (known h) n (dir_of dir)) → Answers header h (Looks (FsnodeOf x (place_of dir))) (fault_answer (manifest_fault fault)) nothing
+  fsnode_absent fault e = absent_as header h x _ SeenBytes (fsnode_by (known h) x (place_of dir)) (fsnode_read h x (place_of dir)) fault (at_place (fsnode_by (known h)) (IsAbsence fault) e)
+
+  pub unode_saw : (bytes : List ℕ) → unode_at (known h) n (dir_of dir) ≡ Ok bytes → Answers header h (Looks (UnodeOf x (place_of dir))) (answers.Shows (SeenBytes bytes)) nothing
+  unode_saw bytes e = saw header h x _ SeenBytes (unode_by (known h) x (place_of dir)) (unode_read h x (place_of dir)) bytes (at_place (unode_by (known h)) (λ r. r ≡ Ok bytes) e)
+
+  pub unode_absent : (fault : ManifestFault) → IsAbsence fault (unode_at (known h) n (dir_of dir)) → Answers header h (Looks (UnodeOf x (place_of dir))) (fault_answer (manifest_fault fault)) nothing
+  unode_absent fault e = absent_as header h x _ SeenBytes (unode_by (known h) x (place_of dir)) (unode_read h x (place_of dir)) fault (at_place (unode_by (known h)) (IsAbsence fault) e)
+
+module _ (header : Header) (h : List Entry) (x : Id) (n : ℕ) (numbered : number_in (known h) x ≡ Some n) (p : Path) where
+  pub history_saw : (ids : List Id) → history_at (known h) n p ≡ Ok ids → Answers header h (Looks (HistoryOf x p)) (answers.Shows (SeenIds ids)) nothing
+  history_saw ids e = saw header h x _ SeenIds (history_by (known h) x p) (history_read h x p) ids (subst (λ y. history_by (known h) y p ≡ Ok ids) (found_id h x n numbered) e)
+
+  pub history_absent : (fault : ManifestFault) → IsAbsence fault (history_at (known h) n p) → Answers header h (Looks (HistoryOf x p)) (fault_answer (manifest_fault fault)) nothing
+  history_absent fault e = absent_as header h x _ SeenIds (history_by (known h) x p) (history_read h x p) fault (subst (λ y. IsAbsence fault (history_by (known h) y p)) (found_id h x n numbered) e)
+
+pub fsnode_not_derived : (header : Header) (h : List Entry) (x : Id) (d : Path) (fault : AskFault) → Answers header h (Derives x) (fault_answer fault) nothing → Answers header h (Looks (FsnodeOf x d)) (fault_answer fault) nothing
+fsnode_not_derived header h x d fault a = not_derived header h x _ SeenBytes _ (fsnode_read h x d) fault a
+
+pub unode_not_derived : (header : Header) (h : List Entry) (x : Id) (p : Path) (fault : AskFault) → Answers header h (Derives x) (fault_answer fault) nothing → Answers header h (Looks (UnodeOf x p)) (fault_answer fault) nothing
+unode_not_derived header h x p fault a = not_derived header h x _ SeenBytes _ (unode_read h x p) fault a
+
+pub history_not_derived : (header : Header) (h : List Entry) (x : Id) (p : Path) (fault : AskFault) → Answers header h (Derives x) (fault_answer fault) nothing → Answers header h (Looks (HistoryOf x p)) (fault_answer fault) nothing
+history_not_derived header h x p fault a = not_derived header h x _ SeenIds _ (history_read h x p) fault a
+
+-- ---- a chain is settled a changeset at a time
+
+pub collided : (header : Header) (h : List Entry) (x : Id) (fault : TableFault) → IsCollision (known h) fault → Answers header h (Derives x) (fault_answer (table_fault fault)) nothing
+collided header h x (tables.Collision id) c = (refl, tt, c)
+collided header h x tables.Memory c = refl
+
+pub next_of : (ks : List Known) (t : Table) (x : Id) (o : Option Job) (job : Job) → IsNextOf ks t x o → o ≡ Some job → (n : ℕ) × IsNextJob ks t n job
+next_of ks t x o job next e = let is = subst (IsNextOf ks t x) e next in (is.number, is.is_next)
+
+pub stay_settled : (ks : List Known) (t u : Table) (done : Done) → u ≡ settled_by ks t done → StaySettled t u
+stay_settled ks t u done e n h = subst (λ u. is_settled u n ≡ true) (sym e) (stay_by ks t done n h)
+
+pub fewer_missing : (ks : List Known) (t u : Table) (n : ℕ) (job : Job) (next : IsNextJob ks t n job) (done : Done) (is : (c : Known) (older : List Known) → IsJobOf c older job → IsDoneOf c older job done) → u ≡ settled_by ks t done → is_settled u done.number ≡ true → missing u (length ks) < missing t (length ks)
+fewer_missing ks t u n job next done is e now =
+    fewer t u (length ks) done.number (stay_settled ks t u done e) (done_known ks t n job next done is) (unsettled ks t done.number (done_ready ks t n job next done is)) now

@@ -1,7 +1,8 @@
 //! Manifests, derived a changeset at a time.
-ghost use Rattle.std.specs.Prelude.{◌≡◌, ◌<◌, false, length, IsOk, IfOk, IfErr, OnOk, OnErr};
+ghost use Rattle.std.specs.Prelude.{◌≡◌, ◌<◌, true, false, length, IsOk, IfOk, IfErr, OnOk, OnErr};
 ghost use Rattle.history_model.specs.History.{known};
 ghost use Rattle.reply_model.specs.After.{Answers, Derives, nothing};
+ghost use Rattle.node_table.specs.Table.{is_settled};
 ghost use Rattle.manifest_store.specs.Jobs.{IsDoneOn, is_ready, settled_by};
 ghost use Rattle.manifest_store.specs.Lines.{line_at};
 ghost use Rattle.manifest_store.specs.Manifests.{AreManifests};
@@ -39,6 +40,7 @@ impl<D: Disk> RepoState<D> {
         requires derived { IsDoneOn (line_at (known self.old.history) done.number) done }
         ensures ok { OnOk result (self.new.table ≡ settled_by (known self.old.history) self.old.table done) }
         ensures err { OnErr result (self.new.table ≡ self.old.table) }
+        ensures settled { is_ready (known self.old.history) self.old.table done.number ≡ true → OnOk result (is_settled self.new.table done.number ≡ true) }
         ensures late { is_ready (known self.old.history) self.old.table done.number ≡ false → IsOk result }
         ensures collision { IfErr result (IsCollision (known self.old.history)) }
         ensures manifests { AreManifests (known self.new.history) self.new.table }

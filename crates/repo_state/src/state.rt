@@ -34,6 +34,11 @@ impl<D: Disk> Model for RepoState<D> {
 
     ghost Value = { State };
 
+    ghost use Rattle.std.specs.Coded.{codes};
+    ghost use Rattle.node_table.specs.Table.{coded_table};
+
+    ghost coded = { Prim.hlevel (codes, coded_table) };
+
     ghost view = { λ s. record {
       header = s.machine.header;
       history = s.machine.history;
