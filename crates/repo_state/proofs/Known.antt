@@ -192,3 +192,9 @@ manifests_same header header1 h h1 t eh e has = record {
   header_fits = subst (λ x. is_header x ≡ true) (sym eh) has.header_fits;
   manifests = subst (λ ks. AreManifests ks t) (sym e) has.manifests;
 }
+
+pub manifests_begin : (header : Header) (h : List Entry) (t : Table) → is_header header ≡ true → IsLegal header h → ((ks : List Known) → IsStore ks → AreRight ks → AreManifests ks t) → HasManifests header h t
+manifests_begin header h t limits legal all = record {
+  header_fits = limits;
+  manifests = all (known h) (is_store header h limits legal) (are_right header h limits legal);
+}
