@@ -1,5 +1,5 @@
 -- The number of a changeset's first parent.
-use Rattle.std.proofs.Common.{◌≡◌, ℕ, suc, ◌<◌, true, false, cond, List, [], ◌∷◌, ◌++◌, length, reverse, refl, sym, ap, subst, ◌∙◌, arith, ⊎_elim}
+use Rattle.std.proofs.Common.{◌≡◌, ℕ, ◌<◌, true, false, List, [], ◌∷◌, ◌++◌, length, reverse, refl, sym, ap, subst, ◌∙◌, arith, ⊎_elim}
 use Rattle.std.specs.Prelude.{Option, Some, None, IfSome, is_some, bytes_eq, slice_get}
 use Rattle.std.specs.Option.{option_and_then}
 use mathlib.Core.Bool.{true≢false}
@@ -12,7 +12,7 @@ use Rattle.history_model.specs.History.{Known, is_known}
 use Rattle.history_model.specs.Chain.{first_parent, HasParents}
 use Rattle.history_model.proofs.Chains.{first_of_all}
 use Rattle.ancestry.proofs.Lines.{reverse-cons, slice_get-push_at, slice_get-push_other}
-use Rattle.changeset_store.specs.Store.{number_in, parent_at, known_at, changeset_at}
+use Rattle.changeset_store.specs.Store.{number_in, parent_at, known_at}
 use Rattle.changeset_store.specs.Numbers.{number_among, AreApart, parents_among}
 use Rattle.changeset_store.proofs.Places.{known_at-changeset}
 use Rattle.changeset_store.proofs.Numbering.{number_is, at_older, at_newest, is_numbered, in_range, known_reverse}
@@ -48,19 +48,17 @@ parents_at (k ∷ older) apart parents n less =
     let known = first_of_all (λ p. is_known older p ≡ true) k.changeset.parents parents.0 in
     ⊎_elim
     (λ e.
-    let here : at (k ∷ older) n ≡ k = ap (at (k ∷ older)) (sym e) ∙ at_newest k older in
-    (
+    let here : at (k ∷ older) n ≡ k = ap (at (k ∷ older)) (sym e) ∙ at_newest k older in (
       ap (λ l. slice_get l n) (reverse-cons mine (parents_among older)) ∙ ap (slice_get (reverse (parents_among older) ++ mine ∷ [])) (sym (len ∙ e)) ∙ slice_get-push_at (reverse (parents_among older)) mine
-      ∙ ap (λ o. Some o) (kept_parent k older (first_parent k.changeset) apart.0 known ∙ (λ i. option_and_then (number_among (k ∷ older)) (first_parent (sym here i).changeset))),
+          ∙ ap (λ o. Some o) (kept_parent k older (first_parent k.changeset) apart.0 known ∙ (λ i. option_and_then (number_among (k ∷ older)) (first_parent (sym here i).changeset))),
       (let P : Known → Type 0 = λ j. IfSome (first_parent j.changeset) (λ q. is_known (k ∷ older) q ≡ true) in subst P (sym here) (more_known k older (first_parent k.changeset) known)),
     ))
     (λ other.
     let there : n < length older = omega arith in
     let rest = parents_at older apart.1 parents.1 n there in
-    let same = at_older k older n there in
-    (
+    let same = at_older k older n there in (
       ap (λ l. slice_get l n) (reverse-cons mine (parents_among older)) ∙ slice_get-push_other (reverse (parents_among older)) mine n (λ h. other (sym len ∙ h)) ∙ rest.0
-      ∙ ap (λ o. Some o) (kept_parent k older (first_parent (at older n).changeset) apart.0 rest.1 ∙ (λ i. option_and_then (number_among (k ∷ older)) (first_parent (sym same i).changeset))),
+          ∙ ap (λ o. Some o) (kept_parent k older (first_parent (at older n).changeset) apart.0 rest.1 ∙ (λ i. option_and_then (number_among (k ∷ older)) (first_parent (sym same i).changeset))),
       (let P : Known → Type 0 = λ j. IfSome (first_parent j.changeset) (λ q. is_known (k ∷ older) q ≡ true) in subst P (sym same) (more_known k older (first_parent (at older n).changeset) rest.1)),
     ))
     (cases_eq (length older) n)

@@ -1,21 +1,28 @@
 -- An edit, seen from a directory, as it is put in under the name that it reaches.
 use Rattle.std.proofs.Common.{◌≡◌, ℕ, ◌<◌, length, drop, arith, append-nil, Bool, true, false, cond, List, [], ◌∷◌, ◌++◌, refl, sym, ap, ◌∙◌}
-use Rattle.std.specs.Prelude.{Option, Some, None, Result, Ok, Err, OnOk}
+use Rattle.std.specs.Prelude.{Option, Some, None, bytes_eq}
+use Rattle.std.specs.BTreeMap.{BTreeMap}
+use Rattle.std.proofs.lemmas.Bool.{and_parts}
 use Rattle.std.specs.declared.cmp.Ordering.{Ordering}
 use Rattle.std.specs.declared.cmp.Ordering.TheVariants.{Less, Equal, Greater}
 use Rattle.std.specs.Ordering.{nat_cmp, eq_by_cmp, is_eq, ordering_reverse}
 use Rattle.std.specs.Cmp.Lexicographic.{slice_cmp, texts_ties}
 use Rattle.std.proofs.lemmas.Cmp.{nat_list_cmp_total}
-use Rattle.changeset_model.specs.Path.{Path, is_strict_prefix}
+use Rattle.std.proofs.lemmas.List.{length-append}
+use Rattle.changeset_model.specs.Path.{Path, is_prefix, is_strict_prefix}
 use Rattle.changeset_model.specs.Changeset.{File, FileChange, Set, Delete}
 use Rattle.manifest_laws.proofs.Names.{same_name}
+use Rattle.manifest_laws.proofs.Changes.{prefix_itself}
+use Rattle.manifest_laws.proofs.Flat.{strict_parts, strict_from}
 use Rattle.byte_fields.specs.Bytes.{Id}
 use Rattle.manifest_model.specs.Unode.{UnodeEntry}
-use Rattle.entry_laws.specs.Entries.{edited, renewed, after_edit}
+use Rattle.entry_laws.specs.Entries.{without_dir, edited, renewed, after_edit, after_edits, unode_set, is_unode_file}
 use Rattle.entry_laws.proofs.Seen.{one_more, outside_at, outside_under, here_at, here_under, under_at, under_under}
 use Rattle.tree_fold.proofs.Texts.{drop-front}
-use Rattle.derive_step.specs.Steps.{sole, name_in, set_node, nodes_of_edit}
+use Rattle.derive_step.specs.declared.made.Made.{Made}
+use Rattle.derive_step.specs.Steps.{sole, name_in, set_node, nodes_of_edit, set_nodes, unode_after, unode_made_in}
 use Rattle.derive_step.specs.Manifests.{edit_nodes}
+use Rattle.derive_step.specs.Slices.{edits_in, past, IsChild, left_after}
 
 -- ---- an edit, seen from a directory
 
@@ -29,6 +36,36 @@ reversed_tie Greater = refl
 
 pub name_swap : (m n : List ℕ) → eq_by_cmp (slice_cmp nat_cmp) m n ≡ eq_by_cmp (slice_cmp nat_cmp) n m
 name_swap m n = ap is_eq (nat_list_cmp_total.antisymm m n) ∙ reversed_tie (slice_cmp nat_cmp n m)
+
+-- a path under a directory directly in another
+pub under_shape : (d : Path) (m : List ℕ) (q : Path) → is_strict_prefix (d ++ m ∷ []) q ≡ true → (e : List ℕ) × (r : Path) × (q ≡ d ++ m ∷ e ∷ r)
+under_shape [] m [] h = let less = (strict_parts (m ∷ []) [] h).1 in absurd (omega (arith, less))
+under_shape [] m (f ∷ []) h = let less = (strict_parts (m ∷ []) (f ∷ []) h).1 in absurd (omega (arith, less))
+under_shape [] m (f ∷ e ∷ r) h =
+    let first = (and_parts (bytes_eq m f) (is_prefix [] (e ∷ r)) (strict_parts (m ∷ []) (f ∷ e ∷ r) h).0).0 in
+    (e, r, λ i. sym (same_name m f first) i ∷ e ∷ r)
+under_shape (k ∷ d) m [] h = let less = (strict_parts (k ∷ d ++ m ∷ []) [] h).1 in absurd (omega (arith, less))
+under_shape (k ∷ d) m (f ∷ q) h =
+    let parts = strict_parts (k ∷ d ++ m ∷ []) (f ∷ q) h in
+    let less = parts.1 in
+    let both = and_parts (bytes_eq k f) (is_prefix (d ++ m ∷ []) q) parts.0 in
+    let rest = under_shape d m q (strict_from (d ++ m ∷ []) q both.1 (omega (arith, less))) in
+    (rest.0, rest.1, λ i. sym (same_name k f both.0) i ∷ rest.2 i)
+
+pub child_on : (c d q t : Path) (m : List ℕ) → c ≡ d ++ m ∷ [] → q ≡ c ++ t → 0 < length t → IsChild (Some c) d q
+child_on c d q t m here is some =
+    let size = length-append c t in
+    (m, here, ap (is_strict_prefix c) is ∙ strict_from c (c ++ t) (prefix_itself c t) (omega (arith, size)))
+
+-- ---- those under a directory, again
+
+pub in_twice : (d : Path) (es : List (Path × FileChange)) → edits_in d (edits_in d es) ≡ edits_in d es
+in_twice d [] = refl
+in_twice d (e ∷ es) = by (in_twice d es) (is_strict_prefix d e.0) refl
+  where
+    by : edits_in d (edits_in d es) ≡ edits_in d es → (b : Bool) → is_strict_prefix d e.0 ≡ b → edits_in d (cond b (e ∷ edits_in d es) (edits_in d es)) ≡ cond b (e ∷ edits_in d es) (edits_in d es)
+    by ih true h = ap (λ b. cond b (e ∷ edits_in d (edits_in d es)) (edits_in d (edits_in d es))) h ∙ ap (λ q. e ∷ q) ih
+    by ih false h = ih
 
 module _ {E : Type 0} (set_at : Path → Option E → File → E) (is_file : E → Bool) where
   abbrev after_at : (made : Path → Option E) → Path → List ℕ → Path × FileChange → Option E → Option E
@@ -58,22 +95,78 @@ module _ {E : Type 0} (set_at : Path → Option E → File → E) (is_file : E �
       by true t = right ∙ ap (λ x. renewed (set_at (d ++ x ∷ [])) (made (d ++ x ∷ [])) is_file (f x)) (tied_name m n t)
       by false t = refl
 
+  -- ---- edits elsewhere leave the entry
+
+  abbrev pub after_all : (made : Path → Option E) → Path → List ℕ → List (Path × FileChange) → Option E → Option E
+  after_all made d n es o = after_edits (set_at (d ++ n ∷ [])) (made (d ++ n ∷ [])) is_file (d ++ n ∷ []) es o
+
+  in_dir : (made : Path → Option E) (d : Path) (n : List ℕ) (es : List (Path × FileChange)) (o : Option E) → after_all made d n (edits_in d es) o ≡ after_all made d n es o
+  in_dir made d n [] o = refl
+  in_dir made d n (e ∷ es) o = by (in_dir made d n es) (is_strict_prefix d e.0) refl
+    where
+      by : ((o : Option E) → after_all made d n (edits_in d es) o ≡ after_all made d n es o) → (b : Bool) → is_strict_prefix d e.0 ≡ b → after_all made d n (cond b (e ∷ edits_in d es) (edits_in d es)) o ≡ after_all made d n es (after_at made d n e o)
+      by ih true under = ih (after_at made d n e o)
+      by ih false out = ih o ∙ ap (after_all made d n es) (outside_edit made d e.0 n e.1 o out)
+
+  pub same_in : (made : Path → Option E) (d : Path) (n : List ℕ) (es fs : List (Path × FileChange)) (o : Option E) → edits_in d es ≡ edits_in d fs → after_all made d n es o ≡ after_all made d n fs o
+  same_in made d n es fs o e = sym (in_dir made d n es o) ∙ ap (λ q. after_all made d n q o) e ∙ in_dir made d n fs o
+
+  -- ---- edits under one directory leave what the first leaves
+
+  without_twice : (s : Option E → File → E) (m o : Option E) → without_dir s m is_file (without_dir s m is_file o) ≡ without_dir s m is_file o
+  without_twice s m None = refl
+  without_twice s m (Some e) = by (is_file e) refl
+    where
+      by : (b : Bool) → is_file e ≡ b → without_dir s m is_file (cond b (Some e) None) ≡ cond b (Some e) None
+      by true h = ap (λ b. cond b (Some e) None) h
+      by false h = refl
+
+  renewed_twice : (s : Option E → File → E) (m o : Option E) → renewed s m is_file (renewed s m is_file o) ≡ renewed s m is_file o
+  renewed_twice s None o = without_twice s None o
+  renewed_twice s (Some m) o = refl
+
+  twice_if : (s : Option E → File → E) (m o : Option E) (b : Bool) → cond b (renewed s m is_file (cond b (renewed s m is_file o) o)) (cond b (renewed s m is_file o) o) ≡ cond b (renewed s m is_file o) o
+  twice_if s m o true = renewed_twice s m o
+  twice_if s m o false = refl
+
+  seen_under : (made : Path → Option E) (d q : Path) (m n : List ℕ) (change : FileChange) (o : Option E) → is_strict_prefix (d ++ m ∷ []) q ≡ true
+      → after_at made d n (q, change) o ≡ cond (eq_by_cmp (slice_cmp nat_cmp) n m) (renewed (set_at (d ++ n ∷ [])) (made (d ++ n ∷ [])) is_file o) o
+  seen_under made d q m n change o h =
+      let s = under_shape d m q h in
+      λ i. cond (under_at d q s.1 s.0 m n s.2 i) (edited (set_at (d ++ n ∷ [])) (made (d ++ n ∷ [])) is_file change o) (cond (under_under d q s.1 s.0 m n s.2 i) (renewed (set_at (d ++ n ∷ [])) (made (d ++ n ∷ [])) is_file o) o)
+
+  pub again : (made : Path → Option E) (d q r : Path) (m n : List ℕ) (a b : FileChange) (o : Option E) → is_strict_prefix (d ++ m ∷ []) q ≡ true → is_strict_prefix (d ++ m ∷ []) r ≡ true
+      → after_at made d n (r, b) (after_at made d n (q, a) o) ≡ after_at made d n (q, a) o
+  again made d q r m n a b o first second =
+      seen_under made d r m n b (after_at made d n (q, a) o) second
+      ∙ ap (λ x. cond (eq_by_cmp (slice_cmp nat_cmp) n m) (renewed (set_at (d ++ n ∷ [])) (made (d ++ n ∷ [])) is_file x) x) (seen_under made d q m n a o first)
+      ∙ twice_if (set_at (d ++ n ∷ [])) (made (d ++ n ∷ [])) o (eq_by_cmp (slice_cmp nat_cmp) n m)
+      ∙ sym (seen_under made d q m n a o first)
+
+  past_same : (made : Path → Option E) (d q : Path) (m n : List ℕ) (a : FileChange) (o : Option E) → is_strict_prefix (d ++ m ∷ []) q ≡ true → (es : List (Path × FileChange))
+      → after_all made d n (past (d ++ m ∷ []) es) (after_at made d n (q, a) o) ≡ after_all made d n es (after_at made d n (q, a) o)
+  past_same made d q m n a o under [] = refl
+  past_same made d q m n a o under (e ∷ es) = by (past_same made d q m n a o under es) (is_strict_prefix (d ++ m ∷ []) e.0) refl
+    where
+      by : after_all made d n (past (d ++ m ∷ []) es) (after_at made d n (q, a) o) ≡ after_all made d n es (after_at made d n (q, a) o) → (b : Bool) → is_strict_prefix (d ++ m ∷ []) e.0 ≡ b → after_all made d n (cond b (past (d ++ m ∷ []) es) (e ∷ es)) (after_at made d n (q, a) o) ≡ after_all made d n es (after_at made d n e (after_at made d n (q, a) o))
+      by ih true h = ih ∙ ap (after_all made d n es) (sym (again made d q e.0 m n a e.1 o under h))
+      by ih false h = refl
+
+  pub left_same : (made : Path → Option E) (d q : Path) (n : List ℕ) (a : FileChange) (o : Option E) (child : Option Path) → IsChild child d q → (es : List (Path × FileChange))
+      → after_all made d n (left_after child es) (after_at made d n (q, a) o) ≡ after_all made d n es (after_at made d n (q, a) o)
+  left_same made d q n a o None is es = refl
+  left_same made d q n a o (Some c) is es =
+      ap (λ x. after_all made d n (past x es) (after_at made d n (q, a) o)) is.1
+      ∙ past_same made d q is.0 n a o (ap (λ x. is_strict_prefix x q) (sym is.1) ∙ is.2) es
+
   -- ---- put into a map
 
-  abbrev pub Puts : {A X : Type 0} → Result A X → (g f : List ℕ → Option E) → (Path → Option E) → Path → Path × FileChange → Type 0
-  Puts r g f made d e = OnOk r ((n : List ℕ) → g n ≡ after_at made d n e (f n))
+  pub put_here : (g f : List ℕ → Option E) (d q : Path) (m : List ℕ) (change : FileChange) (o : Option E) (made : Path → Option E) → ((n : List ℕ) → g n ≡ cond (eq_by_cmp (slice_cmp nat_cmp) m n) o (f n)) → q ≡ d ++ m ∷ [] → ((x : Option E) → o ≡ edited (set_at (d ++ m ∷ [])) x is_file change (f m)) → (n : List ℕ) → g n ≡ after_at made d n (q, change) (f n)
+  put_here g f d q m change o made h e right n = h n ∙ here_edit made d q m n change f o e right
 
-  pub put_here : {A X : Type 0} (r : Result A X) (g f : List ℕ → Option E) (d q : Path) (m : List ℕ) (change : FileChange) (o : Option E) (made : Path → Option E) → OnOk r ((n : List ℕ) → g n ≡ cond (eq_by_cmp (slice_cmp nat_cmp) m n) o (f n)) → q ≡ d ++ m ∷ [] → ((x : Option E) → o ≡ edited (set_at (d ++ m ∷ [])) x is_file change (f m)) → Puts r g f made d (q, change)
-  put_here (Ok a) g f d q m change o made h e right = λ n. h n ∙ here_edit made d q m n change f o e right
-  put_here (Err x) g f d q m change o made h e right = tt
-
-  put_one : {A X : Type 0} (r : Result A X) (g f : List ℕ → Option E) (d q : Path) (m e : List ℕ) (t : Path) (change : FileChange) (o : Option E) (made : Path → Option E) → OnOk r ((n : List ℕ) → g n ≡ cond (eq_by_cmp (slice_cmp nat_cmp) m n) o (f n)) → q ≡ d ++ m ∷ e ∷ t → o ≡ renewed (set_at (d ++ m ∷ [])) (made (d ++ m ∷ [])) is_file (f m) → Puts r g f made d (q, change)
-  put_one (Ok a) g f d q m e t change o made h is right = λ n. h n ∙ under_edit made d q m n e t change f o is right
-  put_one (Err x) g f d q m e t change o made h is right = tt
-
-  pub put_under : {A X : Type 0} (r : Result A X) (g f : List ℕ → Option E) (d q : Path) (m : List ℕ) (t : Path) (change : FileChange) (o : Option E) (made : Path → Option E) → OnOk r ((n : List ℕ) → g n ≡ cond (eq_by_cmp (slice_cmp nat_cmp) m n) o (f n)) → 0 < length t → q ≡ d ++ m ∷ t → o ≡ renewed (set_at (d ++ m ∷ [])) (made (d ++ m ∷ [])) is_file (f m) → Puts r g f made d (q, change)
-  put_under r g f d q m [] change o made h some is right = absurd (omega arith)
-  put_under r g f d q m (e ∷ t) change o made h some is right = put_one r g f d q m e t change o made h is right
+  pub put_under : (g f : List ℕ → Option E) (d q : Path) (m : List ℕ) (t : Path) (change : FileChange) (o : Option E) (made : Path → Option E) → ((n : List ℕ) → g n ≡ cond (eq_by_cmp (slice_cmp nat_cmp) m n) o (f n)) → 0 < length t → q ≡ d ++ m ∷ t → o ≡ renewed (set_at (d ++ m ∷ [])) (made (d ++ m ∷ [])) is_file (f m) → (n : List ℕ) → g n ≡ after_at made d n (q, change) (f n)
+  put_under g f d q m [] change o made h some is right n = absurd (omega arith)
+  put_under g f d q m (e ∷ t) change o made h some is right n = h n ∙ under_edit made d q m n e t change f o is right
 
 -- ---- the unodes of files
 
@@ -101,6 +194,42 @@ pub under_nodes : (x : Id) (d q : Path) (m : List ℕ) (t : Path) (change : File
 under_nodes x d q m [] change o old some is = absurd (omega arith)
 under_nodes x d q m (e ∷ t) change o old some is = sym (append-nil old) ∙ ap (λ ns. old ++ ns) (no_nodes x d q m e t change o is)
 
-pub on_ok : {A X P : Type 0} (r : Result A X) → P → OnOk r P
-on_ok (Ok a) p = p
-on_ok (Err x) p = tt
+-- ---- edits elsewhere put no unodes of files
+
+outside_nodes : (x : Id) (d p : Path) (change : FileChange) (o : List ℕ → Option UnodeEntry) → is_strict_prefix d p ≡ false → [] ≡ nodes_of_edit x d o (p, change)
+outside_nodes x d p (Set f) o out = sym (ap (λ b. set_node x p f o (cond b (sole (drop (length d) p)) None)) out)
+outside_nodes x d p Delete o out = refl
+
+in_dir_nodes : (x : Id) (made : BTreeMap Path Made) (d : Path) (es : List (Path × FileChange)) (o : List ℕ → Option UnodeEntry) → set_nodes x made d (edits_in d es) o ≡ set_nodes x made d es o
+in_dir_nodes x made d [] o = refl
+in_dir_nodes x made d ((p, change) ∷ es) o = by (in_dir_nodes x made d es) (is_strict_prefix d p) refl
+  where
+    by : ((o : List ℕ → Option UnodeEntry) → set_nodes x made d (edits_in d es) o ≡ set_nodes x made d es o) → (b : Bool) → is_strict_prefix d p ≡ b → set_nodes x made d (cond b ((p, change) ∷ edits_in d es) (edits_in d es)) o ≡ nodes_of_edit x d o (p, change) ++ set_nodes x made d es (λ n. unode_after x made d ((p, change) ∷ []) o n)
+    by ih true under = ap (λ ns. nodes_of_edit x d o (p, change) ++ ns) (ih (λ n. unode_after x made d ((p, change) ∷ []) o n))
+    by ih false out =
+        ih o
+        ∙ ap (set_nodes x made d es) (λ i n. outside_edit (unode_set x) is_unode_file (unode_made_in made) d p n change (o n) out i)
+        ∙ ap (λ ns. ns ++ set_nodes x made d es (λ n. unode_after x made d ((p, change) ∷ []) o n)) (outside_nodes x d p change o out)
+
+pub same_in_nodes : (x : Id) (made : BTreeMap Path Made) (d : Path) (es fs : List (Path × FileChange)) (o : List ℕ → Option UnodeEntry) → edits_in d es ≡ edits_in d fs → set_nodes x made d es o ≡ set_nodes x made d fs o
+same_in_nodes x made d es fs o e = sym (in_dir_nodes x made d es o) ∙ ap (λ q. set_nodes x made d q o) e ∙ in_dir_nodes x made d fs o
+
+module _ (x : Id) (made : BTreeMap Path Made) (d q : Path) (a : FileChange) (o : List ℕ → Option UnodeEntry) where
+  abbrev after_first : List ℕ → Option UnodeEntry
+  after_first n = unode_after x made d ((q, a) ∷ []) o n
+
+  past_nodes : (m : List ℕ) → is_strict_prefix (d ++ m ∷ []) q ≡ true → (es : List (Path × FileChange)) → set_nodes x made d (past (d ++ m ∷ []) es) after_first ≡ set_nodes x made d es after_first
+  past_nodes m under [] = refl
+  past_nodes m under ((r, b) ∷ es) = by (past_nodes m under es) (is_strict_prefix (d ++ m ∷ []) r) refl
+    where
+      by : set_nodes x made d (past (d ++ m ∷ []) es) after_first ≡ set_nodes x made d es after_first → (t : Bool) → is_strict_prefix (d ++ m ∷ []) r ≡ t → set_nodes x made d (cond t (past (d ++ m ∷ []) es) ((r, b) ∷ es)) after_first ≡ nodes_of_edit x d after_first (r, b) ++ set_nodes x made d es (λ n. unode_after x made d ((r, b) ∷ []) after_first n)
+      by ih true h =
+          let s = under_shape d m r h in
+          ih
+          ∙ ap (set_nodes x made d es) (sym (λ i n. again (unode_set x) is_unode_file (unode_made_in made) d q r m n a b (o n) under h i))
+          ∙ ap (λ ns. ns ++ set_nodes x made d es (λ n. unode_after x made d ((r, b) ∷ []) after_first n)) (no_nodes x d r m s.0 s.1 b after_first s.2)
+      by ih false h = refl
+
+  pub left_nodes : (child : Option Path) → IsChild child d q → (es : List (Path × FileChange)) → set_nodes x made d (left_after child es) after_first ≡ set_nodes x made d es after_first
+  left_nodes None is es = refl
+  left_nodes (Some c) is es = ap (λ y. set_nodes x made d (past y es) after_first) is.1 ∙ past_nodes is.0 (ap (λ y. is_strict_prefix y q) (sym is.1) ∙ is.2) es

@@ -1,5 +1,7 @@
 pub mod Paths
 pub mod Edits
+pub mod Together
+pub mod Covered
 pub mod Sums
 pub mod Above
 pub mod Entries

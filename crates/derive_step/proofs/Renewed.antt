@@ -6,8 +6,8 @@ use mathlib.Core.Bool.{true≢false}
 use Rattle.std.proofs.lemmas.Bool.{ne_eqb}
 use Rattle.std.specs.Option.{option_to_list}
 use Rattle.std.specs.Borrow.{Bor}
-use Rattle.std.specs.Arc.{arc_value}
 use Rattle.std.specs.BTreeMap.{BTreeMap, get, Updates}
+use Rattle.std.specs.FinMap.{is_sorted}
 use Rattle.byte_fields.specs.Bytes.{Id}
 use Rattle.changeset_model.specs.Path.{Path, path_cmp}
 use Rattle.changeset_model.specs.Changeset.{File, FileChange}
@@ -19,6 +19,7 @@ use Rattle.manifest_laws.specs.Changes.{files_in, is_covered}
 use Rattle.manifest_laws.specs.Summaries.{summary_by}
 use Rattle.manifest_laws.specs.Entries.{fs_entry_at, unode_entry_at}
 use Rattle.manifest_laws.proofs.Directories.{empty_is}
+use Rattle.entry_laws.specs.Entries.{fs_set, is_fs_file, unode_set, is_unode_file}
 use Rattle.node_table.specs.declared.roots.Roots.{Roots}
 use Rattle.fsnode.specs.declared.entry.FsChild.{FsChild}
 use Rattle.fsnode.specs.declared.node.Fsnode.{Fsnode as RustFsnode}
@@ -31,11 +32,13 @@ use Rattle.derive_step.specs.declared.job.Job.{Job}
 use Rattle.derive_step.specs.declared.job.DirNodes.{DirNodes}
 use Rattle.derive_step.specs.declared.made.Made.{Made}
 use Rattle.derive_step.specs.Views.{nodes_before}
-use Rattle.derive_step.specs.Jobs.{IsJobOf, nodes_on}
-use Rattle.derive_step.specs.Steps.{fs_before, fs_after, unode_before, unode_after, set_nodes}
+use Rattle.derive_step.specs.Jobs.{IsRight, IsJobOf, nodes_on}
+use Rattle.derive_step.specs.Steps.{fs_made_in, fs_before, fs_after, unode_made_in, unode_before, unode_after, set_nodes}
+use Rattle.derive_step.specs.Slices.{edits_in}
 use Rattle.derive_step.specs.Manifests.{parent_before}
 use Rattle.derive_step.specs.Renewal.{IsMadeUnder, IsStep, IsRenewed, before_of, nodes_there, dir_nodes, roots_at, files_set_in}
 use Rattle.derive_step.proofs.Above.{by_test}
+use Rattle.derive_step.proofs.Edits.{same_in, same_in_nodes, in_twice}
 use Rattle.derive_step.proofs.Laws.{rise, uncovered_dir, is_before, fs_entries, same_entries, same_node, unode_entries, same_unode}
 use Rattle.derive_step.proofs.FileNodes.{all_found, file_nodes}
 
@@ -44,18 +47,23 @@ ok_with (Ok x) a b h e p f = (h ∙ e, f p)
 ok_with (Err x) a b h e p f = tt
 
 module _ (c : Known) (older : List Known) (job : Job) (d : Path) (made : BTreeMap Path Made) (b : Option (Bor DirNodes)) (step : IsStep c older job d made b) (dir : is_dir (files_in (c ∷ older)) d ≡ true)
-    (link : Id) (es : List (Path × FileChange)) (is_link : link ≡ c.id) (are_edits : es ≡ c.changeset.changes) where
+    (link : Id) (es : List (Path × FileChange)) (is_link : link ≡ c.id) (are_edits : edits_in d es ≡ edits_in d c.changeset.changes) where
   pub unode_is : (m : UnodeManifest) → ((n : List ℕ) → unode_entry_at (manifest_seen m) n ≡ unode_after link made d es (unode_before b) n) → are_entries (unode_children_seen m.entries.items) ≡ true
       → option_to_list m.parent ≡ parent_before b → m.linknode ≡ link → manifest_seen m ≡ unode (c ∷ older) d
   unode_is m found rule parent linked =
       same_unode c older step.right d m step.renewed dir rule
-      (λ n. found n ∙ (λ i. unode_after (is_link i) made d (are_edits i) (unode_before b) n) ∙ unode_entries c older step.right d made b step.before step.under dir n)
+      (λ n.
+      found n
+      ∙ ap (λ x. unode_after x made d es (unode_before b) n) is_link
+      ∙ same_in (unode_set c.id) is_unode_file (unode_made_in made) d n es c.changeset.changes (unode_before b n) are_edits
+      ∙ unode_entries c older step.right d made b step.before step.under dir n)
       (parent ∙ step.before.parent (uncovered_dir c older step.right d dir))
       (linked ∙ is_link)
 
   pub files_are : set_nodes link made d es (unode_before b) ≡ map (λ p. unode_bytes (unode (c ∷ older) p)) (files_set_in d c.changeset.changes)
   files_are =
-      (λ i. set_nodes (is_link i) made d (are_edits i) (unode_before b))
+      ap (λ x. set_nodes x made d es (unode_before b)) is_link
+      ∙ same_in_nodes c.id made d es c.changeset.changes (unode_before b) are_edits
       ∙ file_nodes c older step.right d made c.changeset.changes (unode_before b) (rise c older step.right) (all_found c.changeset.changes (rise c older step.right))
       (λ n h. step.before.unode (uncovered_dir c older step.right d dir) n)
 
@@ -83,17 +91,21 @@ step_from c older job d made b of renewed under e = record { right = of.right; c
 pub root_seen : (c : Known) (older : List Known) (job : Job) (b : Option (Bor DirNodes)) → IsJobOf c older job → before_of b ≡ nodes_before job.parent [] → before_of b ≡ cond (is_covered c.changeset []) None (nodes_on older [])
 root_seen c older job b of e = e ∙ of.nodes [] refl ∙ sym (ap (λ v. cond v None (nodes_on older [])) (uncovered_dir c older of.right [] refl))
 
-pub dir_seen : (c : Known) (older : List Known) (job : Job) (d : Path) (b : Option (Bor DirNodes)) → IsJobOf c older job → is_renewed c.changeset d ≡ true → before_of b ≡ cond (is_covered (arc_value job.commit) d) None (nodes_before job.parent d)
+pub dir_seen : (c : Known) (older : List Known) (job : Job) (d : Path) (b : Option (Bor DirNodes)) → IsJobOf c older job → is_renewed c.changeset d ≡ true → before_of b ≡ cond (is_covered c.changeset d) None (nodes_before job.parent d)
     → before_of b ≡ cond (is_covered c.changeset d) None (nodes_on older d)
-dir_seen c older job d b of renewed e = e ∙ (λ i. cond (is_covered (of.changeset i) d) None (of.nodes d renewed i))
+dir_seen c older job d b of renewed e = e ∙ ap (λ o. cond (is_covered c.changeset d) None o) (of.nodes d renewed)
+
+-- the edits that are gone through are those under the directory
+pub slice_is : (c : Known) (older : List Known) → IsRight (c ∷ older) → (d : Path) (all es : List (Path × FileChange)) → all ≡ c.changeset.changes → (is_sorted path_cmp all ≡ true → es ≡ edits_in d all) → edits_in d es ≡ edits_in d c.changeset.changes
+slice_is c older right d all es are slice = ap (edits_in d) (slice (ap (is_sorted path_cmp) are ∙ rise c older right)) ∙ in_twice d all ∙ ap (edits_in d) are
 
 module _ (c : Known) (older : List Known) (job : Job) (d : Path) (made : BTreeMap Path Made) (b : Option (Bor DirNodes)) (step : IsStep c older job d made b)
-    (es : List (Path × FileChange)) (are_edits : es ≡ c.changeset.changes) (node : RustFsnode) (found : (n : List ℕ) → fs_entry_at (fsnode_seen node) n ≡ fs_after made d es (fs_before b) n) (rule : are_entries (fs_children_seen node.entries.items) ≡ true) where
+    (es : List (Path × FileChange)) (are_edits : edits_in d es ≡ edits_in d c.changeset.changes) (node : RustFsnode) (found : (n : List ℕ) → fs_entry_at (fsnode_seen node) n ≡ fs_after made d es (fs_before b) n) (rule : are_entries (fs_children_seen node.entries.items) ≡ true) where
   abbrev now : List (Path × File)
   now = files_in (c ∷ older)
 
   found_after : (n : List ℕ) → fs_entry_at (fsnode_seen node) n ≡ fs_entry_at (fsnode now d) n
-  found_after n = found n ∙ ap (λ q. fs_after made d q (fs_before b) n) are_edits ∙ fs_entries c older step.right d made b step.before step.under n
+  found_after n = found n ∙ same_in (λ _. fs_set) is_fs_file (fs_made_in made) d n es c.changeset.changes (fs_before b n) are_edits ∙ fs_entries c older step.right d made b step.before step.under n
 
   entries_are : fs_children_seen node.entries.items ≡ (fsnode now d).entries
   entries_are = same_entries c older step.right d (fs_children_seen node.entries.items) rule found_after

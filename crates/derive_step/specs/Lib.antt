@@ -6,3 +6,5 @@ pub mod Steps
 pub mod Touched
 pub mod Manifests
 pub mod Renewal
+pub mod Slices
+pub mod Covering

@@ -14,11 +14,13 @@ ghost use Rattle.entry_laws.specs.Entries.{edited as edited_to, renewed as renew
 ghost use Rattle.fsnode.specs.Parts.{child_seen, entry_seen, children_seen, summary_seen};
 ghost use Rattle.fsnode.specs.Views.{fsnode_seen};
 ghost use Rattle.derive_step.specs.Places.{dir_of};
+ghost use Rattle.derive_step.specs.Slices.{IsChild};
 ghost use Rattle.derive_step.specs.Steps.{fs_view, fs_in, fs_made_in, fs_before, fs_after};
 
 use crate::job::DirNodes;
 use crate::made::MadeDirs;
 use crate::place::{Place, dir_before, place_in};
+use crate::slices::edits_left;
 use crate::summing::summary_of;
 use bonsai::{Change, Edit};
 use fsnode::{FsChild, FsEntry, Fsnode};
@@ -82,35 +84,41 @@ fn put_edits(
 ) -> Result<(), AllocError>
     ensures { OnOk result ((n : List ℕ) → fs_in entries.new n ≡ fs_after made.now (dir_of dir.entry) (edits_view edits.now) (fs_in entries.old) n) }
 {
-    for edit in edits {
-        put_edit(alloc, entries, edit, dir, made)?;
+    let mut left = edits;
+    'putting: while let Some((edit, rest)) = left.split_first() {
+        let child = put_edit(alloc, entries, edit, dir, made)?;
+        left = edits_left(rest, child);
     }
     Ok(())
 }
 
-// Puts in what an edit leaves under the name that it reaches.
+// Puts in what an edit leaves under the name that it reaches. Where the edit lies under the directory of that name, it gives
+// the directory: the edits that follow it there leave the same.
 fn put_edit(
     alloc: Global,
     entries: &mut Entries,
     edit: &Edit,
     dir: Option<&RepoPath>,
     made: &MadeDirs,
-) -> Result<(), AllocError>
-    ensures { OnOk result ((n : List ℕ) → fs_in entries.new n ≡ fs_after made.now (dir_of dir.entry) (edit_view edit.now ∷ []) (fs_in entries.old) n) }
+) -> Result<Option<RepoPath>, AllocError>
+    ensures entries { OnOk result ((n : List ℕ) → fs_in entries.new n ≡ fs_after made.now (dir_of dir.entry) (edit_view edit.now ∷ []) (fs_in entries.old) n) }
+    ensures child { IfOk result (λ child. IsChild child (dir_of dir.entry) edit.now.path) }
 {
     match place_in(&edit.path, dir) {
-        Place::Outside => Ok(()),
+        Place::Outside => Ok(None),
         Place::Here(name) => {
             let key = Name::copy_of(alloc, name.as_bytes())?;
             let entry = edited(edit.change, entries.get(&key).copied());
-            put(entries, key, entry)
+            put(entries, key, entry)?;
+            Ok(None)
         }
         Place::Under(name, rest) => {
             let key = Name::copy_of(alloc, name.as_bytes())?;
             let child = dir_before(alloc, &edit.path, rest)?;
             let there = entry_made(made, &child);
             let entry = renewed(there, entries.get(&key).copied());
-            put(entries, key, entry)
+            put(entries, key, entry)?;
+            Ok(Some(child))
         }
     }
 }

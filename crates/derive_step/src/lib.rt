@@ -11,6 +11,7 @@ mod made;
 mod nodes;
 mod place;
 mod renewal;
+mod slices;
 mod summing;
 mod touched;
 mod unodes;

@@ -18,6 +18,7 @@ ghost use Rattle.node_table.specs.Parts.{nodes_seen};
 ghost use Rattle.unode.specs.Parts.{entry_seen, children_seen};
 ghost use Rattle.unode.specs.Views.{manifest_seen};
 ghost use Rattle.derive_step.specs.Places.{dir_of};
+ghost use Rattle.derive_step.specs.Slices.{IsChild};
 ghost use Rattle.derive_step.specs.Steps.{nodes_of_edit, set_nodes, unode_view, unode_in, unode_made_in, unode_before, unode_after};
 ghost use Rattle.derive_step.specs.Manifests.{edit_nodes, parent_before};
 
@@ -25,6 +26,7 @@ use crate::job::DirNodes;
 use crate::made::MadeDirs;
 use crate::nodes::put_node;
 use crate::place::{Place, dir_before, place_in};
+use crate::slices::edits_left;
 use bonsai::{Change, Edit};
 use node_fields::Name;
 use object_id::Id;
@@ -140,13 +142,16 @@ fn put_edits(
     ensures entries { OnOk result ((n : List ℕ) → unode_in entries.new n ≡ unode_after link made.now (dir_of dir.entry) (edits_view edits.now) (unode_in entries.old) n) }
     ensures nodes { OnOk result (nodes_seen nodes.new.items ≡ nodes_seen nodes.old.items ++ set_nodes link made.now (dir_of dir.entry) (edits_view edits.now) (unode_in entries.old)) }
 {
-    for edit in edits {
-        put_edit(alloc, entries, link, edit, dir, made, nodes)?;
+    let mut left = edits;
+    'putting: while let Some((edit, rest)) = left.split_first() {
+        let child = put_edit(alloc, entries, link, edit, dir, made, nodes)?;
+        left = edits_left(rest, child);
     }
     Ok(())
 }
 
-// Puts in what an edit leaves under the name that it reaches.
+// Puts in what an edit leaves under the name that it reaches. Where the edit lies under the directory of that name, it gives
+// the directory: the edits that follow it there leave the same.
 fn put_edit(
     alloc: Global,
     entries: &mut Entries,
@@ -155,24 +160,27 @@ fn put_edit(
     dir: Option<&RepoPath>,
     made: &MadeDirs,
     nodes: &mut Vec<Vec<u8>>,
-) -> Result<(), AllocError>
+) -> Result<Option<RepoPath>, AllocError>
     ensures entries { OnOk result ((n : List ℕ) → unode_in entries.new n ≡ unode_after link made.now (dir_of dir.entry) (edit_view edit.now ∷ []) (unode_in entries.old) n) }
+    ensures child { IfOk result (λ child. IsChild child (dir_of dir.entry) edit.now.path) }
     ensures nodes { OnOk result (nodes_seen nodes.new.items ≡ nodes_seen nodes.old.items ++ nodes_of_edit link (dir_of dir.entry) (unode_in entries.old) (edit_view edit.now)) }
 {
     match place_in(&edit.path, dir) {
-        Place::Outside => Ok(()),
+        Place::Outside => Ok(None),
         Place::Here(name) => {
             let key = Name::copy_of(alloc, name.as_bytes())?;
             let before = entries.get(&key).copied();
             let entry = edited(alloc, link, edit, before, nodes)?;
-            put(entries, key, entry)
+            put(entries, key, entry)?;
+            Ok(None)
         }
         Place::Under(name, rest) => {
             let key = Name::copy_of(alloc, name.as_bytes())?;
             let child = dir_before(alloc, &edit.path, rest)?;
             let there = entry_made(made, &child);
             let entry = renewed(there, entries.get(&key).copied());
-            put(entries, key, entry)
+            put(entries, key, entry)?;
+            Ok(Some(child))
         }
     }
 }

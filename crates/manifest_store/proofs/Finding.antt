@@ -1,6 +1,6 @@
 -- Entries found by going through them.
-use Rattle.std.proofs.Common.{◌≡◌, ℕ, suc, ◌<◌, true, false, cond, List, [], ◌∷◌, map, length, drop, drop-cons, get_or, refl, sym, ap, ◌∙◌, ◌+◌, arith}
-use Rattle.std.specs.Prelude.{Option, Some, None, bytes_eq}
+use Rattle.std.proofs.Common.{◌≡◌, ℕ, suc, ◌<◌, true, false, cond, List, ◌∷◌, map, length, drop, drop-cons, get_or, sym, ap, ◌∙◌, ◌+◌, arith}
+use Rattle.std.specs.Prelude.{Option, Some, bytes_eq}
 use Rattle.std.specs.Ordering.{nat_cmp, eq_by_cmp}
 use Rattle.std.specs.Cmp.Lexicographic.{slice_cmp, texts_ties}
 use Rattle.std.specs.FinMap.{find as find_key}

@@ -1,24 +1,25 @@
 -- Nodes of directories as they are gathered from the root down.
 use Rattle.std.proofs.Common.{◌≡◌, ◌⊎◌, inl, inr, ℕ, ◌<◌, Bool, true, false, cond, ◌&&◌, List, [], ◌∷◌, ◌++◌, length, refl, sym, ap, subst, ◌∙◌, arith, append_assoc, Bor}
-use Rattle.std.specs.Prelude.{Option, Some, None, option_map, is_some, bytes_eq, IfSome}
+use Rattle.std.specs.Prelude.{Option, Some, None, option_map, is_some, bytes_eq}
 use Rattle.std.specs.Option.{option_and_then, option_copied}
 use Rattle.std.specs.Ordering.{eq_by_cmp}
 use Rattle.std.specs.BTreeMap.{BTreeMap, get, Updates}
 use mathlib.Core.Bool.{true≢false}
 use Rattle.std.proofs.lemmas.Bool.{and_parts}
 use Rattle.std.proofs.lemmas.List.{append-nil, length-append}
-use Rattle.changeset_model.specs.Path.{Path, path_cmp, is_prefix}
+use Rattle.changeset_model.specs.Path.{Path, path_cmp, elements, is_path, is_prefix}
 use Rattle.manifest_model.proofs.Derivations.{tied_same}
 use Rattle.manifest_laws.proofs.Names.{same_name}
 use Rattle.manifest_laws.proofs.Flat.{tied_self}
 use Rattle.node_table.specs.Table.{Nodes}
 use Rattle.derive_step.specs.declared.job.DirNodes.{DirNodes}
 use Rattle.derive_step.specs.Views.{Before, before_seen}
+use Rattle.derive_step.proofs.Paths.{path_front}
 use Rattle.manifest_store.specs.Nodes.{child_under, dir_from}
-use Rattle.manifest_store.specs.Dirs.{found, IsFull, AreDirs, IsMore, AreFull}
+use Rattle.manifest_store.specs.Dirs.{found, IsFull, AreDirs, IsMore, AreFull, left}
 use Rattle.manifest_store.specs.Reads.{dir_of}
 
-abbrev Dirs : Type 0
+abbrev pub Dirs : Type 0
 Dirs = BTreeMap Path DirNodes
 
 abbrev pub own : Option Path → Path
@@ -56,7 +57,7 @@ module _ (m : Nodes) where
 -- ---- prefixes
 
 -- a prefix of a path with one more element is one of the path, or all of it
-prefix_snoc : (d a : Path) (n : List ℕ) → is_prefix d (a ++ n ∷ []) ≡ true → (is_prefix d a ≡ true) ⊎ (d ≡ a ++ n ∷ [])
+pub prefix_snoc : (d a : Path) (n : List ℕ) → is_prefix d (a ++ n ∷ []) ≡ true → (is_prefix d a ≡ true) ⊎ (d ≡ a ++ n ∷ [])
 prefix_snoc [] a n h = inl refl
 prefix_snoc (e ∷ []) [] n h = inr (λ i. same_name e n (and_parts (bytes_eq e n) true h).0 i ∷ [])
 prefix_snoc (e ∷ f ∷ d) [] n h = absurd (true≢false (sym (and_parts (bytes_eq e n) false h).1))
@@ -209,3 +210,18 @@ rest_full m b before after above here name rest whole is cut full are more none 
     by : (is_prefix d above ≡ true) ⊎ ((r : Path) × (d ≡ above ++ r)) → IsFull m b after d
     by (inl g) = more d (full d g)
     by (inr e) = under e.0 e.1 (ap (is_prefix d) (sym long) ∙ h)
+
+-- ---- texts
+
+pub next_cut : (whole a : Path) (rest : Option (Bor (List ℕ))) (text : Bor (List ℕ)) (name : List ℕ) (after : Option (Bor (List ℕ))) → whole ≡ a ++ left rest → rest ≡ Some text → elements text.now ≡ name ∷ left after → whole ≡ (a ++ name ∷ []) ++ left after
+next_cut whole a rest text name after cut is parted = cut ∙ ap (λ r. a ++ left r) is ∙ ap (λ p. a ++ p) parted ∙ sym (append_assoc a (name ∷ []) (left after))
+
+pub some_snoc : (a : Path) (n : List ℕ) → 0 < length (a ++ n ∷ [])
+some_snoc a n = let long = length-append a (n ∷ []) in omega arith
+
+pub front_path : (d q whole : Path) → whole ≡ d ++ q → is_path whole ≡ true → 0 < length d → is_path d ≡ true
+front_path d [] whole e h some = ap is_path (sym (append-nil d) ∙ sym e) ∙ h
+front_path d (x ∷ q) whole e h some = path_front d (x ∷ q) (ap is_path (sym e) ∙ h) some (more q)
+  where
+    more : (q : Path) → 0 < length (x ∷ q)
+    more q = omega arith

@@ -17,7 +17,7 @@ use Rattle.manifest_model.specs.Unode.{UnodeEntry, UnodeFile, UnodeDir, unode, u
 use Rattle.manifest_model.specs.NodeReading.{fsnode_of, unode_of}
 use Rattle.manifest_model.proofs.Links.{file_at-files}
 use Rattle.manifest_model.proofs.Nodes.{fsnode_is_read, unode_is_read}
-use Rattle.manifest_laws.specs.Changes.{AreClear, tree_at, files_in}
+use Rattle.manifest_laws.specs.Changes.{tree_at, files_in}
 use Rattle.manifest_laws.specs.Entries.{fs_entry_at, unode_entry_at}
 use Rattle.manifest_laws.proofs.Changes.{prefix_itself}
 use Rattle.manifest_laws.proofs.Flat.{strict_from, strict_under, file_under, dir_from}
@@ -118,10 +118,10 @@ abbrev pub un_place : List Known → Path → Option UnodeEntry
 un_place line p = entry_if (chained line) (λ x n. None) (un_node line) (un_leaf line) (is_dir (files_in line) p) (tree_at line p) p
 
 module _ (m : Nodes) (c : Known) (older : List Known) (right : IsRight (c ∷ older)) (held : HoldsAll m (c ∷ older)) where
-  abbrev all : List Known
+  abbrev pub all : List Known
   all = c ∷ older
 
-  abbrev now : List (Path × File)
+  abbrev pub now : List (Path × File)
   now = files_in all
 
   pub fsnode_there : (d : Path) → is_dir now d ≡ true → fsnode_under m (fs_node all d) ≡ Some (fsnode now d)
@@ -162,7 +162,7 @@ module _ (m : Nodes) (c : Known) (older : List Known) (right : IsRight (c ∷ ol
 
   -- ---- both nodes of directories
 
-  abbrev both : Path → Roots
+  abbrev pub both : Path → Roots
   both d = record { fsnode = fs_node all d; unode = un_node all d }
 
   dir_there : (d : Path) → is_dir now d ≡ true → dir_under m (both d) ≡ Some (nodes_at all d)
@@ -179,7 +179,7 @@ module _ (m : Nodes) (c : Known) (older : List Known) (right : IsRight (c ∷ ol
       by false here (Some f) e = ap (λ o. option_and_then (dir_under m) (both_dirs o (unode_entry_at (unode all d) n))) (fsnodes.entry_of_file now d n f (file_at-files (chained all) (d ++ n ∷ []) ∙ e))
       by false here None e = ap (λ o. option_and_then (dir_under m) (both_dirs o (unode_entry_at (unode all d) n))) (fsnodes.entry_of_nothing now d n (file_at-files (chained all) (d ++ n ∷ []) ∙ e) here)
 
-  abbrev spot : Path → Option Before
+  abbrev pub spot : Path → Option Before
   spot p = cond (is_dir now p) (Some (nodes_at all p)) None
 
   pub dirs_are : (p d : Path) → is_dir now d ≡ true → gathered_from m (nodes_at all d) p ≡ spot (d ++ p)

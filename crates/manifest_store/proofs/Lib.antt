@@ -3,4 +3,5 @@ pub mod Lines
 pub mod Held
 pub mod Gathered
 pub mod Settled
+pub mod Touching
 pub mod Reading

@@ -1,5 +1,5 @@
 -- Lines of known changesets by their numbers.
-use Rattle.std.proofs.Common.{◌≡◌, ℕ, zero, suc, ◌<◌, Bool, true, false, ◌||◌, List, [], ◌∷◌, ◌++◌, map, length, reverse, refl, sym, ap, subst, ◌∙◌, arith, ⊎_elim, cond, append_assoc}
+use Rattle.std.proofs.Common.{◌≡◌, ℕ, zero, suc, ◌<◌, true, false, List, [], ◌∷◌, ◌++◌, map, length, reverse, refl, sym, ap, subst, ◌∙◌, arith, ⊎_elim, cond, append_assoc}
 use Rattle.std.specs.Prelude.{Option, Some, None, IfSome, is_some, bytes_eq, flat_map}
 use Rattle.std.specs.Option.{option_map_or, option_and_then, option_or}
 use mathlib.Core.Bool.{true≢false}
@@ -15,10 +15,10 @@ use Rattle.history_model.proofs.Chains.{first_of_all}
 use Rattle.reply_model.proofs.Lines.{AreOnce, known_once, line_grows}
 use Rattle.manifest_laws.proofs.Lists.{or_either}
 use Rattle.changeset_store.specs.Store.{number_in, parent_at, known_at, changeset_at}
-use Rattle.changeset_store.specs.Fork.{chain_at, IsAncestor}
-use Rattle.changeset_store.specs.Numbers.{AreApart, parents_among, known_of}
+use Rattle.changeset_store.specs.Fork.{IsAncestor}
+use Rattle.changeset_store.specs.Numbers.{AreApart, parents_among}
 use Rattle.changeset_store.proofs.Places.{known_at-changeset, known_at-append, changeset_at-append, id_at, number_in-push}
-use Rattle.changeset_store.proofs.Numbering.{known_reverse, is_numbered, at_older, at_newest}
+use Rattle.changeset_store.proofs.Numbering.{known_reverse, at_older, at_newest}
 use Rattle.changeset_store.proofs.Ancestors.{AreKnown}
 use Rattle.changeset_store.proofs.Forks.{is_its_number, has_its_id}
 use Rattle.changeset_store.proofs.Parents.{parents_at, number_is_some, number_below}

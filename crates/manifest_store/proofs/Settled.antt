@@ -1,12 +1,12 @@
 -- A table after a changeset is settled, and after more changesets become known.
-use Rattle.std.proofs.Common.{◌≡◌, ◌≢◌, ◌⊎◌, inl, inr, ◌↔◌, ℕ, ◌<◌, Bool, true, false, not, cond, ◌&&◌, ◌||◌, ◌==◌, List, [], ◌∷◌, ◌++◌, length, refl, sym, ap, subst, ◌∙◌, arith}
+use Rattle.std.proofs.Common.{◌≡◌, ◌⊎◌, inl, inr, ◌↔◌, ℕ, ◌<◌, Bool, true, false, not, ◌||◌, ◌==◌, List, [], ◌∷◌, ◌++◌, length, refl, sym, ap, subst, ◌∙◌, arith}
 use Rattle.std.specs.Prelude.{Option, Some, None, is_some, Contains, IfErr, OnOk, OnErr, Result, Ok, Err}
 use Rattle.std.specs.List.{AllByRecursion, list_any}
 use Rattle.std.specs.Option.{option_map_or}
 use Rattle.std.specs.Ordering.{nat_cmp, eq_by_cmp}
 use Rattle.std.specs.FinMap as map
 use mathlib.Core.Bool.{true≢false}
-use Rattle.std.proofs.lemmas.Bool.{and_parts, or_left, or_right, eqb-true, eq-eqb, ne_eqb, cond-true, cond-false, false_from_ne_true}
+use Rattle.std.proofs.lemmas.Bool.{and_parts, or_left, or_right, eqb-true, eq-eqb, cond-true, cond-false, false_from_ne_true}
 use Rattle.std.proofs.lemmas.List.Folds.{list_any-append}
 use Rattle.std.proofs.lemmas.List.{length-append}
 use Rattle.std.proofs.lemmas.Option.{same_Some}
@@ -15,11 +15,9 @@ use Rattle.std.proofs.lemmas.Cmp.{eq_by_cmp_equiv}
 use Rattle.std.specs.Cmp.Lexicographic.{slice_cmp}
 use Rattle.sha2.specs.Sha256.{sha256}
 use Rattle.byte_fields.specs.Bytes.{Id}
-use Rattle.history_model.specs.History.{Known, is_known}
-use Rattle.history_model.specs.Chain.{line}
-use Rattle.manifest_model.specs.Manifests.{manifests_on, nodes_in, nodes_of}
+use Rattle.history_model.specs.History.{Known}
+use Rattle.manifest_model.specs.Manifests.{manifests_on, nodes_in}
 use Rattle.manifest_laws.proofs.Lists.{or_either}
-use Rattle.node_table.specs.declared.roots.Roots.{Roots}
 use Rattle.node_table.specs.declared.fault.TableFault.{TableFault}
 use Rattle.node_table.specs.declared.fault.TableFault.TheVariants as faults
 use Rattle.node_table.specs.Faults.{OfTwo}
@@ -27,11 +25,11 @@ use Rattle.node_table.specs.Parts.{nodes_seen}
 use Rattle.node_table.specs.Table.{Nodes, Table, Has, IsAmong, is_settled, settled_with, with_nodes, empty_table}
 use Rattle.changeset_store.specs.Store.{known_at, parent_at}
 use Rattle.derive_step.specs.declared.done.Done.{Done}
-use Rattle.derive_step.specs.Jobs.{IsDoneOf, IsRight, roots_on, all_nodes_on}
-use Rattle.derive_step.proofs.Members.{Has as HasElement, contains_has, all_has}
+use Rattle.derive_step.specs.Jobs.{roots_on, all_nodes_on}
+use Rattle.derive_step.proofs.Members.{contains_has, all_has}
 use Rattle.manifest_store.specs.Lines.{line_at, IsStore}
-use Rattle.manifest_store.specs.Manifests.{AreRight, AreManifests, HoldsAll, IsNode, IsSettledNode, NodesCollide}
-use Rattle.manifest_store.specs.Jobs.{IsDoneOn, is_ready, settled_by}
+use Rattle.manifest_store.specs.Manifests.{AreRight, AreManifests, HoldsAll, IsNode, IsSettledNode}
+use Rattle.manifest_store.specs.Jobs.{IsDoneOn, is_ready}
 use Rattle.manifest_store.specs.Settling.{IsCollision}
 use Rattle.manifest_store.proofs.Lines.{known_here, line_step, line_stays, parent_stays}
 

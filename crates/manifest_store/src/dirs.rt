@@ -135,11 +135,7 @@ fn add_dir(
 }
 
 // What was gathered of a directory, or of the root.
-fn nodes_at<'a>(
-    root: &'a DirNodes,
-    dirs: &'a Dirs,
-    dir: Option<&RepoPath>,
-) -> Option<&'a DirNodes>
+fn nodes_at<'a>(root: &'a DirNodes, dirs: &'a Dirs, dir: Option<&RepoPath>) -> Option<&'a DirNodes>
     ensures { before_of result ≡ found (before_seen root.now) dirs.now (dir_of dir.entry) }
 {
     match dir {

@@ -22,12 +22,7 @@ use unode::UnodeEntry;
 pub(crate) trait Tree {
     ghost look: { Self → IdBytes → List ℕ → Option ModelEntry };
 
-    fn entry(
-        &self,
-        alloc: Global,
-        dir: &Id,
-        name: &str,
-    ) -> Result<Option<UnodeEntry>, AllocError>
+    fn entry(&self, alloc: Global, dir: &Id, name: &str) -> Result<Option<UnodeEntry>, AllocError>
         ensures { IfOk result (λ entry. option_map entry_seen entry ≡ look self.now dir.now name.now) };
 }
 
@@ -46,12 +41,7 @@ pub(crate) struct Unodes<'a> {
 impl<'a> Tree for Fsnodes<'a> {
     ghost look = { λ t x n. fs_entry_under t.table.now.nodes x n };
 
-    fn entry(
-        &self,
-        alloc: Global,
-        dir: &Id,
-        name: &str,
-    ) -> Result<Option<UnodeEntry>, AllocError> {
+    fn entry(&self, alloc: Global, dir: &Id, name: &str) -> Result<Option<UnodeEntry>, AllocError> {
         let Some(node) = fsnode_under(alloc, self.table, dir)? else {
             return Ok(None);
         };
@@ -65,12 +55,7 @@ impl<'a> Tree for Fsnodes<'a> {
 impl<'a> Tree for Unodes<'a> {
     ghost look = { λ t x n. unode_entry_under t.table.now.nodes x n };
 
-    fn entry(
-        &self,
-        alloc: Global,
-        dir: &Id,
-        name: &str,
-    ) -> Result<Option<UnodeEntry>, AllocError> {
+    fn entry(&self, alloc: Global, dir: &Id, name: &str) -> Result<Option<UnodeEntry>, AllocError> {
         let Some(node) = manifest_under(alloc, self.table, dir)? else {
             return Ok(None);
         };

@@ -8,35 +8,45 @@ use Rattle.fsnode.specs.Parts.{entry_seen}
 use Rattle.entry_laws.specs.Entries.{edited, renewed, fs_set, is_fs_file}
 use Rattle.derive_step.specs.Places.{dir_of}
 use Rattle.derive_step.specs.Steps.{fs_in, fs_made_in}
-use Rattle.derive_step.proofs.Edits.{outside_edit, put_here, put_under}
+use Rattle.derive_step.proofs.Edits.{outside_edit, put_here, put_under, child_on}
 use Rattle.derive_step.proofs.fsnodes.put_edit.Goals as goal
 
-pub returns-in-Outside : goal.returns-in-Outside
-returns-in-Outside c = λ n. outside_edit (λ _. fs_set) is_fs_file (fs_made_in c.args.made.now) (dir_of c.args.dir) c.args.edit.now.path n (change_view c.args.edit.now.change) (fs_in c.args.entries.now n) c.in-Outside.ensures
+pub returns-in-Outside-clause-entries : goal.returns-in-Outside-clause-entries
+returns-in-Outside-clause-entries c = λ n. outside_edit (λ _. fs_set) is_fs_file (fs_made_in c.args.made.now) (dir_of c.args.dir) c.args.edit.now.path n (change_view c.args.edit.now.change) (fs_in c.args.entries.now n) c.in-Outside.ensures
 
-pub returns-in_ok-key-in-Here : goal.returns-in_ok-key-in-Here
-returns-in_ok-key-in-Here c =
+pub returns-in_ok-put-in-Here-clause-entries : goal.returns-in_ok-put-in-Here-clause-entries
+returns-in_ok-put-in-Here-clause-entries c =
     let key = c.in_ok-key-in-Here.key in
     let d = dir_of c.args.dir in
     let change = change_view c.args.edit.now.change in
-    put_here (λ _. fs_set) is_fs_file c.put.result (fs_in c.put.new.entries) (fs_in c.args.entries.now) d c.args.edit.now.path key change (option_map entry_seen c.edited-entry.result) (fs_made_in c.args.made.now) c.put.ensures
+    put_here (λ _. fs_set) is_fs_file (fs_in c.put.new.entries) (fs_in c.args.entries.now) d c.args.edit.now.path key change (option_map entry_seen c.edited-entry.result) (fs_made_in c.args.made.now) c.in_ok-put-in-Here.ensures
     (c.in-Here.ensures.0 ∙ ap (λ x. d ++ x ∷ []) (sym (c.in_ok-key-in-Here.ensures ∙ c.as_bytes.ensures.value)))
     (λ x. c.edited-entry.ensures x ∙ ap (λ o. edited fs_set x is_fs_file change (option_map entry_seen o)) (c.copied.ensures ∙ c.get.ensures.value))
 
 pub dir_before-requires : goal.dir_before-requires
 dir_before-requires c = (dir_of c.args.dir ++ c.in-Under.name.now ∷ [], omega (arith, length_push (dir_of c.args.dir) c.in-Under.name.now), c.in-Under.ensures.0 ∙ sym (append_assoc (dir_of c.args.dir) (c.in-Under.name.now ∷ []) (elements c.in-Under.rest.now)))
 
-pub returns-in_ok-child-in-Under : goal.returns-in_ok-child-in-Under
-returns-in_ok-child-in-Under c =
+pub returns-in_ok-put-in-Under-clause-entries : goal.returns-in_ok-put-in-Under-clause-entries
+returns-in_ok-put-in-Under-clause-entries c =
     let key = c.in_ok-key-in-Under.key in
     let d = dir_of c.args.dir in
     let name = c.in-Under.name.now in
     let same = c.in_ok-key-in-Under.ensures ∙ c.as_bytes-in-Under.ensures.value in
     let made = fs_made_in c.args.made.now in
     let child = c.in_ok-child-in-Under.ensures (d ++ name ∷ []) (c.in-Under.ensures.0 ∙ sym (append_assoc d (name ∷ []) (elements c.in-Under.rest.now))) in
-    put_under (λ _. fs_set) is_fs_file c.put-in-Under.result (fs_in c.put-in-Under.new.entries) (fs_in c.args.entries.now) d c.args.edit.now.path key (elements c.in-Under.rest.now) (change_view c.args.edit.now.change) (option_map entry_seen c.renewed-entry.result) made c.put-in-Under.ensures
+    put_under (λ _. fs_set) is_fs_file (fs_in c.put-in-Under.new.entries) (fs_in c.args.entries.now) d c.args.edit.now.path key (elements c.in-Under.rest.now) (change_view c.args.edit.now.change) (option_map entry_seen c.renewed-entry.result) made c.in_ok-put-in-Under.ensures
     (some_elements c.in-Under.rest.now)
     (c.in-Under.ensures.0 ∙ ap (λ x. d ++ x ∷ elements c.in-Under.rest.now) (sym same))
     (c.renewed-entry.ensures
     ∙ ap (λ o. renewed fs_set o is_fs_file (option_map entry_seen c.copied-in-Under.result)) (c.entry_made-there.ensures ∙ ap made (child ∙ ap (λ x. d ++ x ∷ []) (sym same)))
     ∙ ap (λ o. renewed fs_set (made (d ++ key ∷ [])) is_fs_file (option_map entry_seen o)) (c.copied-in-Under.ensures ∙ c.get-in-Under.ensures.value))
+
+pub returns-in_ok-put-in-Under-clause-child : goal.returns-in_ok-put-in-Under-clause-child
+returns-in_ok-put-in-Under-clause-child c =
+    let d = dir_of c.args.dir in
+    let name = c.in-Under.name.now in
+    let rest = elements c.in-Under.rest.now in
+    let parts = c.in-Under.ensures.0 ∙ sym (append_assoc d (name ∷ []) rest) in
+    let child = c.in_ok-child-in-Under.child in
+    let is = c.in_ok-child-in-Under.ensures (d ++ name ∷ []) parts in
+    child_on child d c.args.edit.now.path rest name is (parts ∙ ap (λ x. x ++ rest) (sym is)) (some_elements c.in-Under.rest.now)

@@ -1,6 +1,7 @@
-use Rattle.std.proofs.Common.{sym}
+use Rattle.std.proofs.Common.{sym, ap, ◌∙◌}
 use mathlib.Core.Bool.{true≢false}
 use Rattle.node_table.specs.Parts.{nodes_seen}
+use Rattle.derive_step.specs.Covering.{paths_seen, paths_set}
 use Rattle.derive_step.proofs.Gone.{under_last, one_less, all_gone, renewed_there, none_left}
 use Rattle.derive_step.proofs.renewal.renew_dirs.Goals as goal
 
@@ -14,7 +15,8 @@ loop-dir-preserved c = λ k older of touched new.
     let d = c.in-Some.dir in
     let gone = c.loop-dir.invariant k older of touched new in
     let has = c.in-Some.ensures.member in
-    let renewed = c.in_ok-renew_dir.ensures k older of (renewed_there k older dirs touched had d (gone.within d has)) (under_last k older dirs touched had left made put gone d c.in-Some.ensures.greatest) (gone.fresh d has) in
+    let are_set = ap paths_seen c.deref-in-Some.ensures.value ∙ c.in_ok-sets.ensures ∙ ap paths_set (c.edits.ensures.edits ∙ ap (λ x. x.changes) (c.changeset.ensures ∙ c.deref.ensures ∙ of.changeset)) in
+    let renewed = c.in_ok-renew_dir.ensures k older of are_set (renewed_there k older dirs touched had d (gone.within d has)) (under_last k older dirs touched had left made put gone d c.in-Some.ensures.greatest) (gone.fresh d has) in
     one_less k older dirs touched had left made put gone d c.pop_last.new.self c.renew_dir.new.made (nodes_seen c.renew_dir.new.nodes.items) has c.in-Some.ensures.removal c.in-Some.ensures.updates renewed
 
 pub returns : goal.returns

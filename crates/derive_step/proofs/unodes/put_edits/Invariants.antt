@@ -1,4 +1,4 @@
-use Rattle.std.proofs.Common.{◌≡◌, ◌++◌, ℕ, List, drop}
+use Rattle.std.proofs.Common.{◌≡◌, ◌++◌, ℕ, List, length}
 use Rattle.bonsai.specs.View.{edits_view}
 use Rattle.node_table.specs.Parts.{nodes_seen}
 use Rattle.derive_step.specs.Places.{dir_of}
@@ -6,8 +6,11 @@ use Rattle.derive_step.specs.Steps.{unode_in, unode_after, set_nodes}
 use Rattle.derive_step.proofs.unodes.put_edits.Given as goal
 
 -- what the edits that are left make of what is there, and the nodes with those that they put to them
-abbrev pub invariant-loop-edit : goal.invariant-loop-edit
-invariant-loop-edit l = record {
-  entries : (n : List ℕ) → unode_after l.link l.made (dir_of l.dir) (edits_view (drop l.edit-index l.edits)) (unode_in l.entries) n ≡ unode_after l.link l.made (dir_of l.dir) (edits_view l.edits) (unode_in l.fn.entries) n;
-  nodes : nodes_seen l.nodes.items ++ set_nodes l.link l.made (dir_of l.dir) (edits_view (drop l.edit-index l.edits)) (unode_in l.entries) ≡ nodes_seen l.fn.nodes.items ++ set_nodes l.link l.made (dir_of l.dir) (edits_view l.edits) (unode_in l.fn.entries);
+abbrev pub invariant-putting : goal.invariant-putting
+invariant-putting l = record {
+  entries : (n : List ℕ) → unode_after l.link l.made (dir_of l.dir) (edits_view l.left) (unode_in l.entries) n ≡ unode_after l.link l.made (dir_of l.dir) (edits_view l.edits) (unode_in l.fn.entries) n;
+  nodes : nodes_seen l.nodes.items ++ set_nodes l.link l.made (dir_of l.dir) (edits_view l.left) (unode_in l.entries) ≡ nodes_seen l.fn.nodes.items ++ set_nodes l.link l.made (dir_of l.dir) (edits_view l.edits) (unode_in l.fn.entries);
 }
+
+abbrev pub decreases-putting : goal.decreases-putting
+decreases-putting l = length l.left

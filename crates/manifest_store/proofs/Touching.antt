@@ -1,0 +1,156 @@
+-- The directories above edits, as the edits are gone through; and what a job has of its parent.
+use Rattle.std.proofs.Common.{◌≡◌, ◌⊎◌, inl, inr, ℕ, suc, ◌<◌, ◌≤◌, ◌+◌, Bool, true, false, not, cond, ◌&&◌, ◌||◌, ◌==◌, List, [], ◌∷◌, ◌++◌, length, drop, drop-cons, get_or, refl, sym, ap, subst, ◌∙◌, arith, Bor}
+use Rattle.std.specs.Prelude.{Option, Some, None, is_some, MatchOption, IfSome, nat_lt}
+use Rattle.std.specs.List.{list_any}
+use Rattle.std.specs.Option.{option_and_then, option_map_or, option_copied}
+use Rattle.std.specs.FinMap as map
+use Rattle.std.specs.Arc.{arc_value}
+use mathlib.Core.Bool.{true≢false}
+use Rattle.std.proofs.lemmas.Bool.{and_parts, ne_eqb, ltb-true}
+use Rattle.std.proofs.lemmas.List.{drop_all}
+use Rattle.changeset_model.specs.Path.{Path, is_prefix, is_strict_prefix}
+use Rattle.changeset_model.specs.Changeset.{FileChange}
+use Rattle.bonsai.specs.declared.edit.Edit.{Edit}
+use Rattle.bonsai.specs.View.{edits_view}
+use Rattle.history_model.specs.History.{Known}
+use Rattle.manifest_model.specs.Unode.{is_renewed}
+use Rattle.manifest_laws.proofs.Lists.{or_either, same_some}
+use Rattle.node_table.specs.Table.{Nodes, Table, is_settled}
+use Rattle.node_table.specs.declared.roots.Roots.{Roots}
+use Rattle.changeset_store.specs.Store.{known_at, changeset_at, parent_at}
+use Rattle.changeset_store.proofs.Places.{known_at-changeset}
+use Rattle.derive_step.specs.declared.job.Parent.{Parent}
+use Rattle.derive_step.specs.declared.job.Job.{Job}
+use Rattle.derive_step.specs.Touched.{is_above}
+use Rattle.derive_step.specs.Views.{Before, before_seen, nodes_before, roots_before}
+use Rattle.derive_step.specs.Jobs.{IsRight, IsJobOf, nodes_on, roots_on}
+use Rattle.manifest_store.specs.Lines.{line_at}
+use Rattle.manifest_store.specs.Manifests.{AreManifests, HoldsAll}
+use Rattle.manifest_store.specs.Nodes.{dir_under, dir_from}
+use Rattle.manifest_store.specs.Dirs.{IsFull, IsMore}
+use Rattle.manifest_store.specs.Parents.{root_in, IsParentIn, IsParentOf}
+use Rattle.manifest_store.specs.Jobs.{IsJobOn, is_ready}
+use Rattle.manifest_store.proofs.Lines.{line_step, own_id}
+use Rattle.manifest_store.proofs.Held.{root_there, dirs_are, both}
+use Rattle.manifest_store.proofs.Gathered.{Dirs, prefix_snoc}
+
+-- ---- edit by edit
+
+abbrev pub any_above : Path → List Edit → Bool
+any_above d es = list_any (λ e. is_above d e.0) (edits_view es)
+
+-- each directory above an edit is there, or an edit that is left lies under it
+abbrev pub GoneThrough : Nodes → Before → Dirs → List Edit → ℕ → Type 0
+GoneThrough m b dirs es i = (d : Path) → any_above d es ≡ true → IsFull m b dirs d ⊎ (any_above d (drop i es) ≡ true)
+
+pub next_edit : (m : Nodes) (b : Before) (before after : Dirs) (es : List Edit) (i : ℕ) (x : Edit) → i < length es → x ≡ get_or es i x → GoneThrough m b before es i → IsMore m b before after → ((d : Path) → is_above d x.path ≡ true → IsFull m b after d) → GoneThrough m b after es (i + 1)
+next_edit m b before after es i x less is gone more here d h = by (gone d h)
+  where
+    next : drop i es ≡ x ∷ drop (i + 1) es
+    next = drop-cons es i x less ∙ (λ k. sym is k ∷ drop (sym (one i) k) es)
+      where
+        one : (i : ℕ) → i + 1 ≡ suc i
+        one i = omega arith
+
+    by : IsFull m b before d ⊎ (any_above d (drop i es) ≡ true) → IsFull m b after d ⊎ (any_above d (drop (i + 1) es) ≡ true)
+    by (inl full) = inl (more d full)
+    by (inr left) = or_either (is_above d x.path) (any_above d (drop (i + 1) es)) (λ e. inl (here d e)) (λ e. inr e) (sym (ap (any_above d) next) ∙ left)
+
+pub all_gone : (m : Nodes) (b : Before) (dirs : Dirs) (es : List Edit) (i : ℕ) → length es ≤ i → GoneThrough m b dirs es i → (d : Path) → any_above d es ≡ true → IsFull m b dirs d
+all_gone m b dirs es i most gone d h = by (gone d h)
+  where
+    by : IsFull m b dirs d ⊎ (any_above d (drop i es) ≡ true) → IsFull m b dirs d
+    by (inl full) = full
+    by (inr left) = absurd (true≢false (sym left ∙ ap (any_above d) (drop_all i es most)))
+
+pub last_full : (P : List ℕ → Type 0) (o : Option (Bor (List ℕ))) (t : List ℕ) → option_copied o ≡ Some t → IfSome o (λ x. P x.now) → P t
+last_full P None t e h = absurd cc
+last_full P (Some x) t e h = subst P (same_some x.now t e) h
+
+-- a directory above a path is at or above the one that the path lies in
+pub above_is : (d p a : Path) (n : List ℕ) → p ≡ a ++ n ∷ [] → is_above d p ≡ true → is_prefix d a ≡ true
+above_is d p a n is h = by (prefix_snoc d a n (ap (is_prefix d) (sym is) ∙ inside.0))
+  where
+    inside : (is_prefix d p ≡ true) × (nat_lt (length d) (length p) ≡ true)
+    inside = and_parts (is_prefix d p) (nat_lt (length d) (length p)) (and_parts (not (length d == 0)) (is_strict_prefix d p) h).1
+
+    by : (is_prefix d a ≡ true) ⊎ (d ≡ a ++ n ∷ []) → is_prefix d a ≡ true
+    by (inl g) = g
+    by (inr e) = absurd (let less = ltb-true (length d) (length p) inside.1 in let same = ap length e in let long = ap length is in omega arith)
+
+pub no_dir_above : {P : Type 0} (d p : Path) (n : List ℕ) → p ≡ n ∷ [] → is_above d p ≡ true → P
+no_dir_above d p n is h =
+    let parts = and_parts (not (length d == 0)) (is_strict_prefix d p) h in
+    let less = ltb-true (length d) (length p) (and_parts (is_prefix d p) (nat_lt (length d) (length p)) parts.1).1 in
+    let one = ap length is in
+    some (length d) parts.0 (omega arith)
+  where
+    some : {P : Type 0} (k : ℕ) → not (k == 0) ≡ true → k ≡ 0 → P
+    some k h e = absurd (true≢false (sym h ∙ ap (λ k. not (k == 0)) e))
+
+-- ---- a parent
+
+pub parent_is : (t : Table) (n : ℕ) (es : List (Path × FileChange)) (p : Parent) (r : Roots) → Some r ≡ map.get t.roots n → dir_under t.nodes r ≡ Some (before_seen p.root) → p.roots ≡ r
+    → ((d : Path) → list_any (λ e. is_above d e.0) es ≡ true → IsFull t.nodes (before_seen p.root) p.dirs d) → IsParentIn t n es (Some p)
+parent_is t n es p r at under same full = record {
+  roots = ap Some same ∙ at ∙ sym (ap (λ o. cond (is_some o) (map.get t.roots n) None) root);
+  nodes = λ d h. nodes d h;
+}
+  where
+    root : root_in t n ≡ Some (before_seen p.root)
+    root = ap (option_and_then (dir_under t.nodes)) (sym at) ∙ under
+
+    nodes : (d : Path) → ((length d == 0) || list_any (λ e. is_strict_prefix d e.0) es) ≡ true → nodes_before (Some p) d ≡ option_and_then (λ b. dir_from t.nodes b d) (root_in t n)
+    nodes [] h = sym (ap (option_and_then (λ b. dir_from t.nodes b [])) root)
+    nodes (x ∷ d) h =
+        let deep : (length (x ∷ d) == 0) ≡ false = ne_eqb (length (x ∷ d)) 0 (λ e. omega arith) in
+        full (x ∷ d) ((λ i. list_any (λ e. not (deep i) && is_strict_prefix (x ∷ d) e.0) es) ∙ sym (ap (λ b. b || list_any (λ e. is_strict_prefix (x ∷ d) e.0) es) deep) ∙ h)
+        ∙ sym (ap (option_and_then (λ b. dir_from t.nodes b (x ∷ d))) root)
+
+pub no_parent : (t : Table) (n : ℕ) (es : List (Path × FileChange)) → root_in t n ≡ None → IsParentIn t n es None
+no_parent t n es none = record {
+  roots = sym (ap (λ o. cond (is_some o) (map.get t.roots n) None) none);
+  nodes = λ d h. sym (ap (option_and_then (λ b. dir_from t.nodes b d)) none);
+}
+
+-- ---- a job
+
+record Shows (m : Nodes) (l : List Known) (o : Option Roots) : Type 0 where
+  roots : cond (is_some (option_and_then (dir_under m) o)) o None ≡ roots_on l
+  nodes : (d : Path) → option_and_then (λ b. dir_from m b d) (option_and_then (dir_under m) o) ≡ nodes_on l d
+
+shown : (m : Nodes) (l : List Known) → IsRight l → HoldsAll m l → (o : Option Roots) → o ≡ roots_on l → Shows m l o
+shown m [] right held o e = subst (Shows m []) (sym e) (record { roots = refl; nodes = λ d. refl })
+shown m (c ∷ older) right held o e =
+    let there = root_there m c older right held in
+    subst (Shows m (c ∷ older)) (sym e) (record {
+      roots = ap (λ x. cond (is_some x) (Some (both m c older right held [])) None) there;
+      nodes = λ d. ap (option_and_then (λ b. dir_from m b d)) there ∙ dirs_are m c older right held d [] refl;
+    })
+
+module _ (ks : List Known) (t : Table) (a : AreManifests ks t) (n : ℕ) (less : n < length ks) (ready : is_ready ks t n ≡ true) (job : Job) (commit : arc_value job.commit ≡ changeset_at ks n) (parent : IsParentOf ks t n (changeset_at ks n).changes job.parent) where
+  abbrev k : Known
+  k = known_at ks n
+
+  job_by : (o : Option ℕ) → parent_at ks n ≡ o → option_map_or (is_settled t) o true ≡ true → MatchOption o (job.parent ≡ None) (λ p. IsParentIn t p (changeset_at ks n).changes job.parent) → IsJobOf k (option_map_or (line_at ks) o []) job
+  job_by None e settled none = record {
+    right = subst IsRight (line_step ks a.store n less ∙ ap (λ o. k ∷ option_map_or (line_at ks) o []) e) (a.right n less);
+    changeset = commit ∙ sym (known_at-changeset ks n);
+    id = own_id ks a.store n less;
+    roots = ap roots_before none;
+    nodes = λ d h. ap (λ p. nodes_before p d) none;
+  }
+  job_by (Some p) e settled has =
+      let shows = shown t.nodes (line_at ks p) (a.right p (a.numbered p settled)) (a.held p settled) (map.get t.roots p) (a.roots p settled) in
+      record {
+        right = subst IsRight (line_step ks a.store n less ∙ ap (λ o. k ∷ option_map_or (line_at ks) o []) e) (a.right n less);
+        changeset = commit ∙ sym (known_at-changeset ks n);
+        id = own_id ks a.store n less;
+        roots = has.roots ∙ shows.roots;
+        nodes = λ d h. has.nodes d (ap (λ c. is_renewed c d) (sym (known_at-changeset ks n)) ∙ h) ∙ shows.nodes d;
+      }
+
+  pub job_is : IsJobOn (line_at ks n) job
+  job_is =
+      let P : List Known → Type 0 = λ l. IsJobOn l job in
+      subst P (sym (line_step ks a.store n less)) (job_by (parent_at ks n) refl (and_parts (not (is_settled t n)) (option_map_or (is_settled t) (parent_at ks n) true) ready).1 parent)
