@@ -1,16 +1,12 @@
 -- Changes that are made ready where no machine is at hand.
 --     IsRefusedAs ask e      it is refused so at each history at which no disk has failed
 --     IsReadyContent bytes id frame, IsReadyChangeset c frame      an upload that may be judged, with its record
---     IsReadyTo ask ready      what is ready is so for the change
---     coded_ask      a change as sums and pairs
-use Rattle.std.specs.Prelude.{◌≡◌, ◌≤◌, ◌⊎◌, ℕ, true, false, List, length, Option, Some, Ok, Err, refl}
-use mathlib.Core.Logic.{inl, inr}
+--     IsReadyTo ask ready, IsPreparedFor ask p      this is ready of the change
+use Rattle.std.specs.Prelude.{◌≡◌, ◌≤◌, ℕ, true, false, List, length, Some, Ok, Err}
 use Rattle.std.specs.Arc.{arc_value}
-use Rattle.std.specs.Coded.{Coded, code_by, coded_ℕ, coded_list, coded_option, coded×, coded⊎}
 use Rattle.sha2.specs.Sha256.{sha256}
 use Rattle.byte_fields.specs.Bytes.{Id, are_bytes}
 use Rattle.changeset_model.specs.Changeset.{Changeset, spelling, most_content}
-use Rattle.changeset_model.specs.Codes.{coded_id}
 use Rattle.changeset_model.specs.Decoding.{decoded}
 use Rattle.history_model.specs.History.{Content, Change, Entry, is_down}
 use Rattle.history_model.specs.Journal.{Header}
@@ -19,6 +15,7 @@ use Rattle.reply_model.specs.Reply.{Ask, judge}
 use Rattle.reply_model.specs.After.{Refuses}
 use Rattle.repo_calls.specs.Calls.{refused}
 use Rattle.repo_calls.specs.declared.refusal.Refusal as refusals
+use Rattle.repo_machine.specs.declared.prepared.Prepared.{Prepared}
 use Rattle.repo_machine.specs.declared.prepared.Ready.{Ready}
 use Rattle.repo_machine.specs.declared.prepared.Ready.TheVariants as ready
 use Rattle.repo_machine.specs.Judged.{Frames}
@@ -62,30 +59,5 @@ IsReadyTo ask (ready.Content id frame) = IsContentOf ask id frame.items
 IsReadyTo ask (ready.Changeset framed) = IsChangesetOf ask (arc_value framed.commit) framed.frame.items
 IsReadyTo ask ready.Asked = IsNoUpload ask
 
--- ---- as sums and pairs
-
-abbrev pub AskParts : Type 0
-AskParts = (List ℕ ⊎ List ℕ) ⊎ ((List ℕ × (Option Id × Option Id)) ⊎ (List ℕ × Id))
-
-abbrev pub parts_of : Ask → AskParts
-parts_of (reply.PutContent bytes) = inl (inl bytes)
-parts_of (reply.PutChangeset bytes) = inl (inr bytes)
-parts_of (reply.SetBookmark name from to) = inr (inl (name, (from, to)))
-parts_of (reply.LandDraft name draft) = inr (inr (name, draft))
-
-abbrev pub of_parts : AskParts → Ask
-of_parts (inl (inl bytes)) = reply.PutContent bytes
-of_parts (inl (inr bytes)) = reply.PutChangeset bytes
-of_parts (inr (inl t)) = reply.SetBookmark t.0 t.1.0 t.1.1
-of_parts (inr (inr t)) = reply.LandDraft t.0 t.1
-
-pub of_parts-parts_of : (ask : Ask) → of_parts (parts_of ask) ≡ ask
-of_parts-parts_of (reply.PutContent bytes) = refl
-of_parts-parts_of (reply.PutChangeset bytes) = refl
-of_parts-parts_of (reply.SetBookmark name from to) = refl
-of_parts-parts_of (reply.LandDraft name draft) = refl
-
-abbrev pub coded_ask : Coded Ask
-coded_ask =
-    code_by AskParts (coded⊎ (coded⊎ (coded_list coded_ℕ) (coded_list coded_ℕ)) (coded⊎ (coded× (coded_list coded_ℕ) (coded× (coded_option coded_id) (coded_option coded_id))) (coded× (coded_list coded_ℕ) coded_id))) parts_of of_parts
-    of_parts-parts_of
+abbrev pub IsPreparedFor : Ask → Prepared → Type 0
+IsPreparedFor ask p = IsReadyTo ask p.ready

@@ -12,7 +12,7 @@ ghost use Rattle.repo_machine.specs.Entering.{Judges};
 ghost use Rattle.repo_machine.specs.Faults.{fault_refusal};
 ghost use Rattle.repo_machine.specs.Judged.{Frames};
 ghost use Rattle.repo_machine.specs.Landings.{IsRefusal};
-ghost use Rattle.repo_machine.specs.Prepared.{IsReadyChangeset, IsReadyTo};
+ghost use Rattle.repo_machine.specs.Prepared.{IsPreparedFor, IsReadyChangeset, IsReadyTo};
 
 use crate::judged::Judged;
 use crate::machine::Machine;
@@ -21,7 +21,6 @@ use object_id::Id;
 use repo_calls::{Ask, Refusal};
 use repo_events::{Body, encode_entry, frame_payload};
 use std::alloc::{AllocError, Global};
-use std::marker::Model;
 use std::sync::Arc;
 
 /// A changeset with the record that would store it.
@@ -43,43 +42,30 @@ pub(crate) enum Ready {
     Asked,
 }
 
-/// A change that was made ready: an upload is hashed, decoded and put into its record, or it is known to be refused, so
-/// that a machine judges it without that work. Contracts see the change that was asked for.
+/// What is ready of a change: an upload is hashed, decoded and put into its record, or it is known to be refused, so that a
+/// machine judges it without that work.
 #[derive(Drop)]
-pub struct Prepared<'a> {
-    pub(crate) ask: &'a Ask<'a>,
+pub struct Prepared {
     pub(crate) ready: Ready,
 }
 
-impl<'a> Model for Prepared<'a> {
-    ghost use Rattle.reply_model.specs.Reply.{Ask};
-    ghost use Rattle.repo_calls.specs.Calls.{ask_seen};
-    ghost use Rattle.repo_machine.specs.Prepared.{coded_ask, IsReadyTo};
-
-    ghost Value = { Ask };
-
-    ghost coded = { coded_ask };
-
-    ghost view = { λ p. ask_seen p.ask.now };
-
-    ghost invariant = { λ p. IsReadyTo (ask_seen p.ask.now) p.ready };
-}
-
 impl Machine {
-    /// Judges a change that was made ready, as `judge` does the change itself. No upload is hashed, decoded or encoded here.
+    /// Judges a change of which this is ready, as `judge` does. No upload is hashed, decoded or encoded here.
     pub fn judge_prepared(
         &mut self,
         alloc: Global,
         who: u64,
+        ask: &Ask,
         prepared: Prepared,
     ) -> Result<Judged, Refusal>
-        ensures ok { IfOk result (Judges self.old.header self.old.history self.new.room who prepared.entry) }
-        ensures err { IfErr result (IsRefusal (judge self.old.header self.old.history prepared.entry)) }
+        requires prepared { IsPreparedFor (ask_seen ask.now) prepared }
+        ensures ok { IfOk result (Judges self.old.header self.old.history self.new.room who (ask_seen ask.now)) }
+        ensures err { IfErr result (IsRefusal (judge self.old.header self.old.history (ask_seen ask.now))) }
         ensures header { self.new.header ≡ self.old.header }
         ensures history { self.new.history ≡ self.old.history }
         ensures legal { IsLegal self.old.header self.old.history }
     {
-        let Prepared { ask, ready } = prepared;
+        let Prepared { ready } = prepared;
         match *ask {
             Ask::PutContent(bytes) => match ready {
                 Ready::Refused(refusal) => self.refuse(refusal),
@@ -98,21 +84,15 @@ impl Machine {
 }
 
 /// Makes a change ready: all of its work that needs no machine. A content's bytes are copied once, into its record.
-pub fn prepare<'a>(alloc: Global, ask: &'a Ask<'a>) -> Result<Prepared<'a>, AllocError>
-    ensures { IfOk result (λ prepared. prepared ≡ ask_seen ask.now) }
+pub fn prepare(alloc: Global, ask: &Ask) -> Result<Prepared, AllocError>
+    ensures { IfOk result (IsPreparedFor (ask_seen ask.now)) }
 {
-    let ready = ready_for(alloc, ask)?;
-    Ok(Prepared { ask, ready })
-}
-
-fn ready_for(alloc: Global, ask: &Ask) -> Result<Ready, AllocError>
-    ensures { IfOk result (IsReadyTo (ask_seen ask.now)) }
-{
-    match *ask {
-        Ask::PutContent(bytes) => ready_content(alloc, bytes),
-        Ask::PutChangeset(bytes) => ready_changeset(alloc, bytes),
-        Ask::SetBookmark { .. } | Ask::Land { .. } => Ok(Ready::Asked),
-    }
+    let ready = match *ask {
+        Ask::PutContent(bytes) => ready_content(alloc, bytes)?,
+        Ask::PutChangeset(bytes) => ready_changeset(alloc, bytes)?,
+        Ask::SetBookmark { .. } | Ask::Land { .. } => Ready::Asked,
+    };
+    Ok(Prepared { ready })
 }
 
 fn ready_content(alloc: Global, bytes: &[u8]) -> Result<Ready, AllocError>

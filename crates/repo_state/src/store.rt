@@ -5,6 +5,7 @@ ghost use Rattle.disk_model.specs.Calls.{Kept};
 ghost use Rattle.reply_model.specs.After.{Asks, Replies};
 ghost use Rattle.repo_calls.specs.Calls.{ask_seen, granted_seen};
 ghost use Rattle.seat_calls.specs.Asking.{stored_answer, is_disk_fault};
+ghost use Rattle.repo_machine.specs.Prepared.{IsPreparedFor};
 ghost use Rattle.repo_state.specs.Cores.{Stores};
 ghost use Rattle.repo_state.specs.Images.{LeavesChange};
 ghost use Rattle.repo_state.specs.State.{IsSound};
@@ -47,19 +48,21 @@ impl<D: Disk> RepoState<D> {
         // It keeps its rules.
         let _ = &self.disk;
         match prepare(alloc, ask) {
-            Ok(prepared) => self.store_prepared(alloc, who, prepared),
+            Ok(prepared) => self.store_prepared(alloc, who, ask, prepared),
             Err(_) => Err(ChangeFault::Refused(Refusal::Memory)),
         }
     }
 
-    /// Makes a change that was made ready, as `store` does the change itself. No upload is hashed, decoded or encoded here.
+    /// Makes a change of which this is ready, as `store` does. No upload is hashed, decoded or encoded here.
     pub fn store_prepared(
         &mut self,
         alloc: Global,
         who: u64,
+        ask: &Ask,
         prepared: Prepared,
     ) -> Result<Granted, ChangeFault>
-        ensures reply { Replies self.old.header self.old.history who (Asks prepared.entry) (stored_answer result) self.new.history }
+        requires prepared { IsPreparedFor (ask_seen ask.now) prepared }
+        ensures reply { Replies self.old.header self.old.history who (Asks (ask_seen ask.now)) (stored_answer result) self.new.history }
         ensures header { self.new.header ≡ self.old.header }
         ensures opening { self.new.opening ≡ self.old.opening }
         ensures sound { IsSound self.new.opening self.new.history self.new.disk }
@@ -76,12 +79,12 @@ impl<D: Disk> RepoState<D> {
 
         // Where a stack lands, the new head's tree has what it sets, and else what the old head's has, in which no path that
         // the stack touches was changed since the root.
-        ensures lands { IfOk result (λ granted. LandsAs prepared.entry (granted_seen granted) self.old.history self.new.history) }
+        ensures lands { IfOk result (λ granted. LandsAs (ask_seen ask.now) (granted_seen granted) self.old.history self.new.history) }
 
         // It is these steps of the repository of many seats.
-        ensures core { Stores self.old.header self.old.history who prepared.entry (stored_answer result) self.new.history }
+        ensures core { Stores self.old.header self.old.history who (ask_seen ask.now) (stored_answer result) self.new.history }
     {
-        let judged = match self.machine.judge_prepared(alloc, who, prepared) {
+        let judged = match self.machine.judge_prepared(alloc, who, ask, prepared) {
             Ok(judged) => judged,
             Err(refusal) => return Err(ChangeFault::Refused(refusal)),
         };

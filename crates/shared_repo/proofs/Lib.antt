@@ -1,3 +1,4 @@
+pub mod Answering
 pub mod Cleared
 pub mod Fronts
 pub mod Landings

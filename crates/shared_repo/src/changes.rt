@@ -6,6 +6,7 @@ ghost use Rattle.bookmark_lock.specs.Turns.{IsTurn};
 ghost use Rattle.reply_model.specs.Reply.{PutContent, PutChangeset, SetBookmark};
 ghost use Rattle.reply_model.specs.After.{After, Asks, Replies};
 ghost use Rattle.repo_calls.specs.Calls.{ask_seen};
+ghost use Rattle.repo_machine.specs.Prepared.{IsPreparedFor};
 ghost use Rattle.seat_calls.specs.Asking.{stored_answer};
 ghost use Rattle.shared_repo.specs.Front.{IsFront, history_of, opening_of};
 
@@ -16,7 +17,7 @@ use blob_disk::Disk;
 use object_id::Id;
 use ports::Gate;
 use repo_calls::{Ask, Granted, Refusal};
-use repo_machine::prepare;
+use repo_machine::{Prepared, prepare};
 use repo_path::BookName;
 use repo_state::RepoState;
 use seat_calls::ChangeFault;
@@ -108,18 +109,39 @@ impl<D: Disk> Repo<D> {
         ensures after { After self.now.opening.header seat.old.front seat.old.number (Asks (ask_seen ask.now)) (stored_answer result) seat.new.front }
         ensures front { IsFront self.now.opening seat.new.front }
     {
+        // What the seat has seen is legal.
+        let _ = &seat.inner;
+        match prepare(alloc, ask) {
+            Ok(prepared) => self.store_prepared(rt, alloc, seat, ask, prepared),
+            Err(_) => Err(ChangeFault::Refused(Refusal::Memory)),
+        }
+    }
+
+    // The turn of a change of which this is ready.
+    fn store_prepared<R: Wait>(
+        &self,
+        rt: &R,
+        alloc: Global,
+        seat: &mut RepoSeat,
+        ask: &Ask,
+        prepared: Prepared,
+    ) -> Result<Granted, ChangeFault>
+        requires place { seat.old.lock ≡ self.now }
+        requires prepared { IsPreparedFor (ask_seen ask.now) prepared }
+        ensures seat { seat.new ≡ with_front seat.old seat.new.front }
+        ensures after { After self.now.opening.header seat.old.front seat.old.number (Asks (ask_seen ask.now)) (stored_answer result) seat.new.front }
+        ensures front { IsFront self.now.opening seat.new.front }
+    {
         let who = seat.inner.number();
-        let Ok(prepared) = prepare(alloc, ask) else {
-            return Err(ChangeFault::Refused(Refusal::Memory));
-        };
         self.lock.enter(
             rt,
             &mut seat.inner,
             |state: &mut RepoState<D>| -> (bool, Result<Granted, ChangeFault>)
-                ensures reply { Replies state.old.opening.header state.old.history who (Asks prepared.entry) (stored_answer result.1) state.new.history }
+                requires { IsPreparedFor (ask_seen ask.entry.now) prepared }
+                ensures reply { Replies state.old.opening.header state.old.history who (Asks (ask_seen ask.entry.now)) (stored_answer result.1) state.new.history }
                 ensures turn { IsTurn history_of opening_of who state.old state.new result.0 }
                 ensures front { IsFront state.new.opening state.new.history }
-            { store_in(state, alloc, who, prepared) },
+            { store_in(state, alloc, who, ask, prepared) },
         )
     }
 }

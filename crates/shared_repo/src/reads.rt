@@ -6,7 +6,7 @@ ghost use Rattle.bookmark_lock.specs.Turns.{IsTurn};
 ghost use Rattle.reply_model.specs.Reply.{HeadOf, ContentOf, ChangesetOf, LogFrom};
 ghost use Rattle.history_model.specs.History.{changeset_of, content_len, known};
 ghost use Rattle.reply_model.specs.After.{After, Answer, Answers, Looks, Replies, nothing};
-ghost use Rattle.seat_calls.specs.Asking.{IsAnswer, fault_answer, question_seen};
+ghost use Rattle.seat_calls.specs.Asking.{IsAnswer, bytes_answer, fault_answer, question_seen};
 ghost use Rattle.shared_repo.specs.Front.{IsFront, history_of, opening_of};
 ghost use Rattle.shared_repo.specs.Landing.{SeesMore};
 
@@ -49,7 +49,6 @@ impl<D: Disk> Repo<D> {
     }
 
     /// The bytes of a content, which are hashed outside of the turn.
-    #[tactic(auto, using(crate::proofs::Fronts::after_nothing, crate::proofs::Contents::checked))]
     pub fn content<R: Wait>(
         &self,
         rt: &R,
@@ -66,10 +65,7 @@ impl<D: Disk> Repo<D> {
             Ok(bytes) => bytes,
             Err(fault) => return Err(fault),
         };
-        match check_digest(bytes, id) {
-            Ok(bytes) => Ok(Seen::Bytes(bytes)),
-            Err(fault) => Err(fault),
-        }
+        seen(check_digest(bytes, id))
     }
 
     // The turn of a content's read.
@@ -195,5 +191,15 @@ impl<D: Disk> Repo<D> {
             Question::Changeset(id) => self.changeset(rt, alloc, seat, id),
             Question::Log(from) => self.log(rt, alloc, seat, from),
         }
+    }
+}
+
+// The bytes that a read sees, if it sees some.
+fn seen(bytes: Result<Vec<u8>, AskFault>) -> Result<Seen, AskFault>
+    ensures { IsAnswer result (bytes_answer bytes) }
+{
+    match bytes {
+        Ok(bytes) => Ok(Seen::Bytes(bytes)),
+        Err(fault) => Err(fault),
     }
 }

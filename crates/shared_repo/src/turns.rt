@@ -6,8 +6,9 @@ ghost use Rattle.history_model.specs.Bookmark.{head};
 ghost use Rattle.history_model.specs.History.{changeset_of, content_len, known};
 ghost use Rattle.reply_model.specs.After.{Answer, Answers, Asks, Looks, Replies, nothing};
 ghost use Rattle.reply_model.specs.Reply.{ChangesetOf, ContentOf, LandDraft};
-ghost use Rattle.repo_calls.specs.Calls.{refused};
+ghost use Rattle.repo_calls.specs.Calls.{ask_seen, refused};
 ghost use Rattle.repo_machine.specs.Plans.{IsPlan, WasPlanned};
+ghost use Rattle.repo_machine.specs.Prepared.{IsPreparedFor};
 ghost use Rattle.seat_calls.specs.Asking.{IsAnswer, fault_answer, question_seen, stored_answer};
 ghost use Rattle.shared_repo.specs.Front.{IsFront, history_of, opening_of};
 ghost use Rattle.shared_repo.specs.Landing.{outcome_of};
@@ -15,7 +16,7 @@ ghost use Rattle.shared_repo.specs.Landing.{outcome_of};
 use blob_disk::Disk;
 use bonsai::Commit;
 use object_id::Id;
-use repo_calls::{Granted, Refusal};
+use repo_calls::{Ask, Granted, Refusal};
 use repo_machine::{Plan, Prepared, Rebased};
 use repo_path::BookName;
 use repo_state::{Exchanged, RepoState};
@@ -33,14 +34,16 @@ pub(crate) fn store_in<D: Disk>(
     state: &mut RepoState<D>,
     alloc: Global,
     who: u64,
+    ask: &Ask,
     prepared: Prepared,
 ) -> (bool, Result<Granted, ChangeFault>)
-    ensures reply { Replies state.old.opening.header state.old.history who (Asks prepared.entry) (stored_answer result.1) state.new.history }
+    requires prepared { IsPreparedFor (ask_seen ask.now) prepared }
+    ensures reply { Replies state.old.opening.header state.old.history who (Asks (ask_seen ask.now)) (stored_answer result.1) state.new.history }
     ensures turn { IsTurn history_of opening_of who state.old state.new result.0 }
     ensures front { IsFront state.new.opening state.new.history }
 {
     let before = state.history_length();
-    let answer = state.store_prepared(alloc, who, prepared);
+    let answer = state.store_prepared(alloc, who, ask, prepared);
     (differ(before, state.history_length()), answer)
 }
 

@@ -1,15 +1,15 @@
 use Rattle.std.proofs.Common.{subst}
 use Rattle.repo_calls.specs.Calls.{ask_seen}
-use Rattle.repo_machine.specs.Prepared.{IsRefusedAs, IsReadyTo}
+use Rattle.repo_machine.specs.Prepared.{IsReadyTo}
 use Rattle.repo_machine.proofs.MadeReady.{refused_as}
 use Rattle.repo_machine.proofs.machine.Machine.judge_prepared.Goals as goal
 
 pub returns-in-Refused-clause-err : goal.returns-in-Refused-clause-err
 returns-in-Refused-clause-err c =
-    refused_as c.args.self.now.header c.args.self.now.history c.args.prepared c.in-Refused.refusal c.refuse.result
-    (subst (λ ask. IsRefusedAs ask c.in-Refused.refusal) c.prepared.view_is (subst (IsReadyTo (ask_seen c.prepared.inside.ask.now)) c.in-Refused.is c.prepared.invariant)) c.refuse.ensures.up c.refuse.ensures.down
+    refused_as c.args.self.now.header c.args.self.now.history (ask_seen c.args.ask.now) c.in-Refused.refusal c.refuse.result
+    (subst (IsReadyTo (ask_seen c.args.ask.now)) c.in-Refused.is c.requires.prepared) c.refuse.ensures.up c.refuse.ensures.down
 
 pub returns-in-Refused-ready-clause-err : goal.returns-in-Refused-ready-clause-err
 returns-in-Refused-ready-clause-err c =
-    refused_as c.args.self.now.header c.args.self.now.history c.args.prepared c.in-Refused-ready.refusal c.refuse-in-Refused-ready.result
-    (subst (λ ask. IsRefusedAs ask c.in-Refused-ready.refusal) c.prepared.view_is (subst (IsReadyTo (ask_seen c.prepared.inside.ask.now)) c.in-Refused-ready.is c.prepared.invariant)) c.refuse-in-Refused-ready.ensures.up c.refuse-in-Refused-ready.ensures.down
+    refused_as c.args.self.now.header c.args.self.now.history (ask_seen c.args.ask.now) c.in-Refused-ready.refusal c.refuse-in-Refused-ready.result
+    (subst (IsReadyTo (ask_seen c.args.ask.now)) c.in-Refused-ready.is c.requires.prepared) c.refuse-in-Refused-ready.ensures.up c.refuse-in-Refused-ready.ensures.down

@@ -1,0 +1,27 @@
+-- From what a turn read to the answer.
+use Rattle.std.proofs.Common.{◌≡◌, ◌≢◌, ℕ, List, length, refl, sym, ap, ◌∙◌}
+use Rattle.std.specs.Prelude.{Some, Vec, Result, Ok, ok_or, IfOk, IfErr}
+use Rattle.sha2.specs.Sha256.{sha256}
+use Rattle.byte_fields.specs.Bytes.{Id}
+use Rattle.changeset_model.specs.Changeset.{Changeset, spelling}
+use Rattle.history_model.specs.History.{Entry, changeset_of, content_len, known}
+use Rattle.history_model.specs.Journal.{Header}
+use Rattle.reply_model.specs.Reply.{ContentOf, ChangesetOf, SeenBytes, AbsentChangeset, ◌>>=◌}
+use Rattle.reply_model.specs.After.{After, Looks, Shows}
+use Rattle.seat_calls.specs.declared.calls.AskFault.{AskFault}
+use Rattle.seat_calls.specs.declared.calls.AskFault.TheVariants.{BadBytes}
+use Rattle.seat_calls.specs.Asking.{bytes_answer}
+use Rattle.repo_state.proofs.Looking.{checked_answers}
+use Rattle.shared_repo.specs.Landing.{SeesMore}
+use Rattle.shared_repo.proofs.Fronts.{after_nothing}
+
+pub after_checked : {A : Type 0} (header : Header) (old new : List Entry) (who : ℕ) (x : Id) (bytes : List ℕ) (result : Result (Vec ℕ A) AskFault) → SeesMore old who new → content_len new x ≡ Some (length bytes)
+    → IfOk result (λ same. (same.items ≡ bytes) × (sha256 bytes ≡ x)) → IfErr result (λ fault. (fault ≡ BadBytes x (sha256 bytes)) × (sha256 bytes ≢ x))
+    → After header old who (Looks (ContentOf x)) (bytes_answer result) new
+after_checked header old new who x bytes result sees stored ok err = after_nothing header old new who (Looks (ContentOf x)) (bytes_answer result) sees (checked_answers header new x bytes result stored ok err)
+
+pub after_encoded : (header : Header) (old new : List Entry) (who : ℕ) (x : Id) (m : Changeset) (bytes : List ℕ) → SeesMore old who new → changeset_of (known new) x ≡ Some m → bytes ≡ spelling m
+    → After header old who (Looks (ChangesetOf x)) (Shows (SeenBytes bytes)) new
+after_encoded header old new who x m bytes sees found is =
+    after_nothing header old new who (Looks (ChangesetOf x)) (Shows (SeenBytes bytes)) sees
+    (refl, ap (λ b. Ok (SeenBytes b)) is ∙ sym (ap (λ o. ok_or o (AbsentChangeset x) >>= λ c. Ok (SeenBytes (spelling c))) found))
