@@ -210,6 +210,10 @@ module _ (ks : List Known) (t : Table) (a : AreManifests ks t) (done : Done) (le
   settled_either (Ok x) new grows kept has = after_settling new grows has
   settled_either (Err e) new grows kept has = subst (AreManifests ks) (sym kept) a
 
+  pub now_settled : {X : Type 0} (r : Result X TableFault) (new : Table) → OnOk r (new ≡ settled_with t n done.roots ns) → OnOk r (is_settled new n ≡ true)
+  now_settled (Ok x) new grows = ap (λ (t : Table). is_settled t n) (is_grown new grows) ∙ list_any-append (λ s. s == n) t.settled (n ∷ []) ∙ or_right (is_settled t n) (list_any (λ s. s == n) (n ∷ [])) (ap (λ b. b || false) (eq-eqb n n refl))
+  now_settled (Err e) new grows = tt
+
   pub collided_either : {X : Type 0} (r : Result X TableFault) → IfErr r (λ fault. OfTwo fault t.nodes ns) → IfErr r (λ fault. IsCollision ks fault)
   collided_either (Ok x) h = tt
   collided_either (Err fault) h = collided fault h

@@ -1,5 +1,5 @@
 //! Putting in what was derived.
-ghost use Rattle.std.specs.Prelude.{◌≡◌, ◌<◌, false, length, is_some, IsOk, IfErr, OnErr, OnOk};
+ghost use Rattle.std.specs.Prelude.{◌≡◌, ◌<◌, true, false, length, is_some, IsOk, IfErr, OnErr, OnOk};
 ghost use Rattle.std.specs.FinMap as map;
 ghost use Rattle.node_table.specs.Table.{is_settled};
 ghost use Rattle.manifest_store.specs.Lines.{line_at};
@@ -27,6 +27,7 @@ impl ManifestStore {
         requires derived { IsDoneOn (line_at changesets.now.known done.number) done }
         ensures ok { OnOk result (self.new ≡ settled_by changesets.now.known self.old done) }
         ensures err { OnErr result (self.new ≡ self.old) }
+        ensures settled { is_ready_in changesets.now.known self.old done.number ≡ true → OnOk result (is_settled self.new done.number ≡ true) }
         ensures late { is_ready_in changesets.now.known self.old done.number ≡ false → IsOk result }
         ensures collision { IfErr result (λ fault. IsCollision changesets.now.known fault) }
         ensures manifests { AreManifests changesets.now.known self.new }

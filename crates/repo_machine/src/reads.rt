@@ -1,13 +1,15 @@
 //! Reads.
-ghost use Rattle.std.specs.Prelude.{◌≡◌, option_map, IfOk, IfSome};
+ghost use Rattle.std.specs.Prelude.{◌≡◌, true, option_map, IfOk, IfSome};
 ghost use Rattle.std.specs.Arc.{arc_value};
 ghost use Rattle.changeset_model.specs.Changeset.{id_of};
 ghost use Rattle.history_model.specs.Bookmark.{head};
 ghost use Rattle.history_model.specs.History.{known, changeset_of};
+ghost use Rattle.history_model.specs.Journal.{is_header};
 ghost use Rattle.changeset_store.specs.Store.{number_in};
 
 use crate::machine::Machine;
 use bonsai::Commit;
+use changeset_store::ChangesetStore;
 use object_id::Id;
 use repo_path::BookName;
 use std::alloc::AllocError;
@@ -34,6 +36,14 @@ impl Machine {
         ensures { IfOk result (λ found. option_map arc_value found ≡ changeset_of (known self.now.history) id.now) }
     {
         self.changesets.get_shared(id)
+    }
+
+    /// The known changesets.
+    pub fn changesets(&self) -> &ChangesetStore
+        ensures known { result.now.known ≡ known self.now.history }
+        ensures limits { is_header self.now.header ≡ true }
+    {
+        &self.changesets
     }
 
     /// The number of the changeset with this id: its place among the known ones.

@@ -11,3 +11,5 @@ pub mod Heads
 pub mod Landed
 pub mod Stepping
 pub mod Crashing
+pub mod Known
+pub mod Reading

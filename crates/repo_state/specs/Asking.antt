@@ -10,7 +10,7 @@ use Rattle.history_model.specs.History.{Entry, content_len}
 use Rattle.repo_machine.specs.declared.place.Place.{Place}
 use Rattle.repo_machine.specs.Indexes.{StandsAt}
 use Rattle.seat_calls.specs.declared.calls.AskFault.{AskFault}
-use Rattle.seat_calls.specs.declared.calls.AskFault.TheVariants.{NoContent, NoChangeset, ReadFault, BadBytes, Memory}
+use Rattle.seat_calls.specs.declared.calls.AskFault.TheVariants.{NoContent, NoChangeset, NoPath, NotADir, NotAFile, Collision, ReadFault, BadBytes, Memory}
 
 pub record IsReadFor (m : Meaning) (h : List Entry) (x : Id) (bytes : List ℕ) : Type 0 where
   pub stored : content_len h x ≡ Some (length bytes)
@@ -26,6 +26,10 @@ abbrev pub TellsDigest : {T : Type 0} → Meaning → List Entry → Result T As
 TellsDigest m h (Ok x) = ⊤
 TellsDigest m h (Err (NoContent id)) = ⊤
 TellsDigest m h (Err (NoChangeset id)) = ⊤
+TellsDigest m h (Err NoPath) = ⊤
+TellsDigest m h (Err NotADir) = ⊤
+TellsDigest m h (Err NotAFile) = ⊤
+TellsDigest m h (Err (Collision id)) = ⊤
 TellsDigest m h (Err ReadFault) = ⊤
 TellsDigest m h (Err (BadBytes wanted found)) = IsDigestThere m h wanted found
 TellsDigest m h (Err Memory) = ⊤

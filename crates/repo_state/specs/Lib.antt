@@ -1,5 +1,6 @@
 pub mod Images
 pub mod State
+pub mod Manifests
 pub mod Asking
 pub mod Exchanging
 pub mod Trees

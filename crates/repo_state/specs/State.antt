@@ -1,5 +1,5 @@
 -- What contracts see of a repository in a file, and what is always so of it.
---     State      header and history, the room that was made, what is told of the disk, and what it was opened with
+--     State      header and history, the room that was made, the manifests that are settled, what is told of the disk, and what it was opened with
 --     IsQuiet opening      the disk fails no call on a file within the capacity;  HasNoFault h      nothing failed
 --     faults_in h      how many faults the history has
 --     IsSound opening h m      what is so of the history and the disk of a repository that was opened so
@@ -15,6 +15,7 @@ use Rattle.reply_model.specs.Legal.{IsLegal}
 use Rattle.repo_journal.specs.View.{JournalView}
 use Rattle.repo_journal.specs.declared.opening.Opening as journal
 use Rattle.repo_machine.specs.Held.{Room}
+use Rattle.node_table.specs.Table.{Table}
 use Rattle.turn_history.specs.Opening.{Opening}
 use Rattle.repo_state.specs.Images.{Leaves}
 
@@ -22,6 +23,7 @@ pub record State : Type 0 where
   pub header : Header
   pub history : List Entry
   pub room : Room
+  pub table : Table
   pub disk : Meaning
   pub opening : Opening
 

@@ -28,6 +28,7 @@ impl<D: Disk> RepoState<D> {
         ensures exchanged { Exchanges self.old.header self.old.history who rebased result self.new.history }
         ensures header { self.new.header ≡ self.old.header }
         ensures opening { self.new.opening ≡ self.old.opening }
+        ensures table { self.new.table ≡ self.old.table }
         ensures sound { IsSound self.new.opening self.new.history self.new.disk }
 
         // Where nothing is entered and the disk didn't fail, all is as it was.

@@ -2,11 +2,13 @@
 #![tactic(auto)]
 
 pub mod counts;
+pub mod derived;
 pub mod exchange;
 pub mod exchanged;
 pub mod fill;
 pub mod laws;
 pub mod look;
+pub mod manifests;
 pub mod plan;
 pub mod plan_again;
 mod seat;

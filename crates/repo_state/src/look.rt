@@ -10,7 +10,9 @@ ghost use Rattle.reply_model.specs.After.{Answer, Answers, Looks, Replies, nothi
 ghost use Rattle.reply_model.specs.Reply.{ChangesetOf, ContentOf, LogFrom};
 ghost use Rattle.seat_calls.specs.Asking.{bytes_answer, fault_answer, is_bad_bytes, is_early, is_read_fault, IsAnswer, question_seen, reads_file};
 ghost use Rattle.repo_state.specs.Asking.{IsReadFor, TellsDigest};
+ghost use Rattle.manifest_store.specs.Manifests.{AreManifests};
 ghost use Rattle.repo_state.specs.Cores.{LooksSo};
+ghost use Rattle.repo_state.specs.Manifests.{StaySettled, asks_manifest};
 ghost use Rattle.repo_state.specs.State.{IsSound};
 
 use crate::fill::{check_digest, fill};
@@ -23,7 +25,7 @@ use std::alloc::Global;
 use std::sync::Arc;
 
 impl<D: Disk> RepoState<D> {
-    /// Answers a read of the seat `who`. A content is read from the file, and all else is known.
+    /// Answers a read of the seat `who`. A content is read from the file, and all else is known or derived.
     pub fn look(&mut self, alloc: Global, who: u64, question: &Question) -> Result<Seen, AskFault>
         ensures reply { (answer : Answer) × IsAnswer result answer × Replies self.old.header self.old.history who (Looks (question_seen question.now)) answer self.new.history }
         ensures header { self.new.header ≡ self.old.header }
@@ -40,6 +42,11 @@ impl<D: Disk> RepoState<D> {
         ensures early { IsTrue (is_early result) → self.new.disk ≡ self.old.disk }
         ensures known { reads_file question.now ≡ false → self.new.disk ≡ self.old.disk }
 
+        // Manifests are derived for reads of them alone.
+        ensures table { asks_manifest question.now ≡ false → self.new.table ≡ self.old.table }
+        ensures manifests { AreManifests (known self.new.history) self.new.table }
+        ensures stay { StaySettled self.old.table self.new.table }
+
         // It is a step of the repository of many seats.
         ensures core { LooksSo self.old.header self.old.history who (not (is_read_fault result)) self.new.history }
     {
@@ -51,6 +58,9 @@ impl<D: Disk> RepoState<D> {
             },
             Question::Changeset(id) => self.encoding(alloc, id),
             Question::Log(from) => self.page(alloc, from),
+            Question::Fsnode(id, dir) => Ok(Seen::Bytes(self.fsnode(alloc, id, dir)?)),
+            Question::Unode(id, path) => Ok(Seen::Bytes(self.unode(alloc, id, path)?)),
+            Question::History(id, path) => Ok(Seen::Ids(self.file_history(alloc, id, path)?)),
         }
     }
 
@@ -99,6 +109,7 @@ impl<D: Disk> RepoState<D> {
         ensures reply { Replies self.old.header self.old.history who (Looks (ContentOf id)) (bytes_answer result) self.new.history }
         ensures header { self.new.header ≡ self.old.header }
         ensures opening { self.new.opening ≡ self.old.opening }
+        ensures table { self.new.table ≡ self.old.table }
         ensures sound { IsSound self.new.opening self.new.history self.new.disk }
         ensures looked { Looked self.old.disk self.new.disk }
         ensures leaves { LeavesOnly (IsImage self.new.disk.state) self.old.disk self.new.disk }
@@ -138,6 +149,7 @@ impl<D: Disk> RepoState<D> {
         ensures unchecked { is_bad_bytes result ≡ false }
         ensures header { self.new.header ≡ self.old.header }
         ensures opening { self.new.opening ≡ self.old.opening }
+        ensures table { self.new.table ≡ self.old.table }
         ensures sound { IsSound self.new.opening self.new.history self.new.disk }
         ensures looked { Looked self.old.disk self.new.disk }
         ensures leaves { LeavesOnly (IsImage self.new.disk.state) self.old.disk self.new.disk }

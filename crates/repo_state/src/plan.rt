@@ -34,6 +34,7 @@ impl<D: Disk> RepoState<D> {
         ensures history { self.new.history ≡ self.old.history }
         ensures disk { self.new.disk ≡ self.old.disk }
         ensures opening { self.new.opening ≡ self.old.opening }
+        ensures table { self.new.table ≡ self.old.table }
         ensures room { OnOk result (HasRoom self.new.room (Some (Land (landing_in rebased.now)))) }
     {
         self.machine.reserve(alloc, rebased)

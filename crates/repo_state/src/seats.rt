@@ -13,6 +13,7 @@ impl<D: Disk> RepoState<D> {
         ensures history { self.new.history ≡ cleared self.old.history }
         ensures disk { self.new.disk ≡ self.old.disk }
         ensures opening { self.new.opening ≡ self.old.opening }
+        ensures table { self.new.table ≡ self.old.table }
         ensures sound { IsSound self.new.opening self.new.history self.new.disk }
     {
         self.machine.clear_seats();

@@ -4,20 +4,24 @@ ghost use Rattle.history_model.specs.History.{is_down, stored};
 ghost use Rattle.reply_model.specs.Legal.{IsLegal};
 ghost use Rattle.core_model.specs.Core.{opened};
 ghost use Rattle.step_laws.specs.Steps.{Shows};
+ghost use Rattle.node_table.specs.Table.{empty_table};
 ghost use Rattle.repo_journal.specs.Opened.{IsOpened};
 ghost use Rattle.repo_state.specs.State.{IsSound, opening_of};
 
 use blob_disk::Disk;
+use manifest_store::ManifestStore;
 use repo_journal::Journal;
 use repo_machine::Machine;
+use std::alloc::Global;
 use std::marker::Model;
 use std::snapshot::Snapshot;
 use turn_history::Recorded;
 
-/// A repository in a file: what is known of it, how far its journal reaches, and the disk.
+/// A repository in a file: what is known of it, the manifests that were derived, how far its journal reaches, and the disk.
 #[derive(Drop)]
 pub struct RepoState<D: Disk> {
     pub(crate) machine: Machine,
+    pub(crate) manifests: ManifestStore,
     pub(crate) journal: Journal,
     pub(crate) disk: D,
     // The disk as it was once all was read.
@@ -26,24 +30,32 @@ pub struct RepoState<D: Disk> {
 
 impl<D: Disk> Model for RepoState<D> {
     ghost use Rattle.repo_state.specs.State.{State, IsSound, Agrees, opening_of};
+    ghost use Rattle.repo_state.specs.Manifests.{HasManifests};
 
     ghost Value = { State };
+
+    ghost use Rattle.std.specs.Coded.{codes};
+    ghost use Rattle.node_table.specs.Table.{coded_table};
+
+    ghost coded = { Prim.hlevel (codes, coded_table) };
 
     ghost view = { λ s. record {
       header = s.machine.header;
       history = s.machine.history;
       room = s.machine.room;
+      table = s.manifests;
       disk = D.meaning s.disk;
       opening = opening_of s.machine.header s.journal.opening (D.meaning s.first.value);
     } };
 
-    ghost invariant = { λ s. IsSound (opening_of s.machine.header s.journal.opening (D.meaning s.first.value)) s.machine.history (D.meaning s.disk)
-        × Agrees s.machine.header s.machine.history s.journal (D.meaning s.disk) };
+    ghost invariant = { λ s. (IsSound (opening_of s.machine.header s.journal.opening (D.meaning s.first.value)) s.machine.history (D.meaning s.disk)
+        × Agrees s.machine.header s.machine.history s.journal (D.meaning s.disk))
+        × HasManifests s.machine.header s.machine.history s.manifests };
 }
 
 impl<D: Disk> RepoState<D> {
-    /// The repository of one opened file.
-    pub fn new(machine: Machine, journal: Journal, disk: D) -> Self
+    /// The repository of one opened file, of which no changeset's manifests are derived yet.
+    pub fn new(alloc: Global, machine: Machine, journal: Journal, disk: D) -> Self
         requires opened { IsOpened machine.header machine.history journal (D.meaning disk) }
         requires legal { IsLegal machine.header machine.history }
         requires unseated { machine.history ≡ stored machine.history }
@@ -52,13 +64,17 @@ impl<D: Disk> RepoState<D> {
         ensures disk { result.disk ≡ D.meaning disk }
         ensures opening { result.opening ≡ opening_of machine.header journal.opening (D.meaning disk) }
         ensures sound { IsSound result.opening result.history result.disk }
+        ensures table { result.table ≡ empty_table }
 
         // As the repository of many seats begins.
         ensures core { Shows result.history (opened result.history) }
     {
         let first = Snapshot::of(&disk);
+        // The header's capacity is within the limits.
+        let _changesets = machine.changesets();
         RepoState {
             machine,
+            manifests: ManifestStore::new(alloc),
             journal,
             disk,
             first,

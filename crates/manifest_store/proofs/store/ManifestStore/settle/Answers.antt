@@ -4,7 +4,7 @@ use Rattle.std.specs.FinMap as map
 use Rattle.node_table.specs.Table.{Table, is_settled}
 use Rattle.manifest_store.specs.Manifests.{AreManifests}
 use Rattle.manifest_store.specs.Jobs.{is_ready}
-use Rattle.manifest_store.proofs.Settled.{settled_either, collided_either}
+use Rattle.manifest_store.proofs.Settled.{settled_either, now_settled, collided_either}
 use Rattle.manifest_store.proofs.store.ManifestStore.settle.Goals as goal
 
 are : (c : goal.After-settle) → AreManifests c.args.changesets.now.known c.self.inside.table
@@ -23,3 +23,7 @@ returns-clause-collision c =
 pub returns-clause-manifests : goal.returns-clause-manifests
 returns-clause-manifests c =
     settled_either c.args.changesets.now.known c.self.inside.table (are c) c.args.done c.requires.known c.requires.derived (ready c) (rooted c) c.settle.result c.settle.new.self c.settle.ensures.ok c.settle.ensures.err c.settle.ensures.nodes
+
+pub returns-clause-settled : goal.returns-clause-settled
+returns-clause-settled c =
+    λ _. now_settled c.args.changesets.now.known c.self.inside.table (are c) c.args.done c.requires.known c.requires.derived (ready c) (rooted c) c.settle.result c.settle.new.self c.settle.ensures.ok

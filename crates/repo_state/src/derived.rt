@@ -1,0 +1,124 @@
+//! Reads of manifests, which are derived where they aren't settled.
+ghost use Rattle.std.specs.Prelude.{◌≡◌, true, Some, IfOk, IfErr};
+ghost use Rattle.history_model.specs.History.{known};
+ghost use Rattle.reply_model.specs.After.{Answers, Derives, Looks, nothing};
+ghost use Rattle.reply_model.specs.Reply.{FsnodeOf, UnodeOf, HistoryOf};
+ghost use Rattle.node_table.specs.Table.{is_settled};
+ghost use Rattle.changeset_store.specs.Store.{number_in};
+ghost use Rattle.manifest_store.specs.Manifests.{AreManifests};
+ghost use Rattle.seat_calls.specs.Asking.{bytes_answer, fault_answer, place_of};
+ghost use Rattle.repo_state.specs.Manifests.{StaySettled, ids_answer, manifest_fault, table_fault};
+
+use crate::state::RepoState;
+use blob_disk::Disk;
+use derive_step::derive;
+use manifest_store::ManifestFault;
+use node_table::TableFault;
+use object_id::Id;
+use repo_path::RepoPath;
+use seat_calls::AskFault;
+use std::alloc::Global;
+
+impl<D: Disk> RepoState<D> {
+    /// The bytes of the fsnode of a directory of a changeset, of its root where none is given. What the changeset's chain
+    /// lacks is derived first. The disk isn't asked.
+    pub fn fsnode(
+        &mut self,
+        alloc: Global,
+        id: Id,
+        dir: Option<&RepoPath>,
+    ) -> Result<Vec<u8>, AskFault>
+        ensures answer { Answers self.old.header self.old.history (Looks (FsnodeOf id (place_of dir.entry))) (bytes_answer result) nothing }
+        ensures same { self.new ≡ record self.old { table = self.new.table } }
+        ensures manifests { AreManifests (known self.new.history) self.new.table }
+        ensures stay { StaySettled self.old.table self.new.table }
+    {
+        let number = self.settle_chain(alloc, id)?;
+        match self.manifests.fsnode(alloc, number, dir) {
+            Ok(bytes) => Ok(bytes),
+            Err(fault) => Err(read_fault(fault)),
+        }
+    }
+
+    /// The bytes of the unode of a file or a directory of a changeset, of its root where no path is given. What the
+    /// changeset's chain lacks is derived first. The disk isn't asked.
+    pub fn unode(
+        &mut self,
+        alloc: Global,
+        id: Id,
+        path: Option<&RepoPath>,
+    ) -> Result<Vec<u8>, AskFault>
+        ensures answer { Answers self.old.header self.old.history (Looks (UnodeOf id (place_of path.entry))) (bytes_answer result) nothing }
+        ensures same { self.new ≡ record self.old { table = self.new.table } }
+        ensures manifests { AreManifests (known self.new.history) self.new.table }
+        ensures stay { StaySettled self.old.table self.new.table }
+    {
+        let number = self.settle_chain(alloc, id)?;
+        match self.manifests.unode(alloc, number, path) {
+            Ok(bytes) => Ok(bytes),
+            Err(fault) => Err(read_fault(fault)),
+        }
+    }
+
+    /// The changesets that set a file of a changeset, newest first, back to the last whose parent lacks it as a file. What
+    /// the changeset's chain lacks is derived first. The disk isn't asked.
+    pub fn file_history(
+        &mut self,
+        alloc: Global,
+        id: Id,
+        path: &RepoPath,
+    ) -> Result<Vec<Id>, AskFault>
+        ensures answer { Answers self.old.header self.old.history (Looks (HistoryOf id path.now)) (ids_answer result) nothing }
+        ensures same { self.new ≡ record self.old { table = self.new.table } }
+        ensures manifests { AreManifests (known self.new.history) self.new.table }
+        ensures stay { StaySettled self.old.table self.new.table }
+    {
+        let number = self.settle_chain(alloc, id)?;
+        match self.manifests.file_history(alloc, number, path) {
+            Ok(ids) => Ok(ids),
+            Err(fault) => Err(read_fault(fault)),
+        }
+    }
+
+    // The number of a changeset, of which the whole chain is settled by now.
+    fn settle_chain(&mut self, alloc: Global, id: Id) -> Result<u32, AskFault>
+        ensures ok { IfOk result (λ n. (number_in (known self.old.history) id ≡ Some n) × (is_settled self.new.table n ≡ true)) }
+        ensures err { IfErr result (λ fault. Answers self.old.header self.old.history (Derives id) (fault_answer fault) nothing) }
+        ensures same { self.new ≡ record self.old { table = self.new.table } }
+        ensures manifests { AreManifests (known self.new.history) self.new.table }
+        ensures stay { StaySettled self.old.table self.new.table }
+    {
+        while let Some(job) = self.next_job(alloc, id)? {
+            let done = derive(alloc, job)?;
+            if let Err(fault) = self.settle(alloc, done) {
+                return Err(settle_fault(fault));
+            }
+        }
+        let Some(number) = self.machine.number_of(&id) else {
+            unreachable!();
+        };
+        Ok(number)
+    }
+}
+
+// Why a read of manifests sees nothing.
+fn read_fault(fault: ManifestFault) -> AskFault
+    ensures { result ≡ manifest_fault fault }
+{
+    match fault {
+        ManifestFault::NoPath => AskFault::NoPath,
+        ManifestFault::NotADir => AskFault::NotADir,
+        ManifestFault::NotAFile => AskFault::NotAFile,
+        ManifestFault::Memory => AskFault::Memory,
+    }
+}
+
+// Why manifests can't be put in.
+fn settle_fault(fault: TableFault) -> AskFault
+    ensures { result ≡ table_fault fault }
+{
+    match fault {
+        TableFault::Collision { id } => AskFault::Collision { id },
+        TableFault::Memory => AskFault::Memory,
+    }
+}
