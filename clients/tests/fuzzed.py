@@ -22,8 +22,6 @@ MOST_PAYLOAD = 16_777_216
 MARK = b"BONSAI\x00\x01"
 FINE, DAMAGED, STARVED, CUT, REFUSED = 0, 3, 4, 7, 8
 NO_MEMORY = Answer(503, b'{"code":"memory"}')
-HAS_MANIFESTS = False
-"""Whether the program serves manifests."""
 PATHS = ["a", "a/b", "a.b", "b", "lib/x", "lib/x/y", "\u00e9/z", "z" * 255]
 
 
@@ -42,7 +40,7 @@ def answered(data: bytes, repository: Repository, starved: int | None = None) ->
 
     For one request, by its place, there is no memory: it is answered so and leaves all as it was.
     """
-    service = Service(repository, HAS_MANIFESTS)
+    service = Service(repository, has_manifests=True)
     session = Session.__new__(Session)
     session.wfile = io.BytesIO()
     status = FINE

@@ -301,6 +301,57 @@ def clashes(script: Script, root: str) -> None:
     script.ask(f"GET /changeset/{replaced}")
 
 
+TREE_READS = """
+fsnode/{tree}
+fsnode/{tree}/a
+fsnode/{tree}/a/x
+fsnode/{tree}/b
+fsnode/{tree}/c
+fsnode/{tree}/a%2Fx
+fsnode/{tree}/%61
+fsnode/{tree}/
+fsnode/{tree}//a
+fsnode/{tree}/a/
+fsnode/{tree}/..
+fsnode/{tree}?x=/a
+fsnode/{root}
+fsnode/{root}/a
+fsnode/{lines}
+fsnode/{tree}0/a
+fsnode/{tree}0/..
+unode/{tree}
+unode/{tree}/a
+unode/{tree}/a/x
+unode/{tree}/b
+unode/{tree}/c
+unode/{tree}/%FF
+unode/{tree}/b/x
+unode/{lines}
+unode/{lines}/p
+history/{lines}/p
+history/{tree}/a/x
+history/{tree}/a
+history/{tree}/c
+history/{tree}
+history/{lines}/p/
+history
+"""
+"""Manifests of `a/x` and `b`, of no file, and of a file that was set, deleted and set again."""
+
+
+def manifests(script: Script, root: str) -> None:
+    """Reads of manifests, of ends of two chains and of the root that they have in common."""
+    tree = script.commit(spelled(sets("a/x"), sets("b", b""), parents=(root,)))
+    gone = script.commit(spelled(deletes("p"), parents=(digest(spelled(sets("p"), parents=(root,))),)))
+    lines = script.commit(spelled(sets("p"), parents=(gone,)))
+    for line in TREE_READS.split("\n")[1:-1]:
+        for mark, text in [("{tree}", tree), ("{root}", root), ("{lines}", lines)]:
+            line = line.replace(mark, text)
+        script.ask(f"GET /{line}")
+    script.ask(f"GET /fsnode/{ABC}", f"GET /unode/{ABC}/a", f"GET /history/{ABC}/a")
+    script.ask(f"PUT /fsnode/{tree}", f"POST /unode/{tree}/a", f"DELETE /history/{tree}/a")
+
+
 def pages(script: Script) -> None:
     """The log as it passes a hundred entries."""
     while len(script.repository.entries) < 101:
@@ -345,6 +396,7 @@ def made() -> Script:
     landings(script, alone, root)
     moves(script, root)
     clashes(script, root)
+    manifests(script, root)
     for head in HEADS:
         script.say(head)
     pages(script)

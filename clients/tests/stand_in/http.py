@@ -33,7 +33,7 @@ REASONS = {
     507: "Insufficient Storage",
 }
 REQUEST_LINE = re.compile(rb"([!#$%&'*+.^_`|~0-9A-Za-z-]+) ([!-~\x80-\xff]+) HTTP/1\.([01])")
-HEAD_END = re.compile(rb"\r?\n\r?\n\Z")
+HEAD_END = re.compile(rb"(\r?\n){1,2}\Z")
 HEADER = re.compile(rb"([!#$%&'*+.^_`|~0-9A-Za-z-]+):[ \t]*([\t -~\x80-\xff]*?)[ \t]*")
 ROUTES = [
     (r"/content", "PUT", "put_content"),
