@@ -198,3 +198,7 @@ manifests_begin header h t limits legal all = record {
   header_fits = limits;
   manifests = all (known h) (is_store header h limits legal) (are_right header h limits legal);
 }
+
+-- where an entry is made after a change that leaves the history
+pub manifests_grow_after : (header header1 header2 : Header) (h h1 h2 g : List Entry) (t : Table) → header1 ≡ header → header2 ≡ header1 → h1 ≡ h → h2 ≡ h1 ++ g → IsLegal header2 h2 → HasManifests header h t → HasManifests header2 h2 t
+manifests_grow_after header header1 header2 h h1 h2 g t eh1 eh2 e1 e2 legal has = manifests_grow header header2 h h2 g t (eh2 ∙ eh1) (e2 ∙ ap (λ (h : List Entry). h ++ g) e1) legal has

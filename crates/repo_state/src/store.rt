@@ -26,6 +26,7 @@ impl<D: Disk> RepoState<D> {
         ensures reply { Replies self.old.header self.old.history who (Asks (ask_seen ask.now)) (stored_answer result) self.new.history }
         ensures header { self.new.header ≡ self.old.header }
         ensures opening { self.new.opening ≡ self.old.opening }
+        ensures table { self.new.table ≡ self.old.table }
         ensures sound { IsSound self.new.opening self.new.history self.new.disk }
 
         // A change that is refused, and one that makes no entry, leave all as it was.
@@ -65,6 +66,7 @@ impl<D: Disk> RepoState<D> {
         ensures reply { Replies self.old.header self.old.history who (Asks (ask_seen ask.now)) (stored_answer result) self.new.history }
         ensures header { self.new.header ≡ self.old.header }
         ensures opening { self.new.opening ≡ self.old.opening }
+        ensures table { self.new.table ≡ self.old.table }
         ensures sound { IsSound self.new.opening self.new.history self.new.disk }
 
         // A change that is refused, and one that makes no entry, leave all as it was.

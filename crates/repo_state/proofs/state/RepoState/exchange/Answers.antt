@@ -10,6 +10,7 @@ use Rattle.repo_state.proofs.Stepping.{exchanges, down_exchanges}
 use Rattle.repo_calls.specs.declared.refusal.Refusal.TheVariants.{Down}
 use Rattle.repo_state.specs.declared.exchanged.Exchanged.TheVariants.{Landed, HeadMoved, Refused, DiskFault}
 use Rattle.repo_state.proofs.Storing.{making, append_failed, outcome_appended, outcome_failed, refused_replies}
+use Rattle.repo_state.proofs.Known.{manifests_grow}
 use Rattle.repo_state.proofs.state.RepoState.exchange.Goals as goal
 
 pub returns-in-Err-clause-exchanged : goal.returns-in-Err-clause-exchanged
@@ -27,8 +28,8 @@ invariant_of-self g c =
     let out = outcome_appended c.self.inside.machine.header c.self.inside.machine.header c.admit.new.self.header c.self.inside.machine.history c.self.inside.machine.history c.admit.new.self.history
     c.args.who (LandDraft c.args.rebased.name c.args.rebased.draft) judged c.in-Some.frame.now c.self.inside.journal c.append.new.self (g.D.Disk.meaning c.self.inside.first.value) (g.D.Disk.meaning c.self.inside.disk) (g.D.Disk.meaning c.append.new.disk)
     refl c.admit.ensures.header refl c.admit.ensures.history c.in-Ok.ensures.ok.by made e.ok e.long
-    (record { kept = e.kept; counts = e.faults; calm = e.quiet; crash = e.crash; sealed = λ _. e.sealed }) c.self.invariant in
-    out.holds
+    (record { kept = e.kept; counts = e.faults; calm = e.quiet; crash = e.crash; sealed = λ _. e.sealed }) c.self.invariant.0 in
+    (out.holds, manifests_grow _ _ _ _ _ _ c.admit.ensures.header c.admit.ensures.history c.admit.ensures.legal c.self.invariant.1)
 
 pub invariant_of-self-in-Err-DiskFault : goal.invariant_of-self-in-Err-DiskFault
 invariant_of-self-in-Err-DiskFault g c =
@@ -39,8 +40,8 @@ invariant_of-self-in-Err-DiskFault g c =
     let out = outcome_failed c.self.inside.machine.header c.self.inside.machine.header c.fault.new.self.header c.self.inside.machine.history c.self.inside.machine.history c.fault.new.self.history
     c.args.who (LandDraft c.args.rebased.name c.args.rebased.draft) judged c.in-Some.frame.now c.self.inside.journal c.append.new.self (g.D.Disk.meaning c.self.inside.first.value) (g.D.Disk.meaning c.self.inside.disk) (g.D.Disk.meaning c.append.new.disk)
     refl c.fault.ensures.header refl c.fault.ensures.history made (e.broken fails)
-    (append_failed _ _ _ _ _ fails e.kept e.faults e.quiet e.crash) c.self.invariant in
-    out.holds
+    (append_failed _ _ _ _ _ fails e.kept e.faults e.quiet e.crash) c.self.invariant.0 in
+    (out.holds, manifests_grow _ _ _ _ _ _ c.fault.ensures.header c.fault.ensures.history c.fault.ensures.legal c.self.invariant.1)
 
 pub returns-in-Landing-clause-exchanged : goal.returns-in-Landing-clause-exchanged
 returns-in-Landing-clause-exchanged g c =
@@ -51,7 +52,7 @@ returns-in-Landing-clause-exchanged g c =
     let out = outcome_appended c.self.inside.machine.header c.self.inside.machine.header c.admit.new.self.header c.self.inside.machine.history c.self.inside.machine.history c.admit.new.self.history
     c.args.who (LandDraft c.args.rebased.name c.args.rebased.draft) judged c.in-Some.frame.now c.self.inside.journal c.append.new.self (g.D.Disk.meaning c.self.inside.first.value) (g.D.Disk.meaning c.self.inside.disk) (g.D.Disk.meaning c.append.new.disk)
     refl c.admit.ensures.header refl c.admit.ensures.history c.in-Ok.ensures.ok.by made e.ok e.long
-    (record { kept = e.kept; counts = e.faults; calm = e.quiet; crash = e.crash; sealed = λ _. e.sealed }) c.self.invariant in
+    (record { kept = e.kept; counts = e.faults; calm = e.quiet; crash = e.crash; sealed = λ _. e.sealed }) c.self.invariant.0 in
     rw (← c.self.view_is)
     (there, subst (λ granted. Replies c.self.inside.machine.header c.self.inside.machine.history c.args.who (Asks (LandDraft c.args.rebased.name c.args.rebased.draft)) (Grants granted) c.admit.new.self.history) (sym c.in-Landing.ensures.granted) out.reply)
 
@@ -63,7 +64,7 @@ returns-in-Landing-clause-sound g c =
     let out = outcome_appended c.self.inside.machine.header c.self.inside.machine.header c.admit.new.self.header c.self.inside.machine.history c.self.inside.machine.history c.admit.new.self.history
     c.args.who (LandDraft c.args.rebased.name c.args.rebased.draft) judged c.in-Some.frame.now c.self.inside.journal c.append.new.self (g.D.Disk.meaning c.self.inside.first.value) (g.D.Disk.meaning c.self.inside.disk) (g.D.Disk.meaning c.append.new.disk)
     refl c.admit.ensures.header refl c.admit.ensures.history c.in-Ok.ensures.ok.by made e.ok e.long
-    (record { kept = e.kept; counts = e.faults; calm = e.quiet; crash = e.crash; sealed = λ _. e.sealed }) c.self.invariant in
+    (record { kept = e.kept; counts = e.faults; calm = e.quiet; crash = e.crash; sealed = λ _. e.sealed }) c.self.invariant.0 in
     out.holds.0
 
 pub returns-in-Landing-clause-leaves : goal.returns-in-Landing-clause-leaves
@@ -74,7 +75,7 @@ returns-in-Landing-clause-leaves g c =
     let out = outcome_appended c.self.inside.machine.header c.self.inside.machine.header c.admit.new.self.header c.self.inside.machine.history c.self.inside.machine.history c.admit.new.self.history
     c.args.who (LandDraft c.args.rebased.name c.args.rebased.draft) judged c.in-Some.frame.now c.self.inside.journal c.append.new.self (g.D.Disk.meaning c.self.inside.first.value) (g.D.Disk.meaning c.self.inside.disk) (g.D.Disk.meaning c.append.new.disk)
     refl c.admit.ensures.header refl c.admit.ensures.history c.in-Ok.ensures.ok.by made e.ok e.long
-    (record { kept = e.kept; counts = e.faults; calm = e.quiet; crash = e.crash; sealed = λ _. e.sealed }) c.self.invariant in
+    (record { kept = e.kept; counts = e.faults; calm = e.quiet; crash = e.crash; sealed = λ _. e.sealed }) c.self.invariant.0 in
     rw (← c.self.view_is) out.leaves
 
 pub returns-in-Err-DiskFault-clause-exchanged : goal.returns-in-Err-DiskFault-clause-exchanged
@@ -87,7 +88,7 @@ returns-in-Err-DiskFault-clause-exchanged g c =
     let out = outcome_failed c.self.inside.machine.header c.self.inside.machine.header c.fault.new.self.header c.self.inside.machine.history c.self.inside.machine.history c.fault.new.self.history
     c.args.who (LandDraft c.args.rebased.name c.args.rebased.draft) judged c.in-Some.frame.now c.self.inside.journal c.append.new.self (g.D.Disk.meaning c.self.inside.first.value) (g.D.Disk.meaning c.self.inside.disk) (g.D.Disk.meaning c.append.new.disk)
     refl c.fault.ensures.header refl c.fault.ensures.history made (e.broken fails)
-    (append_failed _ _ _ _ _ fails e.kept e.faults e.quiet e.crash) c.self.invariant in
+    (append_failed _ _ _ _ _ fails e.kept e.faults e.quiet e.crash) c.self.invariant.0 in
     rw (← c.self.view_is) (there, out.reply)
 
 pub returns-in-Err-DiskFault-clause-sound : goal.returns-in-Err-DiskFault-clause-sound
@@ -99,7 +100,7 @@ returns-in-Err-DiskFault-clause-sound g c =
     let out = outcome_failed c.self.inside.machine.header c.self.inside.machine.header c.fault.new.self.header c.self.inside.machine.history c.self.inside.machine.history c.fault.new.self.history
     c.args.who (LandDraft c.args.rebased.name c.args.rebased.draft) judged c.in-Some.frame.now c.self.inside.journal c.append.new.self (g.D.Disk.meaning c.self.inside.first.value) (g.D.Disk.meaning c.self.inside.disk) (g.D.Disk.meaning c.append.new.disk)
     refl c.fault.ensures.header refl c.fault.ensures.history made (e.broken fails)
-    (append_failed _ _ _ _ _ fails e.kept e.faults e.quiet e.crash) c.self.invariant in
+    (append_failed _ _ _ _ _ fails e.kept e.faults e.quiet e.crash) c.self.invariant.0 in
     out.holds.0
 
 pub returns-in-Err-DiskFault-clause-leaves : goal.returns-in-Err-DiskFault-clause-leaves
@@ -111,7 +112,7 @@ returns-in-Err-DiskFault-clause-leaves g c =
     let out = outcome_failed c.self.inside.machine.header c.self.inside.machine.header c.fault.new.self.header c.self.inside.machine.history c.self.inside.machine.history c.fault.new.self.history
     c.args.who (LandDraft c.args.rebased.name c.args.rebased.draft) judged c.in-Some.frame.now c.self.inside.journal c.append.new.self (g.D.Disk.meaning c.self.inside.first.value) (g.D.Disk.meaning c.self.inside.disk) (g.D.Disk.meaning c.append.new.disk)
     refl c.fault.ensures.header refl c.fault.ensures.history made (e.broken fails)
-    (append_failed _ _ _ _ _ fails e.kept e.faults e.quiet e.crash) c.self.invariant in
+    (append_failed _ _ _ _ _ fails e.kept e.faults e.quiet e.crash) c.self.invariant.0 in
     rw (← c.self.view_is) out.leaves
 
 -- ---- the trees after it, and its steps

@@ -7,6 +7,7 @@ use Rattle.repo_state.specs.State.{State}
 use Rattle.repo_state.proofs.Landed.{lands_as}
 use Rattle.repo_state.proofs.Stepping.{stores}
 use Rattle.repo_state.proofs.Storing.{making, append_failed, granted_replies, outcome_appended, outcome_failed, always_fits, refused_replies}
+use Rattle.repo_state.proofs.Known.{manifests_grow_after}
 use Rattle.repo_state.proofs.state.RepoState.store_prepared.Goals as goal
 
 pub returns-in_default-clause-reply : goal.returns-in_default-clause-reply
@@ -33,8 +34,8 @@ invariant_of-self-in-Ok-append g c =
     let out = outcome_appended c.self.inside.machine.header c.judge_prepared.new.self.header c.admit-in-Ok-append.new.self.header c.self.inside.machine.history c.judge_prepared.new.self.history c.admit-in-Ok-append.new.self.history
     c.args.who (ask_seen c.args.ask.now) judged c.in-Some.frame.now c.self.inside.journal c.append.new.self (g.D.Disk.meaning c.self.inside.first.value) (g.D.Disk.meaning c.self.inside.disk) (g.D.Disk.meaning c.append.new.disk)
     c.judge_prepared.ensures.header c.admit-in-Ok-append.ensures.header c.judge_prepared.ensures.history c.admit-in-Ok-append.ensures.history c.in-Ok.ensures.ok.by made e.ok e.long
-    (record { kept = e.kept; counts = e.faults; calm = e.quiet; crash = e.crash; sealed = λ _. e.sealed }) c.self.invariant in
-    out.holds
+    (record { kept = e.kept; counts = e.faults; calm = e.quiet; crash = e.crash; sealed = λ _. e.sealed }) c.self.invariant.0 in
+    (out.holds, manifests_grow_after _ _ _ _ _ _ _ _ c.judge_prepared.ensures.header c.admit-in-Ok-append.ensures.header c.judge_prepared.ensures.history c.admit-in-Ok-append.ensures.history c.admit-in-Ok-append.ensures.legal c.self.invariant.1)
 
 pub invariant_of-self-in-Err-DiskFault : goal.invariant_of-self-in-Err-DiskFault
 invariant_of-self-in-Err-DiskFault g c =
@@ -45,14 +46,14 @@ invariant_of-self-in-Err-DiskFault g c =
     let out = outcome_failed c.self.inside.machine.header c.judge_prepared.new.self.header c.fault.new.self.header c.self.inside.machine.history c.judge_prepared.new.self.history c.fault.new.self.history
     c.args.who (ask_seen c.args.ask.now) judged c.in-Some.frame.now c.self.inside.journal c.append.new.self (g.D.Disk.meaning c.self.inside.first.value) (g.D.Disk.meaning c.self.inside.disk) (g.D.Disk.meaning c.append.new.disk)
     c.judge_prepared.ensures.header c.fault.ensures.header c.judge_prepared.ensures.history c.fault.ensures.history made (e.broken fails)
-    (append_failed _ _ _ _ _ fails e.kept e.faults e.quiet e.crash) c.self.invariant in
-    out.holds
+    (append_failed _ _ _ _ _ fails e.kept e.faults e.quiet e.crash) c.self.invariant.0 in
+    (out.holds, manifests_grow_after _ _ _ _ _ _ _ _ c.judge_prepared.ensures.header c.fault.ensures.header c.judge_prepared.ensures.history c.fault.ensures.history c.fault.ensures.legal c.self.invariant.1)
 
 pub unreachable-requires : goal.unreachable-requires
 unreachable-requires g c =
     let judged = c.in-Ok.judged in
     let made = making _ _ _ judged c.in-Some.frame.now c.in-Ok.ensures.ok.is_judged c.in-Some.ensures.frame in
-    let short = always_fits _ _ _ judged c.in-Some.frame.now c.self.inside.journal _ made c.self.invariant.1 in
+    let short = always_fits _ _ _ judged c.in-Some.frame.now c.self.inside.journal _ made c.self.invariant.0.1 in
     let long = c.in-Err-Full.ensures.full.0 (ap (λ f. is_full_answer {T = Unit {0}} (Err f)) c.in-Err-Full.field-0-is) in
     omega arith
 
@@ -64,7 +65,7 @@ returns-in-Ok-append-clause-reply g c =
     let out = outcome_appended c.self.inside.machine.header c.judge_prepared.new.self.header c.admit-in-Ok-append.new.self.header c.self.inside.machine.history c.judge_prepared.new.self.history c.admit-in-Ok-append.new.self.history
     c.args.who (ask_seen c.args.ask.now) judged c.in-Some.frame.now c.self.inside.journal c.append.new.self (g.D.Disk.meaning c.self.inside.first.value) (g.D.Disk.meaning c.self.inside.disk) (g.D.Disk.meaning c.append.new.disk)
     c.judge_prepared.ensures.header c.admit-in-Ok-append.ensures.header c.judge_prepared.ensures.history c.admit-in-Ok-append.ensures.history c.in-Ok.ensures.ok.by made e.ok e.long
-    (record { kept = e.kept; counts = e.faults; calm = e.quiet; crash = e.crash; sealed = λ _. e.sealed }) c.self.invariant in
+    (record { kept = e.kept; counts = e.faults; calm = e.quiet; crash = e.crash; sealed = λ _. e.sealed }) c.self.invariant.0 in
     rw (← c.self.view_is, c.admit-in-Ok-append.ensures.granted) out.reply
 
 pub returns-in-Ok-append-clause-sound : goal.returns-in-Ok-append-clause-sound
@@ -75,7 +76,7 @@ returns-in-Ok-append-clause-sound g c =
     let out = outcome_appended c.self.inside.machine.header c.judge_prepared.new.self.header c.admit-in-Ok-append.new.self.header c.self.inside.machine.history c.judge_prepared.new.self.history c.admit-in-Ok-append.new.self.history
     c.args.who (ask_seen c.args.ask.now) judged c.in-Some.frame.now c.self.inside.journal c.append.new.self (g.D.Disk.meaning c.self.inside.first.value) (g.D.Disk.meaning c.self.inside.disk) (g.D.Disk.meaning c.append.new.disk)
     c.judge_prepared.ensures.header c.admit-in-Ok-append.ensures.header c.judge_prepared.ensures.history c.admit-in-Ok-append.ensures.history c.in-Ok.ensures.ok.by made e.ok e.long
-    (record { kept = e.kept; counts = e.faults; calm = e.quiet; crash = e.crash; sealed = λ _. e.sealed }) c.self.invariant in
+    (record { kept = e.kept; counts = e.faults; calm = e.quiet; crash = e.crash; sealed = λ _. e.sealed }) c.self.invariant.0 in
     out.holds.0
 
 pub returns-in-Ok-append-clause-leaves : goal.returns-in-Ok-append-clause-leaves
@@ -86,7 +87,7 @@ returns-in-Ok-append-clause-leaves g c =
     let out = outcome_appended c.self.inside.machine.header c.judge_prepared.new.self.header c.admit-in-Ok-append.new.self.header c.self.inside.machine.history c.judge_prepared.new.self.history c.admit-in-Ok-append.new.self.history
     c.args.who (ask_seen c.args.ask.now) judged c.in-Some.frame.now c.self.inside.journal c.append.new.self (g.D.Disk.meaning c.self.inside.first.value) (g.D.Disk.meaning c.self.inside.disk) (g.D.Disk.meaning c.append.new.disk)
     c.judge_prepared.ensures.header c.admit-in-Ok-append.ensures.header c.judge_prepared.ensures.history c.admit-in-Ok-append.ensures.history c.in-Ok.ensures.ok.by made e.ok e.long
-    (record { kept = e.kept; counts = e.faults; calm = e.quiet; crash = e.crash; sealed = λ _. e.sealed }) c.self.invariant in
+    (record { kept = e.kept; counts = e.faults; calm = e.quiet; crash = e.crash; sealed = λ _. e.sealed }) c.self.invariant.0 in
     rw (← c.self.view_is) out.leaves
 
 pub returns-in-Err-DiskFault-clause-reply : goal.returns-in-Err-DiskFault-clause-reply
@@ -98,7 +99,7 @@ returns-in-Err-DiskFault-clause-reply g c =
     let out = outcome_failed c.self.inside.machine.header c.judge_prepared.new.self.header c.fault.new.self.header c.self.inside.machine.history c.judge_prepared.new.self.history c.fault.new.self.history
     c.args.who (ask_seen c.args.ask.now) judged c.in-Some.frame.now c.self.inside.journal c.append.new.self (g.D.Disk.meaning c.self.inside.first.value) (g.D.Disk.meaning c.self.inside.disk) (g.D.Disk.meaning c.append.new.disk)
     c.judge_prepared.ensures.header c.fault.ensures.header c.judge_prepared.ensures.history c.fault.ensures.history made (e.broken fails)
-    (append_failed _ _ _ _ _ fails e.kept e.faults e.quiet e.crash) c.self.invariant in
+    (append_failed _ _ _ _ _ fails e.kept e.faults e.quiet e.crash) c.self.invariant.0 in
     rw (← c.self.view_is) out.reply
 
 pub returns-in-Err-DiskFault-clause-sound : goal.returns-in-Err-DiskFault-clause-sound
@@ -110,7 +111,7 @@ returns-in-Err-DiskFault-clause-sound g c =
     let out = outcome_failed c.self.inside.machine.header c.judge_prepared.new.self.header c.fault.new.self.header c.self.inside.machine.history c.judge_prepared.new.self.history c.fault.new.self.history
     c.args.who (ask_seen c.args.ask.now) judged c.in-Some.frame.now c.self.inside.journal c.append.new.self (g.D.Disk.meaning c.self.inside.first.value) (g.D.Disk.meaning c.self.inside.disk) (g.D.Disk.meaning c.append.new.disk)
     c.judge_prepared.ensures.header c.fault.ensures.header c.judge_prepared.ensures.history c.fault.ensures.history made (e.broken fails)
-    (append_failed _ _ _ _ _ fails e.kept e.faults e.quiet e.crash) c.self.invariant in
+    (append_failed _ _ _ _ _ fails e.kept e.faults e.quiet e.crash) c.self.invariant.0 in
     out.holds.0
 
 pub returns-in-Err-DiskFault-clause-leaves : goal.returns-in-Err-DiskFault-clause-leaves
@@ -122,7 +123,7 @@ returns-in-Err-DiskFault-clause-leaves g c =
     let out = outcome_failed c.self.inside.machine.header c.judge_prepared.new.self.header c.fault.new.self.header c.self.inside.machine.history c.judge_prepared.new.self.history c.fault.new.self.history
     c.args.who (ask_seen c.args.ask.now) judged c.in-Some.frame.now c.self.inside.journal c.append.new.self (g.D.Disk.meaning c.self.inside.first.value) (g.D.Disk.meaning c.self.inside.disk) (g.D.Disk.meaning c.append.new.disk)
     c.judge_prepared.ensures.header c.fault.ensures.header c.judge_prepared.ensures.history c.fault.ensures.history made (e.broken fails)
-    (append_failed _ _ _ _ _ fails e.kept e.faults e.quiet e.crash) c.self.invariant in
+    (append_failed _ _ _ _ _ fails e.kept e.faults e.quiet e.crash) c.self.invariant.0 in
     rw (← c.self.view_is) out.leaves
 
 pub returns-in-Err-clause-reply : goal.returns-in-Err-clause-reply
