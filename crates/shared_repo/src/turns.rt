@@ -30,6 +30,22 @@ fn differ(before: u64, after: u64) -> bool
     before != after
 }
 
+pub(crate) fn change_in<D: Disk>(
+    state: &mut RepoState<D>,
+    alloc: Global,
+    who: u64,
+    ask: &Ask,
+) -> (bool, Result<Granted, ChangeFault>)
+    ensures reply { Replies state.old.opening.header state.old.history who (Asks (ask_seen ask.now)) (stored_answer result.1) state.new.history }
+    ensures turn { IsTurn history_of opening_of who state.old state.new result.0 }
+    ensures front { IsFront state.new.opening state.new.history }
+{
+    let before = state.history_length();
+    let answer = state.store(alloc, who, ask);
+    (differ(before, state.history_length()), answer)
+}
+
+// The same of a change of which this is ready.
 pub(crate) fn store_in<D: Disk>(
     state: &mut RepoState<D>,
     alloc: Global,
