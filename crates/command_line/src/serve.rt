@@ -87,7 +87,7 @@ where
         journal,
         disk,
     } = opened;
-    let state = RepoState::new(machine, journal, disk);
+    let state = RepoState::new(alloc, machine, journal, disk);
     let left = serve_watched::<R, D, A, K, G, Brand>(
         rt,
         alloc,

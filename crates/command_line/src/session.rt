@@ -70,7 +70,7 @@ fn serve_file<D: Disk, L: Link>(alloc: Global, opened: OpenedFile<D>, link: &mut
         journal,
         disk,
     } = opened;
-    let mut state = RepoState::new(machine, journal, disk);
+    let mut state = RepoState::new(alloc, machine, journal, disk);
     let end = serve_session(alloc, &mut state, link);
     let status = session_status(state.down(), end);
     Came {

@@ -1,5 +1,5 @@
 -- What is made ready of an upload.
-use Rattle.std.proofs.Common.{◌≡◌, ◌≢◌, ℕ, ◌+◌, ◌≤◌, ◌<◌, Bool, true, false, inr, List, [], ◌∷◌, length, refl, sym, ap, subst, ◌∙◌, suc, arith}
+use Rattle.std.proofs.Common.{◌≡◌, ◌≢◌, ℕ, ◌<◌, Bool, true, false, inr, List, [], ◌∷◌, length, refl, sym, ap, subst, ◌∙◌, suc, arith}
 use Rattle.std.specs.Prelude.{Result, Ok, Err, Some, IfOk, IfErr}
 use Rattle.byte_fields.specs.Bytes.{Id, IsBytes, are_bytes}
 use Rattle.changeset_model.specs.Changeset.{Changeset, spelling, most_content}

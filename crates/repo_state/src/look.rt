@@ -1,5 +1,5 @@
 //! Reads.
-ghost use Rattle.std.specs.Prelude.{◌≡◌, IsTrue, false, not, Some, IfOk, IfErr};
+ghost use Rattle.std.specs.Prelude.{◌≡◌, IsTrue, true, false, not, Some, IfOk, IfErr};
 ghost use Rattle.std.specs.Arc.{arc_value};
 ghost use Rattle.ports.specs.Faults.{Counts};
 ghost use Rattle.sha2.specs.Sha256.{sha256};
@@ -44,12 +44,14 @@ impl<D: Disk> RepoState<D> {
 
         // Manifests are derived for reads of them alone.
         ensures table { asks_manifest question.now ≡ false → self.new.table ≡ self.old.table }
-        ensures manifests { AreManifests (known self.new.history) self.new.table }
+        ensures manifests { asks_manifest question.now ≡ true → AreManifests (known self.new.history) self.new.table }
         ensures stay { StaySettled self.old.table self.new.table }
 
         // It is a step of the repository of many seats.
         ensures core { LooksSo self.old.header self.old.history who (not (is_read_fault result)) self.new.history }
     {
+        // It keeps its rules.
+        let _ = &self.disk;
         match *question {
             Question::Head(name) => Ok(Seen::Head(self.machine.head(name))),
             Question::Content(id) => match self.content(alloc, who, id) {
@@ -58,9 +60,18 @@ impl<D: Disk> RepoState<D> {
             },
             Question::Changeset(id) => self.encoding(alloc, id),
             Question::Log(from) => self.page(alloc, from),
-            Question::Fsnode(id, dir) => Ok(Seen::Bytes(self.fsnode(alloc, id, dir)?)),
-            Question::Unode(id, path) => Ok(Seen::Bytes(self.unode(alloc, id, path)?)),
-            Question::History(id, path) => Ok(Seen::Ids(self.file_history(alloc, id, path)?)),
+            Question::Fsnode(id, dir) => match self.fsnode(alloc, id, dir) {
+                Ok(bytes) => Ok(Seen::Bytes(bytes)),
+                Err(fault) => Err(fault),
+            },
+            Question::Unode(id, path) => match self.unode(alloc, id, path) {
+                Ok(bytes) => Ok(Seen::Bytes(bytes)),
+                Err(fault) => Err(fault),
+            },
+            Question::History(id, path) => match self.file_history(alloc, id, path) {
+                Ok(ids) => Ok(Seen::Ids(ids)),
+                Err(fault) => Err(fault),
+            },
         }
     }
 

@@ -13,5 +13,5 @@ pub(crate) fn new_repository(alloc: Global) -> Result<RepoState<MemDisk>, Fail> 
         return Err(Fail::from("a new file"));
     }
     let Opened { machine, journal } = open(alloc, &mut disk)?;
-    Ok(RepoState::new(machine, journal, disk))
+    Ok(RepoState::new(alloc, machine, journal, disk))
 }
