@@ -5,6 +5,7 @@
 mod changes;
 mod landing;
 mod landing_turns;
+mod manifests;
 mod reads;
 mod repo;
 mod seat;

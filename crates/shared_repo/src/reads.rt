@@ -190,6 +190,9 @@ impl<D: Disk> Repo<D> {
             Question::Content(id) => self.content(rt, alloc, seat, id),
             Question::Changeset(id) => self.changeset(rt, alloc, seat, id),
             Question::Log(from) => self.log(rt, alloc, seat, from),
+            Question::Fsnode(id, dir) => self.fsnode(rt, alloc, seat, id, dir),
+            Question::Unode(id, path) => self.unode(rt, alloc, seat, id, path),
+            Question::History(id, path) => self.history(rt, alloc, seat, id, path),
         }
     }
 }
