@@ -7,6 +7,10 @@ use Rattle.std.proofs.MapsCrossing as maps
 use Rattle.blob_disk.specs.declared.disk.Disk as disks
 use Rattle.bonsai.specs.contracts.commit.Commit as Commit
 use Rattle.changeset_store.specs.contracts.store.ChangesetStore as Store
+use Rattle.node_table.specs.contracts.store.Store as Nodes
+use Rattle.node_table.specs.contracts.root_table.RootTable as Roots
+use Rattle.node_table.specs.contracts.table.NodeTable as NodeTable
+use Rattle.manifest_store.specs.contracts.store.ManifestStore as Manifests
 use Rattle.repo_journal.specs.contracts.journal.Journal as Journal
 use Rattle.repo_machine.specs.contracts.machine.Machine as Machine
 use Rattle.std.specs.contracts.snapshot.Snapshot as Snapshot
@@ -39,6 +43,18 @@ machine_send = search (store_send, own.crosses, maps.crosses, sendable) depth 60
 pub journal_send : IsSend Journal.the_row
 journal_send = search (own.crosses, sendable) depth 60
 
+pub nodes_send : IsSend Nodes.the_row
+nodes_send = search (own.crosses, maps.crosses, sendable) depth 60
+
+pub roots_send : IsSend Roots.the_row
+roots_send = search (own.crosses, maps.crosses, sendable) depth 60
+
+pub node_table_send : IsSend NodeTable.the_row
+node_table_send = let n = nodes_send in let r = roots_send in search (own.crosses, sendable) depth 60
+
+pub manifests_send : IsSend Manifests.the_row
+manifests_send = let t = node_table_send in search sendable depth 20
+
 pub table_sync : (S V K P : RattleType) (g : rules.Ghosts P.Denot S.Denot V.Denot K.Denot) → IsSend S → IsSync (Table.the_field S V K P Heap.the_row g ghosts).row
 table_sync S V K P g s = let h = own.send in let y = own.sync in let f = own.frees in let a = shares.the_sync S V K P g s in search (leases.the_sync, sendable) depth 20
 
@@ -53,7 +69,7 @@ module _ (D : RattleType) (disk : disks.Ghosts D.Denot) (may : IsSend D) where
   snapshot_send = search (own.crosses, sendable) depth 60
 
   pub state_send : IsSend (State.the_row D disk)
-  state_send = let m = machine_send in let j = journal_send in let s = snapshot_send in search sendable depth 20
+  state_send = let m = machine_send in let j = journal_send in let s = snapshot_send in let t = manifests_send in search sendable depth 20
 
   pub repo_sync : IsSync (Repo.the_row D disk)
   repo_sync = let s = state_send in search (lock_sync, sendable) depth 20
