@@ -16,7 +16,7 @@ pub(crate) fn new_repository(alloc: Global) -> Result<RepoState<MemDisk>, Fail> 
         return Err(Fail::from("a new file"));
     }
     let Opened { machine, journal } = open(alloc, &mut disk)?;
-    Ok(RepoState::new(machine, journal, disk))
+    Ok(RepoState::new(alloc, machine, journal, disk))
 }
 
 /// The id of these digits, and none where there are none.

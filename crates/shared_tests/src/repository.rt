@@ -18,5 +18,5 @@ pub(crate) fn new_repository(alloc: Global, failing: &[u64]) -> Result<RepoState
         return Err(Fail::from("a new file"));
     }
     let Opened { machine, journal } = open(alloc, &mut disk)?;
-    Ok(RepoState::new(machine, journal, disk))
+    Ok(RepoState::new(alloc, machine, journal, disk))
 }
