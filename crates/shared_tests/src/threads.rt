@@ -3,13 +3,13 @@ ghost use Rattle.std.specs.Prelude.{◌≡◌, ◌+◌, ◌≤◌, ◌^◌};
 
 use crate::repository::new_repository;
 use crate::steps::total;
-use blob_disk::MemDisk;
+use blob_disk::Disk;
 use ports::NoGate;
 use repo_calls::Ask;
+use repo_state::RepoState;
 use seat_calls::Seat;
 use shared_repo::{Repo, RepoSeat, Served};
 use std::alloc::{AllocError, Global};
-use std::process::Abort;
 use std::sync::Wait;
 use std::test::Fail;
 use std::thread::{Threads, for_each_mut};
@@ -18,13 +18,13 @@ const TIMES: u8 = 5;
 
 // A seat, the first byte of its contents, and how many of them were stored.
 #[derive(Drop)]
-struct Worker<'a, R: Wait> {
-    seat: Served<'a, R, MemDisk, NoGate>,
+struct Worker<S: Seat + Drop> {
+    seat: S,
     first: u8,
     stored: u64,
 }
 
-impl<'a, R: Wait> Worker<'a, R> {
+impl<S: Seat + Drop> Worker<S> {
     fn work(&mut self, alloc: Global) {
         for second in 0..TIMES {
             let bytes = [self.first, second];
@@ -35,13 +35,14 @@ impl<'a, R: Wait> Worker<'a, R> {
     }
 }
 
-fn split_all<'a, R: Wait>(
+// So many workers, each at a seat of its own.
+fn split_all<'a, R: Wait, D: Disk>(
     rt: &'a R,
     alloc: Global,
-    repo: &'a Repo<MemDisk>,
+    repo: &'a Repo<D>,
     lead: &mut RepoSeat,
     count: u8,
-) -> Result<Vec<Worker<'a, R>>, AllocError>
+) -> Result<Vec<Worker<Served<'a, R, D, NoGate>>>, AllocError>
     requires place { lead.old.lock ≡ repo.now }
     requires leads { lead.old.number ≡ 0 }
     requires room { lead.old.split + count ≤ 2 ^ 63 }
@@ -59,17 +60,24 @@ fn split_all<'a, R: Wait>(
     Ok(workers)
 }
 
-fn work_all<R: Threads + Wait + Sync>(rt: &R, alloc: Global, workers: &mut [Worker<'_, R>]) {
-    let threads = workers.len();
+// Each worker works in a thread of its own.
+fn work_all<R: Threads + Sync, S: Seat + Drop + Send>(
+    rt: &R,
+    alloc: Global,
+    workers: &mut [Worker<S>],
+) {
+    let threads = workers.len().max(1);
     for_each_mut(
         rt,
         workers,
         threads,
-        &|_, worker: &mut Worker<'_, R>| { worker.work(alloc) },
+        &|_, worker: &mut Worker<S>| {
+            worker.work(alloc);
+        },
     );
 }
 
-fn stored<R: Wait>(workers: &[Worker<'_, R>]) -> u64 {
+fn stored<S: Seat + Drop>(workers: &[Worker<S>]) -> u64 {
     let mut all = 0u64;
     for worker in workers {
         all = all.saturating_add(worker.stored);
@@ -78,8 +86,13 @@ fn stored<R: Wait>(workers: &[Worker<'_, R>]) -> u64 {
 }
 
 // How many contents so many threads stored, and how many entries the lead sees then.
-fn at_once<R: Threads + Wait + Sync>(rt: &R, alloc: Global, count: u8) -> Result<(u64, u64), Fail> {
-    let (repo, mut lead) = Repo::new(alloc, new_repository(alloc, &[])?)?;
+fn at_once<R: Threads + Wait + Sync, D: Disk + Send>(
+    rt: &R,
+    alloc: Global,
+    state: RepoState<D>,
+    count: u8,
+) -> Result<(u64, u64), Fail> {
+    let (repo, mut lead) = Repo::new(alloc, state)?;
     let mut workers = split_all(rt, alloc, &repo, &mut lead, count)?;
     work_all(rt, alloc, workers.as_mut_slice());
     let mut seat = Served::new(rt, &repo, lead, &NoGate);
@@ -88,9 +101,10 @@ fn at_once<R: Threads + Wait + Sync>(rt: &R, alloc: Global, count: u8) -> Result
 
 #[test]
 fn what_threads_store_at_once_adds_up(rt: HostRuntime) -> Result<(), Fail> {
-    let two = at_once(&rt, rt.alloc(), 2)?;
+    let alloc = rt.alloc();
+    let two = at_once(&rt, alloc, new_repository(alloc, &[])?, 2)?;
     assert_eq!(rt; two, (10, 10));
-    let eight = at_once(&rt, rt.alloc(), 8)?;
+    let eight = at_once(&rt, alloc, new_repository(alloc, &[])?, 8)?;
     assert_eq!(rt; eight, (40, 40));
     Ok(())
 }

@@ -1,0 +1,9 @@
+use denote.Ref.{NamedLft}
+use denote.Param.Send.{param_send, arg_send}
+use Rattle.shared_tests.proofs.Crossing.{served_send}
+use Rattle.shared_tests.proofs.threads.at_once.Goals as goal
+
+pub work_all-requires-send-S : goal.work_all-requires-send-S
+work_all-requires-send-S g c κs within =
+    let served = λ (life : NamedLft). served_send life _ _ g.D.Disk c.type_bounds.sync-R c.type_bounds.send-D in
+    search (served, param_send, arg_send) depth 10
