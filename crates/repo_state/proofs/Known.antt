@@ -184,7 +184,7 @@ manifests_grow header header1 h h1 g t eh e legal has =
     record {
       header_fits = limits;
       manifests = subst (λ ks. AreManifests ks t) (sym all)
-      (still (known h) _ t (subst IsStore all (is_store header1 h1 limits legal)) (subst AreRight all (are_right header1 h1 limits legal)) has.manifests);
+          (still (known h) _ t (subst IsStore all (is_store header1 h1 limits legal)) (subst AreRight all (are_right header1 h1 limits legal)) has.manifests);
     }
 
 pub manifests_same : (header header1 : Header) (h h1 : List Entry) (t : Table) → header1 ≡ header → known h1 ≡ known h → HasManifests header h t → HasManifests header1 h1 t

@@ -7,9 +7,10 @@ use Rattle.repo_state.proofs.state.RepoState.clear_seats.Goals as goal
 
 pub invariant_of-self : goal.invariant_of-self
 invariant_of-self g c =
-    let e = c.clear_seats.ensures in
-    (holds_cleared c.self.inside.machine.header c.clear_seats.new.self.header c.self.inside.machine.history c.clear_seats.new.self.history c.self.inside.journal _ _ e.header e.history e.legal c.self.invariant.0,
-    manifests_same _ _ _ _ _ e.header (ap known e.history ∙ known-cleared c.self.inside.machine.history) c.self.invariant.1)
+    let e = c.clear_seats.ensures in (
+      holds_cleared c.self.inside.machine.header c.clear_seats.new.self.header c.self.inside.machine.history c.clear_seats.new.self.history c.self.inside.journal _ _ e.header e.history e.legal c.self.invariant.0,
+      manifests_same _ _ _ _ _ e.header (ap known e.history ∙ known-cleared c.self.inside.machine.history) c.self.invariant.1,
+    )
 
 pub returns-clause-sound : goal.returns-clause-sound
 returns-clause-sound g c =

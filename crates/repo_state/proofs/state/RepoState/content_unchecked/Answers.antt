@@ -9,17 +9,19 @@ use Rattle.repo_state.proofs.state.RepoState.content_unchecked.Goals as goal
 
 pub invariant_of-self-in-Ok-fill : goal.invariant_of-self-in-Ok-fill
 invariant_of-self-in-Ok-fill g c =
-    let e = c.in-Ok-fill.ensures in
-    (holds_read c.self.inside.machine.header c.room.new.self.header c.self.inside.machine.history c.room.new.self.history c.self.inside.journal _ _ _ c.room.ensures.header c.room.ensures.history
-    (read_as _ _ _ _ refl e.kept e.faults e.quiet e.looked e.leaves) c.self.invariant.0,
-    manifests_same _ _ _ _ _ c.room.ensures.header (ap known c.room.ensures.history) c.self.invariant.1)
+    let e = c.in-Ok-fill.ensures in (
+      holds_read c.self.inside.machine.header c.room.new.self.header c.self.inside.machine.history c.room.new.self.history c.self.inside.journal _ _ _ c.room.ensures.header c.room.ensures.history
+          (read_as _ _ _ _ refl e.kept e.faults e.quiet e.looked e.leaves) c.self.invariant.0,
+      manifests_same _ _ _ _ _ c.room.ensures.header (ap known c.room.ensures.history) c.self.invariant.1,
+    )
 
 pub invariant_of-self-in-Err : goal.invariant_of-self-in-Err
 invariant_of-self-in-Err g c =
-    let e = c.in-Err.ensures in
-    (holds_read_failed c.self.inside.machine.header c.room.new.self.header c.fault.new.self.header c.self.inside.machine.history c.room.new.self.history c.fault.new.self.history c.args.who c.self.inside.journal _ _ _
-    c.room.ensures.header c.fault.ensures.header c.room.ensures.history c.fault.ensures.history (read_as _ _ _ _ refl e.kept e.faults e.quiet e.looked e.leaves) c.self.invariant.0,
-    manifests_grow_after _ _ _ _ _ _ _ _ c.room.ensures.header c.fault.ensures.header c.room.ensures.history c.fault.ensures.history c.fault.ensures.legal c.self.invariant.1)
+    let e = c.in-Err.ensures in (
+      holds_read_failed c.self.inside.machine.header c.room.new.self.header c.fault.new.self.header c.self.inside.machine.history c.room.new.self.history c.fault.new.self.history c.args.who c.self.inside.journal _ _ _
+          c.room.ensures.header c.fault.ensures.header c.room.ensures.history c.fault.ensures.history (read_as _ _ _ _ refl e.kept e.faults e.quiet e.looked e.leaves) c.self.invariant.0,
+      manifests_grow_after _ _ _ _ _ _ _ _ c.room.ensures.header c.fault.ensures.header c.room.ensures.history c.fault.ensures.history c.fault.ensures.legal c.self.invariant.1,
+    )
 
 pub returns-in-Ok-fill-clause-ok : goal.returns-in-Ok-fill-clause-ok
 returns-in-Ok-fill-clause-ok g c =

@@ -5,9 +5,10 @@ use Rattle.repo_state.proofs.state.RepoState.new.Goals as goal
 
 pub invariant_of-result : goal.invariant_of-result
 invariant_of-result g c =
-    rw c.of-first.ensures
-    ((sound_opened _ _ c.args.journal _ c.requires.opened c.requires.legal c.requires.unseated, agrees_opened _ _ c.args.journal _ c.requires.opened c.requires.unseated),
-    manifests_begin _ _ _ c.changesets-changesets.ensures.limits c.requires.legal c.new.ensures.manifests)
+    rw c.of-first.ensures (
+      (sound_opened _ _ c.args.journal _ c.requires.opened c.requires.legal c.requires.unseated, agrees_opened _ _ c.args.journal _ c.requires.opened c.requires.unseated),
+      manifests_begin _ _ _ c.changesets-changesets.ensures.limits c.requires.legal c.new.ensures.manifests,
+    )
 
 pub returns-clause-sound : goal.returns-clause-sound
 returns-clause-sound g c = rw c.of-first.ensures (sound_opened _ _ c.args.journal _ c.requires.opened c.requires.legal c.requires.unseated)

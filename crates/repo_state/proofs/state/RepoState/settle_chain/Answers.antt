@@ -44,8 +44,7 @@ returns-clause-ok g c =
     let seen = ap (λ (s : State). s.history) c.self.view_is in
     let same = ap (λ (s : State). s.history) c.loop-job.invariant.same in
     let there = subst (λ h. number_in (known h) c.args.id ≡ Some n) seen (sym c.in-Some-number_of.ensures) in
-    let next = subst (IsNextOf (known c.loop-job.self.history) c.loop-job.self.table c.args.id) c.in_default.is c.in_ok-job.ensures.ok in
-    (
+    let next = subst (IsNextOf (known c.loop-job.self.history) c.loop-job.self.table c.args.id) c.in_default.is c.in_ok-job.ensures.ok in (
       subst (λ h. number_in (known h) c.args.id ≡ Some n) same there,
       chain_settled (known c.loop-job.self.history) c.loop-job.self.table c.args.id n c.in_ok-job.ensures.manifests next there,
     )
