@@ -81,7 +81,7 @@ module _ (ks more : List Known) (t : Table) (s : IsStore (ks ++ more)) (right : 
 -- ---- a changeset is settled
 
 -- a node of one of these lines is one of the definitions'
-node_of : (l : List Known) (x : Id) (bytes : List ℕ) → Contains (all_nodes_on l) bytes → Contains (nodes_in (manifests_on x l)) bytes
+pub node_of : (l : List Known) (x : Id) (bytes : List ℕ) → Contains (all_nodes_on l) bytes → Contains (nodes_in (manifests_on x l)) bytes
 node_of [] x bytes h = absurd (none h)
   where
     none : {b : List ℕ} → Contains [] b → ⊥
