@@ -1,11 +1,12 @@
 -- Jobs and what was derived of them as steps of the core.
-use Rattle.std.proofs.Common.{◌≡◌, ◌⊎◌, inl, inr, ℕ, ◌<◌, Bool, true, false, cond, not, ◌||◌, ◌&&◌, ◌==◌, List, [], ◌∷◌, ◌++◌, length, refl, sym, ap, subst, ◌∙◌}
+use Rattle.std.proofs.Common.{◌≡◌, ◌⊎◌, inl, inr, ℕ, ◌<◌, Bool, true, false, cond, not, ◌||◌, ◌&&◌, ◌==◌, List, [], ◌∷◌, ◌++◌, length, refl, sym, ap, subst, ◌∙◌, arith, append_assoc}
 use Rattle.std.specs.Prelude.{Option, None, Some, IfSome, is_some, Contains, bytes_eq, Result, Ok, Err, IfOk, OnOk, OnErr, IfErr}
-use Rattle.std.specs.List.{list_any}
-use Rattle.std.specs.Option.{option_map_or, option_and_then}
+use Rattle.std.specs.List.{AllByRecursion, list_any}
+use Rattle.std.specs.Option.{option_map_or, option_and_then, option_or}
 use Rattle.std.specs.FinMap as map
 use mathlib.Core.Bool.{true≢false}
-use Rattle.std.proofs.lemmas.Bool.{or_left, or_right, eqb-true, eq-eqb}
+use Rattle.std.proofs.lemmas.Bool.{or_left, or_right, eqb-true, eq-eqb, false_from_ne_true}
+use Rattle.std.proofs.lemmas.List.{append-nil, length-append}
 use Rattle.std.proofs.lemmas.List.Folds.{list_any-append}
 use Rattle.std.proofs.lemmas.Option.{same_Some}
 use Rattle.std.proofs.lemmas.Slice.Eq.{bytes_eq-Decides}
@@ -16,18 +17,20 @@ use Rattle.history_model.specs.Chain.{first_parent, line}
 use Rattle.history_model.specs.Journal.{Header}
 use Rattle.manifest_model.specs.Manifests.{manifests_on, nodes_in, nodes_of}
 use Rattle.reply_model.specs.Legal.{IsLegal}
-use Rattle.core_model.specs.Core.{State, Settle}
+use Rattle.reply_model.proofs.Lines.{known-append}
+use Rattle.core_model.specs.Core.{State, Step, Settle, opened, after_steps}
 use Rattle.step_laws.specs.Steps.{Shows, Goes}
-use Rattle.settle_laws.specs.Settled.{ShowsSettled, HasJob, IsReady, with_settled, IsNodeWith, AreApartWith, CollideWith}
+use Rattle.settle_laws.specs.Settled.{ShowsSettled, HasJob, IsReady, with_settled, IsNodeWith, AreApartWith, CollideWith, leaves_manifests}
 use Rattle.settle_laws.proofs.Rows.{same_id, or_none}
 use Rattle.settle_laws.proofs.Taking.{take_goes}
 use Rattle.settle_laws.proofs.Settling.{settles, settles_nothing, ready, told_same}
+use Rattle.settle_laws.proofs.Leaving.{steps_leave, shows_left}
 use Rattle.node_table.specs.Parts.{nodes_seen}
-use Rattle.node_table.specs.Table.{Table, Has, is_settled, with_nodes, settled_with}
+use Rattle.node_table.specs.Table.{Table, Has, is_settled, with_nodes, settled_with, empty_table}
 use Rattle.node_table.specs.declared.fault.TableFault.{TableFault}
 use Rattle.node_table.specs.declared.fault.TableFault.TheVariants as tables
 use Rattle.changeset_store.specs.Store.{number_in, known_at, changeset_at, parent_at}
-use Rattle.changeset_store.proofs.Places.{known_at-changeset}
+use Rattle.changeset_store.proofs.Places.{known_at-changeset, number_in-push}
 use Rattle.changeset_store.proofs.Parents.{number_is_some}
 use Rattle.derive_step.specs.declared.job.Job.{Job}
 use Rattle.derive_step.specs.declared.done.Done.{Done}
@@ -240,3 +243,36 @@ settles_as header h t new a done less told same r after is kept now two =
     kept
     (subst (λ ks. is_ready ks t done.number ≡ true → OnOk r (is_settled new done.number ≡ true)) same now)
     (subst (λ ks. IfErr r (λ fault. IsCollisionBeside ks t done.number fault)) same two)
+
+-- ---- where more is known
+
+told_one : (t : Table) (ks : List Known) (k : Known) (x : Id) → ((n : ℕ) → is_settled t n ≡ true → n < length ks) → settled_id (ks ++ k ∷ []) t x ≡ settled_id ks t x
+told_one t ks k x numbered = ap (λ o. option_map_or (is_settled t) o false) (number_in-push ks k x) ∙ by (number_in ks x) (bytes_eq k.id x)
+  where
+    by : (o : Option ℕ) (b : Bool) → option_map_or (is_settled t) (option_or o (cond b (Some (length ks)) None)) false ≡ option_map_or (is_settled t) o false
+    by (Some j) b = refl
+    by None false = refl
+    by None true = false_from_ne_true (is_settled t (length ks)) (λ h. let less = numbered (length ks) h in absurd (omega (arith, less)))
+
+told_more : (t : Table) (ks more : List Known) (x : Id) → ((n : ℕ) → is_settled t n ≡ true → n < length ks) → settled_id (ks ++ more) t x ≡ settled_id ks t x
+told_more t ks [] x numbered = ap (λ js. settled_id js t x) (append-nil ks)
+told_more t ks (k ∷ more) x numbered =
+    ap (λ js. settled_id js t x) (sym (append_assoc ks (k ∷ []) more))
+    ∙ told_more t (ks ++ k ∷ []) more x (λ n h. (let less = numbered n h in let long = length-append ks (k ∷ []) in omega (arith, less, long)))
+    ∙ told_one t ks k x numbered
+
+pub table_left : (header : Header) (t : Table) (steps : List Step) (s after : State) → AreManifests (known s.history) t → AllByRecursion (λ step. leaves_manifests step ≡ true) steps → after_steps header s steps ≡ Some after → ShowsTable (known s.history) t s → ShowsTable (known after.history) t after
+table_left header t steps s after a all e shows =
+    let l = steps_leave header steps s after all e in
+    told_same (known after.history) (settled_id (known s.history) t) (settled_id (known after.history) t) after
+    (λ x. sym (ap (λ ks. settled_id ks t x) (ap known l.history_is ∙ known-append s.history l.more) ∙ told_more t (known s.history) _ x a.numbered))
+    (shows_left header (settled_id (known s.history) t) steps s after all e shows)
+
+-- ---- as it is opened
+
+pub opened_table : (h : List Entry) (t : Table) → t ≡ empty_table → ShowsTable (known h) t (opened h)
+opened_table h t e = subst (λ t. ShowsTable (known h) t (opened h)) (sym e) (record { settled_is = λ x. by (number_in (known h) x); rows = tt; jobs = tt })
+  where
+    by : (o : Option ℕ) → false ≡ option_map_or (is_settled empty_table) o false
+    by None = refl
+    by (Some j) = refl

@@ -25,13 +25,13 @@ use Rattle.settle_laws.proofs.Apart.{apart_from, apart_gives}
 
 -- ---- the job
 
-record Found (P : Job → Type 0) (jobs : List Job) (x : Id) : Type 0 where
-  job : Job
-  is : find (λ job. bytes_eq job.changeset.id x) jobs ≡ Some job
-  id_is : job.changeset.id ≡ x
-  right : P job
+pub record Found (P : Job → Type 0) (jobs : List Job) (x : Id) : Type 0 where
+  pub job : Job
+  pub is : find (λ job. bytes_eq job.changeset.id x) jobs ≡ Some job
+  pub id_is : job.changeset.id ≡ x
+  pub right : P job
 
-found : (P : Job → Type 0) (jobs : List Job) (x : Id) → AllByRecursion P jobs → is_some (find (λ job. bytes_eq job.changeset.id x) jobs) ≡ true → Found P jobs x
+pub found : (P : Job → Type 0) (jobs : List Job) (x : Id) → AllByRecursion P jobs → is_some (find (λ job. bytes_eq job.changeset.id x) jobs) ≡ true → Found P jobs x
 found P [] x all h = absurd (true≢false (sym h))
 found P (j ∷ jobs) x all h = by (found P jobs x all.1) (bytes_eq j.changeset.id x) refl h
   where

@@ -53,11 +53,11 @@ module _ (header : Header) (h : List Entry) (legal : IsLegal header h) (table : 
       }
 
   -- which is taken of x
-  record Takes (x : Id) : Type 0 where
-    job : Job
-    is : job_on table (line (known h) x) ≡ Some job
-    id_is : job.changeset.id ≡ x
-    taken : IsTaken (known h) table job
+  pub record Takes (x : Id) : Type 0 where
+    pub job : Job
+    pub is : job_on table (line (known h) x) ≡ Some job
+    pub id_is : job.changeset.id ≡ x
+    pub taken : IsTaken (known h) table job
 
   takes_by : (x : Id) → GoesOn (reverse (known h)) x → (first : Known) (older : List Known) → line (known h) x ≡ first ∷ older → is_some (parent_in table (first_parent first.changeset)) ≡ true → Takes x
   takes_by x g first older e settled =
@@ -85,7 +85,7 @@ module _ (header : Header) (h : List Entry) (legal : IsLegal header h) (table : 
       there None t = tt
       there (Some p) t = sym (known_reverse (known h) p) ∙ t
 
-  takes : (x : Id) (first : Known) (older : List Known) → line (known h) x ≡ first ∷ older → is_some (parent_in table (first_parent first.changeset)) ≡ true → Takes x
+  pub takes : (x : Id) (first : Known) (older : List Known) → line (known h) x ≡ first ∷ older → is_some (parent_in table (first_parent first.changeset)) ≡ true → Takes x
   takes x first older e settled = takes_by x (goes_on x (line_known (known h) x first older e)) first older e settled
 
 -- ---- the step

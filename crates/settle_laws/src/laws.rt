@@ -31,3 +31,14 @@ pub fn nothing_is_settled()
     ensures { (header : Header) (h : List Entry) (settled : Id → Bool) (x : Id) (s : State) → (settled x ≡ true) ⊎ CollideWith (known h) settled x → Shows h s → ShowsSettled (known h) settled s → HasJob s x →
         Goes header s (Settle x ∷ []) (λ t. Shows h t × ShowsSettled (known h) settled t) }
 {}
+
+/// Whatever steps are taken, crashes among them: the state's manifests and jobs are the definitions', and no job was taken before its parent was settled.
+pub fn each_run_shows_what_is_settled()
+    ensures { (header : Header) (h : List Entry) (steps : List Step) (s : State) → IsLegal header h → after_steps header (opened h) steps ≡ Some s → ShowsSettled (known s.history) (λ x. is_some (settled_in s.table x)) s }
+{}
+
+/// Other steps leave what is settled, and the jobs that were taken.
+pub fn other_steps_leave_what_is_settled()
+    ensures settled { (header : Header) (settled : Id → Bool) (steps : List Step) (s t : State) → AllByRecursion (λ step. leaves_manifests step ≡ true) steps → after_steps header s steps ≡ Some t → ShowsSettled (known s.history) settled s → ShowsSettled (known t.history) settled t }
+    ensures jobs { (header : Header) (x : Id) (steps : List Step) (s t : State) → AllByRecursion (λ step. leaves_manifests step ≡ true) steps → after_steps header s steps ≡ Some t → HasJob s x → HasJob t x }
+{}
