@@ -7,13 +7,12 @@ use mathlib.Core.Bool.{true≢false}
 use Rattle.std.proofs.lemmas.List.{append-nil}
 use Rattle.byte_fields.specs.Bytes.{Id}
 use Rattle.byte_fields.proofs.Lists.{weaker}
-use Rattle.history_model.specs.History.{Body, Fault, Entry, Known, bodies, known, is_known}
-use Rattle.history_model.specs.Chain.{line}
+use Rattle.history_model.specs.History.{Body, Fault, Entry, Known, bodies, known}
 use Rattle.history_model.specs.Journal.{Header}
 use Rattle.manifest_model.specs.Manifests.{Manifests, manifests_on, Job}
 use Rattle.reply_model.specs.Reply.{Ask, is_ask, judge}
 use Rattle.reply_model.proofs.Lines.{known_grows, line_grows}
-use Rattle.core_model.specs.Core.{State, Step, Sealing, Stage, Decided, Written, Flushed, Opened, LeftOver, PlanLanding, Exchange, Look, WriteRecord, SyncRecord, OpenGate, Seal, Acknowledge, TakeJob, Settle, Crash, set_for, is_sealed, sealing_of, is_as_planned, exchanged, added, broken, come_to, sealed, device_call, acknowledged_with, settled_in, after_step, after_steps}
+use Rattle.core_model.specs.Core.{State, Step, Sealing, Stage, Decided, Written, Flushed, Opened, PlanLanding, Exchange, Look, WriteRecord, SyncRecord, OpenGate, Seal, Acknowledge, TakeJob, Settle, Crash, set_for, is_sealed, sealing_of, is_as_planned, exchanged, added, broken, come_to, sealed, device_call, acknowledged_with, settled_in, after_step, after_steps}
 use Rattle.core_model.proofs.Cores.{some_is, when_ok}
 use Rattle.settle_laws.specs.Settled.{IsRow, IsTaken, ShowsSettled, HasJob, leaves_manifests}
 use Rattle.settle_laws.proofs.Rows.{line_known}

@@ -6,7 +6,7 @@ use Rattle.std.specs.Option.{option_and_then}
 use Rattle.std.proofs.lemmas.Option.{same_Some}
 use Rattle.byte_fields.specs.Bytes.{Id}
 use Rattle.byte_fields.proofs.Lists.{weaker, all_push}
-use Rattle.history_model.specs.History.{Entry, Known, known, stored}
+use Rattle.history_model.specs.History.{Entry, Known, known}
 use Rattle.history_model.specs.Chain.{first_parent, line}
 use Rattle.history_model.specs.Journal.{Header}
 use Rattle.manifest_model.specs.Manifests.{Manifests, nodes_in, Job, derive}

@@ -6,15 +6,13 @@ use Rattle.std.specs.Option.{option_map_or}
 use mathlib.Core.Bool.{true≢false}
 use Rattle.std.proofs.lemmas.Bool.{or_left, or_right}
 use Rattle.std.proofs.lemmas.List.Elements.{Contains-append_left, Contains-append_right, Contains-append_cases}
-use Rattle.std.proofs.lemmas.Option.{same_Some}
 use Rattle.std.proofs.lemmas.Slice.Eq.{bytes_eq-Decides}
-use Rattle.sha2.specs.Sha256.{sha256}
 use Rattle.byte_fields.specs.Bytes.{Id}
 use Rattle.byte_fields.proofs.Lists.{weaker, all_push}
-use Rattle.history_model.specs.History.{Entry, Known, known, is_known}
+use Rattle.history_model.specs.History.{Entry, Known, known}
 use Rattle.history_model.specs.Chain.{first_parent, line}
 use Rattle.history_model.specs.Journal.{Header}
-use Rattle.manifest_model.specs.Manifests.{Manifests, manifests_of, nodes_in, nodes_of, Job, derive}
+use Rattle.manifest_model.specs.Manifests.{Manifests, manifests_of, nodes_in, Job, derive}
 use Rattle.manifest_model.proofs.Derivations.{or_case}
 use Rattle.core_model.specs.Core.{State, Settle, are_apart, nodes_among, settled_in, parent_in, settled_with}
 use Rattle.step_laws.specs.Steps.{Shows, Goes}

@@ -1,10 +1,8 @@
 -- A job can be taken of a changeset that is ready.
-use Rattle.std.proofs.Common.{◌≡◌, Bool, true, false, cond, List, [], ◌∷◌, ◌++◌, reverse, refl, sym, ap, subst, ◌∙◌}
+use Rattle.std.proofs.Common.{◌≡◌, Bool, true, List, [], ◌∷◌, ◌++◌, reverse, refl, sym, ap, subst, ◌∙◌}
 use Rattle.std.specs.Prelude.{Option, None, Some, IfSome, is_some, bytes_eq, option_map, if◌then◌else◌}
 use Rattle.std.specs.List.{AllByRecursion}
 use Rattle.std.specs.Option.{option_map_or}
-use mathlib.Core.Bool.{true≢false}
-use Rattle.std.proofs.lemmas.Slice.Eq.{bytes_eq-Decides}
 use Rattle.byte_fields.specs.Bytes.{Id}
 use Rattle.byte_fields.proofs.Lists.{all_push}
 use Rattle.history_model.specs.History.{Entry, Known, known, is_known}
@@ -15,7 +13,7 @@ use Rattle.manifest_model.proofs.Derivations.{job_of_parent, derives_first, deri
 use Rattle.reply_model.specs.Legal.{IsLegal}
 use Rattle.reply_model.proofs.Parents.{HasParents-known, known_reverse}
 use Rattle.reply_model.proofs.Lines.{known_once, GoesOn, line_goes_on}
-use Rattle.core_model.specs.Core.{State, TakeJob, settled_in, parent_in, job_on, job_of, after_step}
+use Rattle.core_model.specs.Core.{State, TakeJob, settled_in, parent_in, job_on}
 use Rattle.step_laws.specs.Steps.{Shows, Goes}
 use Rattle.step_laws.proofs.Asked.{one_step}
 use Rattle.settle_laws.specs.Settled.{IsRow, IsTaken, ShowsSettled, HasJob, IsReady}
@@ -59,12 +57,8 @@ module _ (header : Header) (h : List Entry) (legal : IsLegal header h) (table : 
     pub id_is : job.changeset.id ≡ x
     pub taken : IsTaken (known h) table job
 
-  takes_by : (x : Id) → GoesOn (reverse (known h)) x → (first : Known) (older : List Known) → line (known h) x ≡ first ∷ older → is_some (parent_in table (first_parent first.changeset)) ≡ true → Takes x
-  takes_by x g first older e settled =
-      let same : first ∷ older ≡ g.first ∷ rest_of (first_parent g.first.changeset) = sym e ∙ g.line_is in
-      let is_first : first ≡ g.first = cc in
-      let parent = subst (λ (c : Known). is_some (parent_in table (first_parent c.changeset)) ≡ true) is_first settled in
-      let job = gives g.first (first_parent g.first.changeset) (there (first_parent g.first.changeset) g.parent) parent in
+  takes_by : (x : Id) (g : GoesOn (reverse (known h)) x) → Gives g.first (first_parent g.first.changeset) → is_some (parent_in table (first_parent g.first.changeset)) ≡ true → Takes x
+  takes_by x g job settled =
       let id_is : job.job.changeset.id ≡ x = ap (λ k. k.id) job.of ∙ g.id_is in
       record {
         job = job.job;
@@ -73,20 +67,26 @@ module _ (header : Header) (h : List Entry) (legal : IsLegal header h) (table : 
         taken = record {
           older = rest_of (first_parent g.first.changeset);
           line_is = ap (line (known h)) id_is ∙ g.line_is ∙ ap (λ c. c ∷ rest_of (first_parent g.first.changeset)) (sym job.of);
-          parent = subst (λ (c : Known). is_some (parent_in table (first_parent c.changeset)) ≡ true) (sym job.of) parent;
+          parent = subst (λ (c : Known). is_some (parent_in table (first_parent c.changeset)) ≡ true) (sym job.of) settled;
           derives = job.derives
               ∙ ap (manifests_on g.first.id) (sym g.line_is)
               ∙ ap (λ y. manifests_on y (line (known h) x)) (ap (λ k. k.id) (sym job.of))
               ∙ ap (λ y. manifests_on job.job.changeset.id (line (known h) y)) (sym id_is);
         };
       }
-    where
-      there : (o : Option Id) → IfSome o (λ p. is_known (reverse (known h)) p ≡ true) → IfSome o (λ p. is_known (known h) p ≡ true)
-      there None t = tt
-      there (Some p) t = sym (known_reverse (known h) p) ∙ t
+
+  known_there : (o : Option Id) → IfSome o (λ p. is_known (reverse (known h)) p ≡ true) → IfSome o (λ p. is_known (known h) p ≡ true)
+  known_there None t = tt
+  known_there (Some p) t = sym (known_reverse (known h) p) ∙ t
+
+  same_first : (c d : Known) (cs ds : List Known) → c ∷ cs ≡ d ∷ ds → c ≡ d
+  same_first c d cs ds e = cc
 
   pub takes : (x : Id) (first : Known) (older : List Known) → line (known h) x ≡ first ∷ older → is_some (parent_in table (first_parent first.changeset)) ≡ true → Takes x
-  takes x first older e settled = takes_by x (goes_on x (line_known (known h) x first older e)) first older e settled
+  takes x first older e settled =
+      let g = goes_on x (line_known (known h) x first older e) in
+      let parent = subst (λ (c : Known). is_some (parent_in table (first_parent c.changeset)) ≡ true) (same_first first g.first older _ (sym e ∙ g.line_is)) settled in
+      takes_by x g (gives g.first (first_parent g.first.changeset) (known_there (first_parent g.first.changeset) g.parent) parent) parent
 
 -- ---- the step
 

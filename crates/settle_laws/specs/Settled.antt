@@ -8,12 +8,12 @@
 --     IsNodeWith ks settled x bytes      a node of the definitions' manifests of a settled changeset, or of x
 --     AreApartWith ks settled x, CollideWith ks settled x      no two different ones of them have one digest;  two of them have
 --     leaves_manifests step      it takes no job, settles none, and is no crash
-use Rattle.std.specs.Prelude.{◌≡◌, ◌≢◌, ℕ, Bool, true, false, ◌||◌, List, ◌∷◌, Contains, Option, is_some, find, bytes_eq}
+use Rattle.std.specs.Prelude.{◌≡◌, ◌≢◌, ℕ, Bool, true, false, ◌||◌, List, ◌∷◌, Contains, is_some, find, bytes_eq}
 use Rattle.std.specs.List.{AllByRecursion}
 use Rattle.std.specs.Option.{option_map_or}
 use Rattle.sha2.specs.Sha256.{sha256}
 use Rattle.byte_fields.specs.Bytes.{Id}
-use Rattle.history_model.specs.History.{Known, is_known, known}
+use Rattle.history_model.specs.History.{Known, is_known}
 use Rattle.history_model.specs.Chain.{first_parent, line}
 use Rattle.manifest_model.specs.Manifests.{Manifests, manifests_of, nodes_of, Job, derive}
 use Rattle.core_model.specs.Core.{State, Step, PlanLanding, Exchange, Look, WriteRecord, SyncRecord, OpenGate, Seal, Acknowledge, TakeJob, Settle, Crash, settled_in, parent_in}
