@@ -1,7 +1,7 @@
 -- Jobs and what was derived of them as steps of the core.
 use Rattle.std.proofs.Common.{◌≡◌, ◌⊎◌, inl, inr, ℕ, ◌<◌, Bool, true, false, cond, not, ◌||◌, ◌&&◌, ◌==◌, List, [], ◌∷◌, ◌++◌, length, refl, sym, ap, subst, ◌∙◌, arith, append_assoc}
-use Rattle.std.specs.Prelude.{Option, None, Some, IfSome, is_some, Contains, bytes_eq, Result, Ok, Err, IfOk, OnOk, OnErr, IfErr}
-use Rattle.std.specs.List.{AllByRecursion, list_any}
+use Rattle.std.specs.Prelude.{Option, None, Some, IfSome, is_some, Contains, bytes_eq, Result, Ok, Err, OnOk, OnErr, IfErr}
+use Rattle.std.specs.List.{AllByRecursion}
 use Rattle.std.specs.Option.{option_map_or, option_and_then, option_or}
 use Rattle.std.specs.FinMap as map
 use mathlib.Core.Bool.{true≢false}
@@ -10,7 +10,6 @@ use Rattle.std.proofs.lemmas.List.{append-nil, length-append}
 use Rattle.std.proofs.lemmas.List.Folds.{list_any-append}
 use Rattle.std.proofs.lemmas.Option.{same_Some}
 use Rattle.std.proofs.lemmas.Slice.Eq.{bytes_eq-Decides}
-use Rattle.sha2.specs.Sha256.{sha256}
 use Rattle.byte_fields.specs.Bytes.{Id}
 use Rattle.history_model.specs.History.{Entry, Known, known, is_known}
 use Rattle.history_model.specs.Chain.{first_parent, line}
@@ -20,7 +19,7 @@ use Rattle.reply_model.specs.Legal.{IsLegal}
 use Rattle.reply_model.proofs.Lines.{known-append}
 use Rattle.core_model.specs.Core.{State, Step, Settle, opened, after_steps}
 use Rattle.step_laws.specs.Steps.{Shows, Goes}
-use Rattle.settle_laws.specs.Settled.{ShowsSettled, HasJob, IsReady, with_settled, IsNodeWith, AreApartWith, CollideWith, leaves_manifests}
+use Rattle.settle_laws.specs.Settled.{HasJob, IsReady, with_settled, IsNodeWith, AreApartWith, CollideWith, leaves_manifests}
 use Rattle.settle_laws.proofs.Rows.{same_id, or_none}
 use Rattle.settle_laws.proofs.Taking.{take_goes}
 use Rattle.settle_laws.proofs.Settling.{settles, settles_nothing, ready, told_same}
@@ -29,20 +28,19 @@ use Rattle.node_table.specs.Parts.{nodes_seen}
 use Rattle.node_table.specs.Table.{Table, Has, is_settled, with_nodes, settled_with, empty_table}
 use Rattle.node_table.specs.declared.fault.TableFault.{TableFault}
 use Rattle.node_table.specs.declared.fault.TableFault.TheVariants as tables
-use Rattle.changeset_store.specs.Store.{number_in, known_at, changeset_at, parent_at}
+use Rattle.changeset_store.specs.Store.{number_in, known_at, parent_at}
 use Rattle.changeset_store.proofs.Places.{known_at-changeset, number_in-push}
 use Rattle.changeset_store.proofs.Parents.{number_is_some}
 use Rattle.derive_step.specs.declared.job.Job.{Job}
 use Rattle.derive_step.specs.declared.done.Done.{Done}
 use Rattle.derive_step.specs.Jobs.{all_nodes_on}
-use Rattle.manifest_store.specs.Jobs.{IsDoneOn, IsNextJob, IsNext, is_ready, settled_by}
+use Rattle.manifest_store.specs.Jobs.{IsNext, is_ready, settled_by}
 use Rattle.manifest_store.specs.Lines.{line_at}
 use Rattle.manifest_store.specs.Manifests.{AreManifests}
 use Rattle.manifest_store.specs.Settling.{IsNodeBeside, IsCollisionBeside}
 use Rattle.manifest_store.proofs.Lines.{its_number, line_step, parent_there}
 use Rattle.manifest_store.proofs.Settled.{node_of}
 use Rattle.repo_state.specs.Cores.{settled_id, ShowsTable, id_at, TakesJob, SettlesSo}
-use Rattle.repo_state.specs.Manifests.{IsNextOf}
 use Rattle.repo_state.proofs.Known.{known_apart}
 use Rattle.repo_state.proofs.Reading.{found_id, unsettled}
 
