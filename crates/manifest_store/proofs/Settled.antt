@@ -29,7 +29,7 @@ use Rattle.derive_step.proofs.Members.{contains_has, all_has}
 use Rattle.manifest_store.specs.Lines.{line_at, IsStore}
 use Rattle.manifest_store.specs.Manifests.{AreRight, AreManifests, HoldsAll, IsNode, IsSettledNode}
 use Rattle.manifest_store.specs.Jobs.{IsDoneOn, is_ready}
-use Rattle.manifest_store.specs.Settling.{IsCollision}
+use Rattle.manifest_store.specs.Settling.{IsCollision, IsNodeBeside, IsCollisionBeside}
 use Rattle.manifest_store.proofs.Lines.{known_here, line_step, line_stays, parent_stays}
 
 number_tied : (k number : ℕ) → eq_by_cmp nat_cmp k number ≡ (number == k)
@@ -80,7 +80,7 @@ module _ (ks more : List Known) (t : Table) (s : IsStore (ks ++ more)) (right : 
 -- ---- a changeset is settled
 
 -- a node of one of these lines is one of the definitions'
-node_of : (l : List Known) (x : Id) (bytes : List ℕ) → Contains (all_nodes_on l) bytes → Contains (nodes_in (manifests_on x l)) bytes
+pub node_of : (l : List Known) (x : Id) (bytes : List ℕ) → Contains (all_nodes_on l) bytes → Contains (nodes_in (manifests_on x l)) bytes
 node_of [] x bytes h = absurd (none h)
   where
     none : {b : List ℕ} → Contains [] b → ⊥
@@ -189,6 +189,14 @@ module _ (ks : List Known) (t : Table) (a : AreManifests ks t) (done : Done) (le
         own_parent None h p e = absurd cc
         own_parent (Some q) h p e = subst (λ q. is_settled t q ≡ true) (same_Some q p e) h
 
+  beside_nodes : (bytes : List ℕ) → IsAmong t.nodes ns bytes → IsNodeBeside ks t n bytes
+  beside_nodes bytes (inl h) = inl (a.alone bytes h)
+  beside_nodes bytes (inr c) = inr (all_has (Contains (all_nodes_on (line_at ks n))) ns bytes told.right (contains_has ns bytes c))
+
+  pub collided_beside : (fault : TableFault) → OfTwo fault t.nodes ns → IsCollisionBeside ks t n fault
+  collided_beside (faults.Collision id) h = (h.0, h.1, beside_nodes h.0 h.3, beside_nodes h.1 h.4, h.2, h.5, h.6)
+  collided_beside faults.Memory h = tt
+
   among_nodes : (bytes : List ℕ) → IsAmong t.nodes ns bytes → IsNode ks bytes
   among_nodes bytes (inl h) = let of = a.alone bytes h in is_node ks of.0 bytes (a.numbered of.0 of.1) of.2
   among_nodes bytes (inr c) = is_node ks n bytes less (all_has (Contains (all_nodes_on (line_at ks n))) ns bytes told.right (contains_has ns bytes c))
@@ -216,3 +224,7 @@ module _ (ks : List Known) (t : Table) (a : AreManifests ks t) (done : Done) (le
   pub collided_either : {X : Type 0} (r : Result X TableFault) → IfErr r (λ fault. OfTwo fault t.nodes ns) → IfErr r (λ fault. IsCollision ks fault)
   collided_either (Ok x) h = tt
   collided_either (Err fault) h = collided fault h
+
+  pub beside_either : {X : Type 0} (r : Result X TableFault) → IfErr r (λ fault. OfTwo fault t.nodes ns) → IfErr r (λ fault. IsCollisionBeside ks t n fault)
+  beside_either (Ok x) h = tt
+  beside_either (Err fault) h = collided_beside fault h

@@ -5,7 +5,7 @@ ghost use Rattle.node_table.specs.Table.{is_settled};
 ghost use Rattle.manifest_store.specs.Lines.{line_at};
 ghost use Rattle.manifest_store.specs.Manifests.{AreManifests};
 ghost use Rattle.manifest_store.specs.Jobs.{IsDoneOn, is_ready as is_ready_in, settled_by};
-ghost use Rattle.manifest_store.specs.Settling.{IsCollision};
+ghost use Rattle.manifest_store.specs.Settling.{IsCollision, IsCollisionBeside};
 
 use crate::store::ManifestStore;
 use changeset_store::ChangesetStore;
@@ -30,6 +30,7 @@ impl ManifestStore {
         ensures settled { is_ready_in changesets.now.known self.old done.number ≡ true → OnOk result (is_settled self.new done.number ≡ true) }
         ensures late { is_ready_in changesets.now.known self.old done.number ≡ false → IsOk result }
         ensures collision { IfErr result (λ fault. IsCollision changesets.now.known fault) }
+        ensures beside { IfErr result (λ fault. IsCollisionBeside changesets.now.known self.old done.number fault) }
         ensures manifests { AreManifests changesets.now.known self.new }
     {
         if !self.is_ready(changesets, done.number) {

@@ -13,3 +13,4 @@ pub mod Stepping
 pub mod Crashing
 pub mod Known
 pub mod Reading
+pub mod Settling

@@ -100,7 +100,7 @@ module _ (ks : List Known) (t : Table) (n : ℕ) (job : Job) (next : IsNextJob k
   done_ready = ap (is_ready ks t) same_changeset ∙ next.ready
 
 -- what is ready isn't settled
-unsettled : (ks : List Known) (t : Table) (n : ℕ) → is_ready ks t n ≡ true → is_settled t n ≡ false
+pub unsettled : (ks : List Known) (t : Table) (n : ℕ) → is_ready ks t n ≡ true → is_settled t n ≡ false
 unsettled ks t n ready = by (is_settled t n) _ ready
   where
     by : (a b : Bool) → (not a && b) ≡ true → a ≡ false
@@ -123,7 +123,7 @@ stay_by ks t done n h = by (is_ready ks t done.number)
 
 -- ---- the chain of a changeset is settled
 
-found_id : (h : List Entry) (x : Id) (n : ℕ) → number_in (known h) x ≡ Some n → (known_at (known h) n).id ≡ x
+pub found_id : (h : List Entry) (x : Id) (n : ℕ) → number_in (known h) x ≡ Some n → (known_at (known h) n).id ≡ x
 found_id h x n e =
     let newest = reverse (known h) in
     let among = sym (number_is newest (known_apart h) x) ∙ ap (λ ks. number_in ks x) (reverse-reverse (known h)) ∙ e in

@@ -1,14 +1,25 @@
 //! Laws of a repository in a file, each the contract of a function that does nothing.
-ghost use Rattle.std.specs.Prelude.{◌≡◌, IsTrue, List};
+ghost use Rattle.std.specs.Prelude.{◌≡◌, true, IsTrue, List, Some};
+ghost use Rattle.std.specs.List.{AllByRecursion};
 ghost use Rattle.disk_model.specs.Meaning.{Meaning};
-ghost use Rattle.history_model.specs.History.{Entry};
-ghost use Rattle.core_model.specs.Core.{State};
+ghost use Rattle.history_model.specs.History.{Entry, known};
+ghost use Rattle.history_model.specs.Journal.{Header};
+ghost use Rattle.core_model.specs.Core.{State, Step, after_steps};
 ghost use Rattle.step_laws.specs.Steps.{Shows};
+ghost use Rattle.settle_laws.specs.Settled.{leaves_manifests};
+ghost use Rattle.node_table.specs.Table.{Table};
+ghost use Rattle.manifest_store.specs.Manifests.{AreManifests};
 ghost use Rattle.turn_history.specs.Opening.{Opening};
-ghost use Rattle.repo_state.specs.Cores.{CrashesOf};
+ghost use Rattle.repo_state.specs.Cores.{CrashesOf, ShowsTable};
 ghost use Rattle.repo_state.specs.State.{IsSound};
 
 /// What a crash may leave of the file on an honest disk is what a crash of the repository of many seats leaves: of each state that shows the history, but that another record may be left over where a breaking fault is in it.
 pub fn a_crash_of_the_file_is_one_of_the_core()
     ensures { (opening : Opening) (h : List Entry) (m : Meaning) (s : State) → IsSound opening h m → IsTrue m.honest → Shows h s → CrashesOf opening.header h m s }
+{}
+
+/// Steps that neither take nor settle a job leave what is shown of a table, also where more becomes known.
+pub fn other_steps_leave_the_table()
+    ensures { (header : Header) (t : Table) (steps : List Step) (s after : State) → AreManifests (known s.history) t → AllByRecursion (λ step. leaves_manifests step ≡ true) steps → after_steps header s steps ≡ Some after →
+        ShowsTable (known s.history) t s → ShowsTable (known after.history) t after }
 {}

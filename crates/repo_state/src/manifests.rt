@@ -8,6 +8,7 @@ ghost use Rattle.manifest_store.specs.Lines.{line_at};
 ghost use Rattle.manifest_store.specs.Manifests.{AreManifests};
 ghost use Rattle.manifest_store.specs.Settling.{IsCollision};
 ghost use Rattle.seat_calls.specs.Asking.{fault_answer};
+ghost use Rattle.repo_state.specs.Cores.{SettlesSo, TakesJob};
 ghost use Rattle.repo_state.specs.Manifests.{IsNextOf};
 
 use crate::state::RepoState;
@@ -25,6 +26,9 @@ impl<D: Disk> RepoState<D> {
         ensures ok { IfOk result (IsNextOf (known self.now.history) self.now.table id) }
         ensures err { IfErr result (λ fault. Answers self.now.header self.now.history (Derives id) (fault_answer fault) nothing) }
         ensures manifests { AreManifests (known self.now.history) self.now.table }
+
+        // It is a step of the repository of many seats, after which it has this job.
+        ensures core { IfOk result (TakesJob self.now.header self.now.history self.now.table) }
     {
         let changesets = self.machine.changesets();
         let Some(number) = changesets.number_of(&id) else {
@@ -45,6 +49,9 @@ impl<D: Disk> RepoState<D> {
         ensures collision { IfErr result (IsCollision (known self.old.history)) }
         ensures manifests { AreManifests (known self.new.history) self.new.table }
         ensures same { self.new ≡ record self.old { table = self.new.table } }
+
+        // It is this step of the repository of many seats, where a job of the changeset was taken.
+        ensures core { SettlesSo self.old.header self.old.history self.old.table done.number result self.new.table }
     {
         self.manifests
             .settle(alloc, self.machine.changesets(), done)

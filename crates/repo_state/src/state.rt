@@ -1,11 +1,12 @@
 //! The repository.
 ghost use Rattle.std.specs.Prelude.{◌≡◌, length};
-ghost use Rattle.history_model.specs.History.{is_down, stored};
+ghost use Rattle.history_model.specs.History.{is_down, known, stored};
 ghost use Rattle.reply_model.specs.Legal.{IsLegal};
 ghost use Rattle.core_model.specs.Core.{opened};
 ghost use Rattle.step_laws.specs.Steps.{Shows};
 ghost use Rattle.node_table.specs.Table.{empty_table};
 ghost use Rattle.repo_journal.specs.Opened.{IsOpened};
+ghost use Rattle.repo_state.specs.Cores.{ShowsTable};
 ghost use Rattle.repo_state.specs.State.{IsSound, opening_of};
 
 use blob_disk::Disk;
@@ -68,6 +69,7 @@ impl<D: Disk> RepoState<D> {
 
         // As the repository of many seats begins.
         ensures core { Shows result.history (opened result.history) }
+        ensures core_table { ShowsTable (known result.history) result.table (opened result.history) }
     {
         let first = Snapshot::of(&disk);
         // The header's capacity is within the limits.

@@ -1,10 +1,11 @@
 use Rattle.std.proofs.Common.{◌≡◌, true, sym, subst, ◌∙◌}
-use Rattle.std.specs.Prelude.{is_some}
+use Rattle.std.specs.Prelude.{is_some, IfErr}
 use Rattle.std.specs.FinMap as map
 use Rattle.node_table.specs.Table.{Table, is_settled}
 use Rattle.manifest_store.specs.Manifests.{AreManifests}
 use Rattle.manifest_store.specs.Jobs.{is_ready}
-use Rattle.manifest_store.proofs.Settled.{settled_either, now_settled, collided_either}
+use Rattle.manifest_store.specs.Settling.{IsCollisionBeside}
+use Rattle.manifest_store.proofs.Settled.{settled_either, now_settled, collided_either, beside_either}
 use Rattle.manifest_store.proofs.store.ManifestStore.settle.Goals as goal
 
 are : (c : goal.After-settle) → AreManifests c.args.changesets.now.known c.self.inside.table
@@ -27,3 +28,8 @@ returns-clause-manifests c =
 pub returns-clause-settled : goal.returns-clause-settled
 returns-clause-settled c =
     λ _. now_settled c.args.changesets.now.known c.self.inside.table (are c) c.args.done c.requires.known c.requires.derived (ready c) (rooted c) c.settle.result c.settle.new.self c.settle.ensures.ok
+
+pub returns-clause-beside : goal.returns-clause-beside
+returns-clause-beside c =
+    subst (λ t. IfErr c.settle.result (λ fault. IsCollisionBeside c.args.changesets.now.known t c.args.done.number fault)) c.self.view_is
+    (beside_either c.args.changesets.now.known c.self.inside.table (are c) c.args.done c.requires.known c.requires.derived (ready c) (rooted c) c.settle.result c.settle.ensures.two)

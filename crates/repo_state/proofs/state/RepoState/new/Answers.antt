@@ -1,5 +1,6 @@
 use Rattle.repo_state.proofs.Known.{manifests_begin}
 use Rattle.repo_state.proofs.Sounds.{sound_opened, agrees_opened}
+use Rattle.repo_state.proofs.Settling.{opened_table}
 use Rattle.repo_state.proofs.Stepping.{opened_as}
 use Rattle.repo_state.proofs.state.RepoState.new.Goals as goal
 
@@ -15,3 +16,6 @@ returns-clause-sound g c = rw c.of-first.ensures (sound_opened _ _ c.args.journa
 
 pub returns-clause-core : goal.returns-clause-core
 returns-clause-core g c = opened_as c.args.machine.history c.requires.unseated
+
+pub returns-clause-core_table : goal.returns-clause-core_table
+returns-clause-core_table g c = opened_table c.args.machine.history c.new.result c.new.ensures.empty
