@@ -24,7 +24,6 @@ use Rattle.settle_laws.proofs.Rows.{same_id, or_none}
 use Rattle.settle_laws.proofs.Taking.{take_goes}
 use Rattle.settle_laws.proofs.Settling.{settles, settles_nothing, ready, told_same}
 use Rattle.settle_laws.proofs.Leaving.{steps_leave, shows_left}
-use Rattle.node_table.specs.Parts.{nodes_seen}
 use Rattle.node_table.specs.Table.{Table, Has, is_settled, with_nodes, settled_with, empty_table}
 use Rattle.node_table.specs.declared.fault.TableFault.{TableFault}
 use Rattle.node_table.specs.declared.fault.TableFault.TheVariants as tables
@@ -145,10 +144,10 @@ module _ (h : List Entry) (t : Table) (a : AreManifests (known h) t) where
 record Grows (t new : Table) (n : ℕ) : Type 0 where
   grows : (m : ℕ) → is_settled new m ≡ (is_settled t m || (n == m))
 
-grown : (t new : Table) (done : Done) → new ≡ settled_with t done.number done.roots (nodes_seen done.nodes.items) → is_settled t done.number ≡ false → is_settled new done.number ≡ true → Grows t new done.number
+grown : (t new : Table) (done : Done) → new ≡ settled_with t done.number done.roots (done.nodes.items) → is_settled t done.number ≡ false → is_settled new done.number ≡ true → Grows t new done.number
 grown t new done is was now = by (is_some (map.get t.roots done.number)) is
   where
-    by : (b : Bool) → new ≡ cond b t (record { nodes = with_nodes t.nodes (nodes_seen done.nodes.items); roots = map.insert t.roots done.number done.roots; settled = t.settled ++ done.number ∷ [] }) → Grows t new done.number
+    by : (b : Bool) → new ≡ cond b t (record { nodes = with_nodes t.nodes (done.nodes.items); roots = map.insert t.roots done.number done.roots; settled = t.settled ++ done.number ∷ [] }) → Grows t new done.number
     by true same = absurd (true≢false (sym now ∙ ap (λ (t : Table). is_settled t done.number) same ∙ was))
     by false same = record { grows = λ m. ap (λ (t : Table). is_settled t m) same ∙ list_any-append (λ s. s == m) t.settled (done.number ∷ []) ∙ ap (λ b. is_settled t m || b) (or_none (done.number == m) false) }
 
@@ -215,7 +214,7 @@ module _ (header : Header) (h : List Entry) (t new : Table) (a : AreManifests (k
       by true e = refl
       by false e = absurd (true≢false (sym (ready_here h t a n less (ready (known h) (settled_id (known h) t) id s rows has e)) ∙ late))
 
-  settles_now : (b : Bool) → is_ready (known h) t n ≡ b → new ≡ cond b (settled_with t n done.roots (nodes_seen done.nodes.items)) t → (b ≡ true → is_settled new n ≡ true) → (s : State) → Shows h s → ShowsTable (known h) t s → HasJob s id → Goes header s (Settle id ∷ []) (λ after. Shows h after × ShowsTable (known h) new after)
+  settles_now : (b : Bool) → is_ready (known h) t n ≡ b → new ≡ cond b (settled_with t n done.roots (done.nodes.items)) t → (b ≡ true → is_settled new n ≡ true) → (s : State) → Shows h s → ShowsTable (known h) t s → HasJob s id → Goes header s (Settle id ∷ []) (λ after. Shows h after × ShowsTable (known h) new after)
   settles_now true is same now s shows rows has = put h t new a after n less (grown t new done same (unsettled (known h) t n is) (now refl)) header s shows rows has
   settles_now false is same now s shows rows has = kept h t a header n new s same (inl (settled_late s is rows has)) shows rows has
 
