@@ -5,11 +5,13 @@
 --     asks_manifest question      the read is answered from manifests
 --     manifest_fault fault, table_fault fault      why a read sees nothing, where manifests can't be read, or put in
 --     ids_answer result      the answer of a read that sees ids
+--     roots_answer result      the answer to a request to derive a changeset's manifests
 use Rattle.std.specs.Prelude.{◌≡◌, ◌<◌, ℕ, Bool, true, false, List, length, Option, Some, Vec, Result, Ok, Err}
 use Rattle.byte_fields.specs.Bytes.{Id}
 use Rattle.history_model.specs.History.{Entry, Known, known}
 use Rattle.history_model.specs.Journal.{Header, is_header}
 use Rattle.node_table.specs.Table.{Table, is_settled}
+use Rattle.node_table.specs.declared.roots.Roots.{Roots}
 use Rattle.changeset_store.specs.Store.{number_in}
 use Rattle.derive_step.specs.declared.job.Job.{Job}
 use Rattle.manifest_store.specs.Jobs.{IsNext}
@@ -62,3 +64,7 @@ table_fault tables.Memory = asked.Memory
 abbrev pub ids_answer : {A : Type 0} → Result (Vec Id A) AskFault → Answer
 ids_answer (Ok ids) = answers.Shows (reply.SeenIds ids.items)
 ids_answer (Err fault) = fault_answer fault
+
+abbrev pub roots_answer : Result Roots AskFault → Answer
+roots_answer (Ok roots) = answers.Roots roots.fsnode roots.unode
+roots_answer (Err fault) = fault_answer fault

@@ -3,6 +3,7 @@
 #![tactic(auto)]
 
 mod changes;
+mod derivation;
 mod landing;
 mod landing_turns;
 mod manifests;
@@ -12,6 +13,7 @@ mod seat;
 mod served;
 mod turns;
 
+pub use node_table::Roots;
 pub use repo::Repo;
 pub use seat::RepoSeat;
 pub use served::Served;
