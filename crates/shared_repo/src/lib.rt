@@ -3,6 +3,8 @@
 #![tactic(auto)]
 
 mod changes;
+mod derivation;
+mod derivation_turns;
 mod landing;
 mod landing_turns;
 mod manifests;
@@ -12,6 +14,7 @@ mod seat;
 mod served;
 mod turns;
 
+pub use node_table::Roots;
 pub use repo::Repo;
 pub use seat::RepoSeat;
 pub use served::Served;
