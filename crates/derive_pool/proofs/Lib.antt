@@ -1,2 +1,3 @@
 pub mod Deriving
 pub mod Pages
+pub mod Sending

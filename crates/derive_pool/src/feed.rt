@@ -15,7 +15,7 @@ use std::sync::Wait;
 
 /// What tells derivers of the changesets in the log. Contracts see the number of the entry that its next
 /// page begins with.
-#[derive(Drop)]
+#[derive(Clone, Drop)]
 pub struct Feed {
     ids: IdsTo,
     next: u64,
