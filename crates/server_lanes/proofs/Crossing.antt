@@ -1,4 +1,4 @@
--- What a lane has may cross to another thread. Each lemma is of one type by those of its parts, since one search through all of them runs out of steps.
+-- What a lane has may cross to another thread, and what a deriver has. Each lemma is of one type by those of its parts, since one search through all of them runs out of steps.
 use denote.RattleType.{RattleType}
 use denote.Ref.{NamedLft}
 use denote.Param.Send.{IsSend, IsSync, sendable}
@@ -7,7 +7,12 @@ use Rattle.std.proofs.sync.ledger.Share.TheSendSync as shares
 use Rattle.std.specs.declared.sync.ledger.Ledger as ledgers
 use Rattle.blob_disk.specs.declared.disk.Disk as disks
 use Rattle.ports.specs.declared.link.Link as links
+use Rattle.derive_pool.proofs.Sending.{feed_send, from_send}
 use Rattle.shared_repo.proofs.Sending.{repo_sync, seat_send}
+use Rattle.std.specs.contracts.option.Option as Option
+use Rattle.derive_pool.specs.contracts.feed.Feed as Feed
+use Rattle.server_lanes.specs.contracts.deriving_seat.DerivingSeat as DerivingSeat
+use Rattle.server_lanes.specs.contracts.derivers.Deriver as Deriver
 use Rattle.shared_repo.specs.contracts.served.Served as Served
 use Rattle.http_front.specs.contracts.connection.ServedLinks as Links
 use Rattle.server_lanes.specs.declared.run.Run as runs
@@ -20,9 +25,18 @@ served_send l R D G d r may gate = let seat = seat_send in let repo = repo_sync 
 pub links_send : (L : RattleType) → IsSend L → IsSend (Links.the_row L)
 links_send L may = search (crosses, sendable) depth 20
 
+pub feeds_send : IsSend (Option.the_field Feed.the_row).row
+feeds_send = let f = feed_send in search sendable depth 20
+
+pub deriving_send : (l : NamedLft) (R D : RattleType) (d : disks.Ghosts D.Denot) → IsSync R → IsSend D → IsSend (DerivingSeat.the_row l R D d)
+deriving_send l R D d r may = let seat = seat_send in let repo = repo_sync D d may in search sendable depth 20
+
+pub deriver_send : (l : NamedLft) (R D : RattleType) (d : disks.Ghosts D.Denot) → IsSync R → IsSend D → IsSend (Deriver.the_row l R D d)
+deriver_send l R D d r may = let seat = deriving_send l R D d r may in let ids = from_send in search sendable depth 20
+
 module _ (L K E : RattleType) (l : links.Ghosts L.Denot) (r : runs.Ghosts K.Denot) (k : ledgers.Ghosts K.Denot) (e : ledgers.Ghosts E.Denot) (may_l : IsSend L) (may_k : IsSend K) (may_e : IsSend E) where
   pub tally_send : IsSend (Tally.the_row L K E l r k e)
   tally_send = let served = links_send L may_l in search (shares.the_send, sendable) depth 20
 
   pub lane_send : (life : NamedLft) (R D G : RattleType) (d : disks.Ghosts D.Denot) → IsSync R → IsSend D → IsSync G → IsSend (Lane.the_row life R D G L K E d l r k e)
-  lane_send life R D G d rt may gate = let seat = served_send life R D G d rt may gate in let tally = tally_send in search sendable depth 20
+  lane_send life R D G d rt may gate = let seat = served_send life R D G d rt may gate in let tally = tally_send in let feed = feeds_send in search sendable depth 20

@@ -8,6 +8,7 @@ use crate::door::Door;
 use crate::run::Run;
 use crate::tally::Tally;
 use blob_disk::Disk;
+use derive_pool::Feed;
 use ports::{Accept, Gate, Link};
 use routes::Routes;
 use shared_repo::{RepoSeat, Served};
@@ -16,11 +17,12 @@ use std::marker::Model;
 use std::sync::ledger::Ledger;
 use std::sync::{Mutex, Wait};
 
-/// A seat, and how many links were served at it.
+/// A seat, and how many links were served at it; and where there are derivers, what tells them of the log.
 #[derive(Drop)]
 pub(crate) struct Lane<'a, R: Wait, D: Disk, G: Gate, L: Link, K: Run, E: Ledger> {
     seat: Served<'a, R, D, G>,
     tally: Tally<L, K, E>,
+    feed: Option<Feed>,
 }
 
 impl<'a, R: Wait, D: Disk, G: Gate, L: Link, K: Run, E: Ledger> Model
@@ -34,10 +36,10 @@ impl<'a, R: Wait, D: Disk, G: Gate, L: Link, K: Run, E: Ledger> Model
 
 impl<'a, R: Wait, D: Disk, G: Gate, L: Link, K: Run, E: Ledger> Lane<'a, R, D, G, L, K, E> {
     /// A lane at this seat.
-    pub(crate) fn new(seat: Served<'a, R, D, G>, tally: Tally<L, K, E>) -> Self
+    pub(crate) fn new(seat: Served<'a, R, D, G>, tally: Tally<L, K, E>, feed: Option<Feed>) -> Self
         ensures { result ≡ record { place = seat.entry; tally = tally } }
     {
-        Lane { seat, tally }
+        Lane { seat, tally, feed }
     }
 
     // Takes a link of the door and serves it to its end. Says whether there was one.
@@ -57,6 +59,28 @@ impl<'a, R: Wait, D: Disk, G: Gate, L: Link, K: Run, E: Ledger> Lane<'a, R, D, G
             .serve_next(rt, alloc, routes, door, &mut self.seat)
     }
 
+    // Tells the derivers, if there are any, what the next page of the log has.
+    fn feed_derivers(&mut self, rt: &R, alloc: Global)
+        ensures home { with_front self.new.place [] ≡ with_front self.old.place [] }
+        ensures tally { self.new.tally ≡ self.old.tally }
+    {
+        let Lane {
+            seat,
+            tally: _,
+            feed,
+        } = self;
+        if let Some(feed) = feed {
+            feed.read_page(rt, alloc, seat);
+        }
+    }
+
+    // Tells them nothing more. They go on until no lane does.
+    fn end_feed(&mut self)
+        ensures { self.new ≡ self.old }
+    {
+        self.feed = None;
+    }
+
     /// Its seat, and its tally.
     pub(crate) fn into_parts(self) -> (RepoSeat, Tally<L, K, E>)
         ensures seat { result.0 ≡ self.entry.place }
@@ -67,7 +91,7 @@ impl<'a, R: Wait, D: Disk, G: Gate, L: Link, K: Run, E: Ledger> Lane<'a, R, D, G
 }
 
 /// The lane takes links of the door, one after another, and serves each to its end, however that is,
-/// until no more will come.
+/// until no more will come. After each it reads a page of the log for the derivers.
 pub(crate) fn serve_links<R: Wait, D: Disk, G: Gate, L: Link, K: Run, E: Ledger, A: Accept<L>>(
     rt: &R,
     alloc: Global,
@@ -81,8 +105,10 @@ pub(crate) fn serve_links<R: Wait, D: Disk, G: Gate, L: Link, K: Run, E: Ledger,
     for _ in rt.forever() {
         let served = lane.serve_next(rt, alloc, routes, door);
         if !served {
+            lane.end_feed();
             return;
         }
+        lane.feed_derivers(rt, alloc);
     }
     unreachable!()
 }

@@ -1,22 +1,21 @@
 //! All lanes of a server: from the first seat split off to the last one joined.
-ghost use Rattle.std.specs.Prelude.{◌≡◌, ◌+◌, ◌<◌, ◌≤◌, ◌^◌, All, IfOk, OnOk, length, vec_len};
+ghost use Rattle.std.specs.Prelude.{◌≡◌, ◌+◌, ◌<◌, ◌≤◌, ◌^◌, All, IfOk, OnOk, vec_len};
 ghost use Rattle.bookmark_lock.specs.Place.{Site};
-ghost use Rattle.server_lanes.specs.Lanes.{HasRun, IsAt, IsDone, TakesBack};
+ghost use Rattle.server_lanes.specs.Lanes.{IsAt, IsDone, TakesBack};
 
 use crate::door::Door;
-use crate::lane::{Lane, serve_links};
+use crate::lane::Lane;
 use crate::run::Run;
 use crate::tally::Tally;
 use blob_disk::Disk;
+use derive_pool::Feed;
 use ports::{Accept, Gate, Link};
-use routes::Routes;
 use shared_repo::{Repo, RepoSeat, Served};
 use std::alloc::{AllocError, Global};
+use std::sync::Wait;
 use std::sync::ledger::Ledger;
-use std::sync::{Mutex, Wait};
-use std::thread::{Threads, for_each_mut};
 
-/// So many lanes, each at a seat of its own. All memory is taken here.
+/// So many lanes, each at a seat of its own, and with a feed where one is given. All memory is taken here.
 pub(crate) fn split_lanes<'a, R: Wait, D: Disk, G: Gate, L: Link, K: Run, E: Ledger>(
     rt: &'a R,
     alloc: Global,
@@ -25,6 +24,7 @@ pub(crate) fn split_lanes<'a, R: Wait, D: Disk, G: Gate, L: Link, K: Run, E: Led
     lead: &mut RepoSeat,
     tally: &mut Tally<L, K, E>,
     lanes: u64,
+    feed: Option<Feed>,
 ) -> Result<Vec<Lane<'a, R, D, G, L, K, E>>, AllocError>
     requires place { lead.old.lock ≡ repo.now }
     requires leads { lead.old.number ≡ 0 }
@@ -38,45 +38,9 @@ pub(crate) fn split_lanes<'a, R: Wait, D: Disk, G: Gate, L: Link, K: Run, E: Led
     let mut made = Vec::with_capacity(alloc, lanes as usize)?;
     for _ in 0..lanes {
         let seat = Served::new(rt, repo, repo.split(lead), gate);
-        made.push(Lane::new(seat, tally.split_off()))?;
+        made.push(Lane::new(seat, tally.split_off(), feed.clone()?))?;
     }
     Ok(made)
-}
-
-/// Each lane serves links of the door in a thread of its own, until no more will come. Where no thread
-/// can be made, they serve one after another.
-pub(crate) fn run_lanes<
-    R: Threads + Wait + Sync,
-    D: Disk + Send,
-    G: Gate + Sync,
-    A: Accept<L> + Send,
-    L: Link + Send,
-    K: Run + Send + Sync,
-    E: Ledger + Send + Sync,
->(
-    rt: &R,
-    alloc: Global,
-    routes: &Routes,
-    door: Door<A, L, K, E>,
-    lanes: &mut [Lane<'_, R, D, G, L, K, E>],
-) -> Door<A, L, K, E>
-    requires some { 0 < length lanes.old }
-    requires parts { All (λ lane. lane.tally.parts ≡ 1) lanes.old }
-    ensures { (site : Site) → All (IsAt site) lanes.old → All (IsDone site) lanes.new }
-{
-    let shared = Mutex::new(door);
-    let door = &shared;
-    let threads = lanes.len();
-    for_each_mut(
-        rt,
-        lanes,
-        threads,
-        &|_, lane: &mut Lane<'_, R, D, G, L, K, E>|
-            requires { lane.old.tally.parts ≡ 1 }
-            ensures { HasRun lane.old lane.new }
-        { serve_links(rt, alloc, routes, door, lane) },
-    );
-    shared.into_inner()
 }
 
 // The lead joins the seat of one lane.

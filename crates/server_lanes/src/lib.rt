@@ -1,8 +1,12 @@
 //! Many connections on one repository: lanes take links from one accept, and each serves its own at a
-//! seat of its own, at once with the others.
+//! seat of its own, at once with the others. Beside them derivers derive manifests ahead of their reads.
 #![tactic(auto)]
 
+mod both;
 mod closing;
+mod crew;
+mod derivers;
+mod deriving_seat;
 mod door;
 mod lane;
 mod lanes;

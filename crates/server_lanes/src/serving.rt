@@ -1,17 +1,19 @@
 //! A server, from its first link to its last.
-ghost use Rattle.std.specs.Prelude.{◌≡◌, ◌<◌, ◌≤◌, ◌^◌, All, IfSome, IfNone, OnSome, ◌+◌, vec_len};
+ghost use Rattle.std.specs.Prelude.{◌≡◌, ◌+◌, ◌<◌, ◌≤◌, ◌^◌, ℕ, All, IfSome, IfNone, OnSome, vec_len};
 ghost use mathlib.Core.List.{IsPrefix};
 ghost use Rattle.history_model.specs.History.{Entry};
 ghost use Rattle.repo_machine.specs.Seats.{cleared};
 ghost use Rattle.bookmark_lock.specs.Place.{lead_place};
 ghost use Rattle.shared_repo.specs.Front.{IsFront};
+ghost use Rattle.server_lanes.specs.Derivers.{AreNumbered, AreUnused, IsIdle};
 ghost use Rattle.server_lanes.specs.Lanes.{IsAt, TakesBack};
 ghost use Rattle.server_lanes.specs.Serving.{Gave, IsThrough};
 
 use crate::closing::Closing;
+use crate::crew::{Crew, Numbers, run_crew, split_crew};
+use crate::derivers::join_derivers;
 use crate::door::Door;
-use crate::lane::Lane;
-use crate::lanes::{join_lanes, run_lanes, split_lanes};
+use crate::lanes::join_lanes;
 use crate::run::Run;
 use crate::tally::Tally;
 use blob_disk::Disk;
@@ -22,12 +24,12 @@ use routes::Routes;
 use shared_repo::{Repo, RepoSeat};
 use std::alloc::Global;
 use std::marker::Brand;
-use std::sync::Wait;
 use std::sync::ledger::{Blank, Ledger};
+use std::sync::{Mutex, Wait};
 use std::thread::Threads;
 
-// Serves by these lanes until no more links come, and joins their seats. Answers the accept, and how
-// many links were served.
+// Serves by these lanes until no more links come, and joins all seats. Answers the accept, and how many
+// links were served.
 fn serve_by<
     R: Threads + Wait + Sync,
     D: Disk + Send,
@@ -42,24 +44,40 @@ fn serve_by<
     routes: &Routes,
     repo: &Repo<D>,
     lead: &mut RepoSeat,
-    lanes: Vec<Lane<'_, R, D, G, L, K, E>>,
+    crew: Crew<'_, R, D, G, L, K, E>,
     door: Door<A, L, K, E>,
     rest: Tally<L, K, E>,
 ) -> (A, ServedLinks<L>)
     requires place { lead.old.lock ≡ repo.now }
     requires leads { lead.old.number ≡ 0 }
-    requires some { 0 < vec_len lanes }
-    requires lanes { All (IsAt repo.now) lanes.items }
-    requires parts { rest.parts + vec_len lanes ≡ K.parts }
-    ensures lead { TakesBack lead.old (vec_len lanes.entry) lead.new }
+    requires some { 0 < vec_len crew.lanes }
+    requires lanes { All (IsAt repo.now) crew.lanes.items }
+    requires idle { All (IsIdle repo.now) crew.derivers.items }
+    requires parts { rest.parts + vec_len crew.lanes ≡ K.parts }
+    ensures lead { TakesBack lead.old (vec_len crew.entry.lanes + vec_len crew.entry.derivers) lead.new }
+    ensures unused { (first : ℕ) → AreNumbered first crew.entry.derivers.items → AreUnused first (vec_len crew.entry.derivers) lead.new.front }
     ensures gave { Gave result.1 K.given (A.given result.0) }
     ensures few { result.1 ≤ K.connections }
     ensures through { IsThrough result.1 K.connections (A.over result.0) K.faults (A.faults result.0) }
     ensures faults { K.faults ≤ A.faults result.0 }
 {
-    let mut lanes = lanes;
-    let mut door = run_lanes(rt, alloc, routes, door, lanes.as_mut_slice());
-    join_lanes(repo, lead, lanes, &mut door, rest).close(door)
+    let Crew {
+        mut lanes,
+        mut derivers,
+    } = crew;
+    let shared = Mutex::new(door);
+    run_crew(
+        rt,
+        alloc,
+        routes,
+        &shared,
+        lanes.as_mut_slice(),
+        derivers.as_mut_slice(),
+    );
+    let mut door = shared.into_inner();
+    let tally = join_lanes(repo, lead, lanes, &mut door, rest);
+    join_derivers(repo, lead, derivers);
+    tally.close(door)
 }
 
 // Serves on a repository that is led from here.
@@ -78,14 +96,15 @@ fn serve_on<
     repo: Repo<D>,
     lead: RepoSeat,
     gate: &G,
-    lanes: u64,
+    numbers: Numbers,
     door: Door<A, L, K, E>,
     tally: Tally<L, K, E>,
 ) -> Closing<D, A, L>
-    requires lanes { (0 < lanes) × (lanes ≤ 2 ^ 63) }
+    requires some { 0 < numbers.lanes }
+    requires room { numbers.lanes + numbers.derivers ≤ 2 ^ 63 }
     requires lead { lead ≡ lead_place repo lead.front }
-    requires parts { K.parts ≡ lanes }
-    requires tally { tally ≡ record { parts = lanes; served = 0; told = 0 } }
+    requires parts { K.parts ≡ numbers.lanes }
+    requires tally { tally ≡ record { parts = numbers.lanes; served = 0; told = 0 } }
     requires given { A.given door.accept ≡ K.given }
     requires faults { A.faults door.accept ≡ K.faults }
     ensures served { Gave result.served (A.given door.accept) (A.given result.accept) }
@@ -96,18 +115,18 @@ fn serve_on<
     ensures opening { IfSome result.state (λ s. s.opening ≡ repo.opening) }
     ensures begins { IfSome result.state (λ s. IsPrefix lead.front s.history) }
     ensures front { IfSome result.state (λ s. IsFront s.opening s.history) }
-    ensures numbers { IfSome result.state (λ s. All (λ (e : Entry). e.who ≤ lanes) s.history) }
+    ensures numbers { IfSome result.state (λ s. All (λ (e : Entry). e.who ≤ numbers.lanes) s.history) }
 {
     let mut lead = lead;
     let mut tally = tally;
-    let Ok(made) = split_lanes(rt, alloc, &repo, gate, &mut lead, &mut tally, lanes) else {
+    let Ok(crew) = split_crew(rt, alloc, &repo, gate, &mut lead, &mut tally, numbers) else {
         return Closing {
             state: None,
             accept: door.into_accept(),
             served: ServedLinks::new(),
         };
     };
-    let (accept, served) = serve_by(rt, alloc, routes, &repo, &mut lead, made, door, tally);
+    let (accept, served) = serve_by(rt, alloc, routes, &repo, &mut lead, crew, door, tally);
     Closing {
         state: Some(repo.close(lead)),
         accept,
@@ -131,11 +150,13 @@ fn run<
     accept: A,
     gate: &G,
     lanes: u64,
+    derivers: u64,
     connections: u64,
     links: Blank,
     ends: Blank,
 ) -> Closing<D, A, L>
     requires lanes { (0 < lanes) × (lanes ≤ 2 ^ 63) }
+    requires room { lanes + derivers ≤ 2 ^ 63 }
     requires links { (links.name ≡ K.name) × (links.parts ≡ K.parts) × (links.parts ≡ lanes) }
     requires ends { (ends.name ≡ E.name) × (ends.parts ≡ E.parts) × (ends.parts ≡ lanes) }
     requires connections { connections ≡ K.connections }
@@ -158,6 +179,11 @@ fn run<
             served: ServedLinks::new(),
         };
     };
+    let numbers = Numbers {
+        lanes,
+        derivers,
+        next: state.counts().entries,
+    };
     let Ok((repo, lead)) = Repo::new(alloc, state) else {
         return Closing {
             state: None,
@@ -169,11 +195,12 @@ fn run<
     let (ends, told) = ends.open::<E>();
     let door = Door::new(accept, connections, links, ends);
     let tally = Tally::new(counted, told);
-    serve_on(rt, alloc, &routes, repo, lead, gate, lanes, door, tally)
+    serve_on(rt, alloc, &routes, repo, lead, gate, numbers, door, tally)
 }
 
 /// Serves so many connections of the accept, or all that it gives, at most `lanes` of them at once.
-/// Each link that it gives has a session of its own. Where memory is refused, no link is taken.
+/// Each link that it gives has a session of its own. So many derivers derive the manifests of new
+/// changesets meanwhile, and make no entry. Where memory is refused, no link is taken.
 pub fn serve_all<
     R: Threads + Wait + Sync,
     D: Disk + Send,
@@ -187,9 +214,11 @@ pub fn serve_all<
     accept: A,
     gate: &G,
     lanes: u64,
+    derivers: u64,
     connections: u64,
 ) -> Closing<D, A, L>
     requires lanes { (0 < lanes) × (lanes ≤ 2 ^ 63) }
+    requires room { lanes + derivers ≤ 2 ^ 63 }
     ensures served { Gave result.served (A.given accept) (A.given result.accept) }
     ensures share { result.served ≤ connections }
     ensures through { OnSome result.state (IsThrough result.served connections (A.over result.accept) (A.faults accept) (A.faults result.accept)) }
@@ -207,6 +236,7 @@ pub fn serve_all<
         accept,
         gate,
         lanes,
+        derivers,
         connections,
         Blank::new(lanes),
         Blank::new(lanes),

@@ -1,0 +1,3 @@
+pub mod Deriving
+pub mod Pages
+pub mod Sending

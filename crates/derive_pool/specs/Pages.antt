@@ -1,0 +1,32 @@
+-- What is told to derivers of a page of the log.
+--     told_id line      the changeset that an entry tells of: an uploaded one, or the last of a landed stack
+--     next_after from answer      where the next page begins, once the page from this number on is answered so, or the last number of 64 bits
+use Rattle.std.specs.Prelude.{ℕ, ◌+◌, ◌^◌, min, length, Option, None, Some, ◌-◌, slice_get}
+use Rattle.byte_fields.specs.Bytes.{Id}
+use Rattle.reply_model.specs.Log.{LogLine, ContentLine, ChangesetLine, BookmarkLine, LandingLine, lines_of}
+use Rattle.reply_model.specs.Reply.{Seen, SeenHead, SeenBytes, SeenLog, SeenIds}
+use Rattle.reply_model.specs.After.{Answer, Grants, Refuses, Shows, Lacks, Roots, DiskFault, ReadFault, BadBytes, NodeCollision, Memory}
+
+abbrev pub told_id : LogLine → Option Id
+told_id (ContentLine id length) = None
+told_id (ChangesetLine id) = Some id
+told_id (BookmarkLine move) = None
+told_id (LandingLine name old draft ids) = slice_get ids (length ids - 1)
+
+abbrev pub after_seen : ℕ → Seen → ℕ
+after_seen from (SeenHead head) = from
+after_seen from (SeenBytes bytes) = from
+after_seen from (SeenLog page total) = min (from + length (lines_of page)) (2 ^ 64 - 1)
+after_seen from (SeenIds ids) = from
+
+abbrev pub next_after : ℕ → Answer → ℕ
+next_after from (Grants granted) = from
+next_after from (Refuses refusal) = from
+next_after from (Shows seen) = after_seen from seen
+next_after from (Lacks absent) = from
+next_after from (Roots fsnode unode) = from
+next_after from DiskFault = from
+next_after from ReadFault = from
+next_after from (BadBytes wanted found) = from
+next_after from (NodeCollision id) = from
+next_after from Memory = from
