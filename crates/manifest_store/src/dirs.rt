@@ -1,5 +1,5 @@
 //! The nodes of the parent in the directories that a changeset touches.
-ghost use Rattle.std.specs.Prelude.{◌≡◌, ◌++◌, ◌∷◌, [], true, is_some, option_map, Some, IfOk, OnOk, IsTrue};
+ghost use Rattle.std.specs.Prelude.{◌≡◌, ◌↔◌, ◌++◌, ◌∷◌, [], true, is_some, option_map, Some, IfOk, OnOk, IsTrue};
 ghost use Rattle.std.specs.List.{list_any};
 ghost use Rattle.std.specs.Option.{option_and_then, option_copied};
 ghost use Rattle.bonsai.specs.View.{edits_view};
@@ -70,7 +70,7 @@ fn add_all_above(
 }
 
 fn is_same(last: Option<&str>, dir: &str) -> bool
-    ensures { result ≡ true → option_copied last.entry ≡ Some dir.now }
+    ensures { IsTrue result ↔ (option_copied last.entry ≡ Some dir.now) }
 {
     match last {
         Some(last) => last == dir,

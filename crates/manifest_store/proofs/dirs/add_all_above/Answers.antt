@@ -12,7 +12,7 @@ loop-edit-preserved-then-is_same c =
     let m = c.args.table.now.nodes in
     let b = before_seen c.args.root.now in
     let inside = c.in-Some.ensures.inside in
-    let full = last_full (λ t. AreFull m b c.loop-edit.dirs (elements t)) c.loop-edit.last c.in-Some.dir.now (c.is_same.ensures c.if-is_same.true) c.loop-edit.invariant.last in
+    let full = last_full (λ t. AreFull m b c.loop-edit.dirs (elements t)) c.loop-edit.last c.in-Some.dir.now (c.is_same.ensures.0 c.if-is_same.true) c.loop-edit.invariant.last in
     record {
       dirs = c.loop-edit.invariant.dirs;
       last = c.loop-edit.invariant.last;
