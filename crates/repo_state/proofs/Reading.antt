@@ -21,7 +21,6 @@ use Rattle.reply_model.specs.Reply.{Seen, SeenBytes, SeenIds, Absent, AbsentChan
 use Rattle.reply_model.specs.After as answers
 use Rattle.reply_model.specs.After.{Answers, AsksManifest, Looks, Derives, nothing}
 use Rattle.node_table.specs.Table.{Table, is_settled, with_nodes, settled_with}
-use Rattle.node_table.specs.Parts.{nodes_seen}
 use Rattle.node_table.specs.declared.roots.Roots.{Roots}
 use Rattle.node_table.specs.declared.fault.TableFault.{TableFault}
 use Rattle.node_table.specs.declared.fault.TableFault.TheVariants as tables
@@ -111,17 +110,17 @@ unsettled ks t n ready = by (is_settled t n) _ ready
     by true b h = absurd (true≢false (sym h))
     by false b h = refl
 
-stay_with : (t : Table) (done : Done) → StaySettled t (settled_with t done.number done.roots (nodes_seen done.nodes.items))
+stay_with : (t : Table) (done : Done) → StaySettled t (settled_with t done.number done.roots done.nodes.items)
 stay_with t done n h = by (is_some (map.get t.roots done.number))
   where
-    by : (b : Bool) → is_settled (cond b t (record { nodes = with_nodes t.nodes (nodes_seen done.nodes.items); roots = map.insert t.roots done.number done.roots; settled = t.settled ++ done.number ∷ [] })) n ≡ true
+    by : (b : Bool) → is_settled (cond b t (record { nodes = with_nodes t.nodes done.nodes.items; roots = map.insert t.roots done.number done.roots; settled = t.settled ++ done.number ∷ [] })) n ≡ true
     by true = h
     by false = list_any-append (λ s. s == n) t.settled (done.number ∷ []) ∙ or_left (is_settled t n) (list_any (λ s. s == n) (done.number ∷ [])) h
 
 pub stay_by : (ks : List Known) (t : Table) (done : Done) → StaySettled t (settled_by ks t done)
 stay_by ks t done n h = by (is_ready ks t done.number)
   where
-    by : (b : Bool) → is_settled (cond b (settled_with t done.number done.roots (nodes_seen done.nodes.items)) t) n ≡ true
+    by : (b : Bool) → is_settled (cond b (settled_with t done.number done.roots done.nodes.items) t) n ≡ true
     by true = stay_with t done n h
     by false = h
 

@@ -127,8 +127,7 @@ impl<D: Disk> Repo<D> {
         )
     }
 
-    // The turn in which what was derived is put in without a copy of it. Each new node is hashed
-    // again, to find its place.
+    // The turn in which what was derived is put in, without a copy of it and with nothing hashed.
     #[tactic(auto, using(crate::proofs::Derivations::derived_later))]
     fn settle<R: Wait>(
         &self,
