@@ -44,8 +44,9 @@ impl<D: Disk> Repo<D> {
         self.derive_chain(rt, alloc, seat, id)
     }
 
-    /// The same, answered at what the seat has seen in the end. Each round ends the call or comes
-    /// after one more changeset of the chain is settled, by this seat or by another.
+    /// The same, answered at what the seat has seen in the end. Each round ends the call, or leaves
+    /// one changeset more of the chain settled, by this seat or by another; so the call ends, though
+    /// nothing bounds its rounds.
     #[tactic(auto, using(crate::proofs::Fronts::sees_nothing, crate::proofs::Fronts::sees_twice))]
     pub(crate) fn derive_chain<R: Wait>(
         &self,
@@ -126,7 +127,7 @@ impl<D: Disk> Repo<D> {
         )
     }
 
-    // The turn in which what was derived is put in, without a copy of it.
+    // The turn in which what was derived is put in, without a copy of it and with nothing hashed.
     #[tactic(auto, using(crate::proofs::Derivations::derived_later))]
     fn settle<R: Wait>(
         &self,
