@@ -89,16 +89,19 @@ where
             Command::Serve {
                 file,
                 lanes,
+                derivers,
                 connections,
                 ..
             },
         ) => {
-            let (lanes, connections) = (u64::from(lanes), u64::from(connections));
+            let (lanes, derivers) = (u64::from(lanes), u64::from(derivers));
+            let connections = u64::from(connections);
             run_serve(
                 rt,
                 alloc,
                 file,
                 lanes,
+                derivers,
                 connections,
                 link,
                 opener,

@@ -27,12 +27,14 @@ use std::sync::Wait;
 use std::thread::Threads;
 
 /// Serves the connections that the accept gives on the repository in the file of this name, so many at most and in so many lanes,
-/// and reports the end in one line. No connection is taken where the file or the repository in it isn't opened.
+/// while so many derivers derive ahead, and reports the end in one line. No connection is taken where the file or the repository
+/// in it isn't opened.
 pub(crate) fn run_serve<R, D, O, L, A, K, G>(
     rt: &R,
     alloc: Global,
     file: &str,
     lanes: u64,
+    derivers: u64,
     connections: u64,
     link: &mut L,
     opener: &mut O,
@@ -47,12 +49,22 @@ where
     A: Accept<K> + Send,
     K: Link + Send,
     G: Gate + Sync,
-    requires { (1 ≤ lanes) × (lanes ≤ 16) }
+    requires { (1 ≤ lanes) × (lanes ≤ 16) × (derivers ≤ 8) }
     ensures runs { RunsServe D.meaning file.now lanes connections (outside O.shelf O.faults L.rest L.written L.faults opener.old link.old) (outside O.shelf O.faults L.rest L.written L.faults opener.new link.new) (links A.given A.over A.faults accept result.accept result.served) (record { status = result.status; disk = result.disk }) }
     ensures served { IsServed (links A.given A.over A.faults accept result.accept result.served) }
 {
     match open_file(alloc, opener, file) {
-        Ok(opened) => serve_opened(rt, alloc, opened, lanes, connections, link, accept, gate),
+        Ok(opened) => serve_opened(
+            rt,
+            alloc,
+            opened,
+            lanes,
+            derivers,
+            connections,
+            link,
+            accept,
+            gate,
+        ),
         Err(outcome) => apart(tell(outcome, link), accept),
     }
 }
@@ -63,6 +75,7 @@ fn serve_opened<R, D, L, A, K, G>(
     alloc: Global,
     opened: OpenedFile<D>,
     lanes: u64,
+    derivers: u64,
     connections: u64,
     link: &mut L,
     accept: A,
@@ -79,6 +92,7 @@ where
     requires legal { IsLegal opened.machine.header opened.machine.history }
     requires stored { opened.machine.history ≡ stored opened.machine.history }
     requires lanes { (1 ≤ lanes) × (lanes ≤ 16) }
+    requires derivers { derivers ≤ 8 }
     ensures runs { RunsOpened D.meaning opened.machine.header opened.machine.history opened.journal (D.meaning opened.disk) lanes connections (told L.rest L.written L.faults link.old) (told L.rest L.written L.faults link.new) (links A.given A.over A.faults accept result.accept result.served) (record { status = result.status; disk = result.disk }) }
     ensures served { IsServed (links A.given A.over A.faults accept result.accept result.served) }
 {
@@ -95,6 +109,7 @@ where
         accept,
         gate,
         lanes,
+        derivers,
         connections,
     );
     let Left {
@@ -136,6 +151,7 @@ fn serve_watched<R, D, A, K, G, N>(
     accept: A,
     gate: &G,
     lanes: u64,
+    derivers: u64,
     connections: u64,
 ) -> Left<D, A, K>
 where
@@ -147,6 +163,7 @@ where
     N: Since + Send,
     requires since { A.faults accept ≡ N.faults }
     requires lanes { (1 ≤ lanes) × (lanes ≤ 16) }
+    requires derivers { derivers ≤ 8 }
     ensures served { IsServed (links A.given A.over A.faults accept result.accept result.served) }
     ensures takes { IfSome result.state (λ _. TakesLinks connections result.faulted (links A.given A.over A.faults accept result.accept result.served)) }
     ensures memory { IfNone result.state (TakesNone (links A.given A.over A.faults accept result.accept result.served)) }
@@ -155,7 +172,16 @@ where
     ensures seats { IfSome result.state (λ s. All (λ (e : Entry). e.who ≤ lanes) s.history) }
 {
     let watched = Watched::<A, K, N>::new(accept);
-    let closing = serve_all(rt, alloc, state, watched, gate, lanes, connections);
+    let closing = serve_all(
+        rt,
+        alloc,
+        state,
+        watched,
+        gate,
+        lanes,
+        derivers,
+        connections,
+    );
     let Closing {
         state,
         accept,
