@@ -7,6 +7,8 @@ mod files;
 #[cfg(test)]
 mod heads;
 #[cfg(test)]
+mod landings;
+#[cfg(test)]
 mod links;
 #[cfg(test)]
 mod program;

@@ -1,8 +1,8 @@
 //! Links: calls that fail, and an input that doesn't end.
 ghost use Rattle.std.specs.Prelude.{None};
 
-use crate::program::{made, no_links, opener_of, words};
-use crate::session::session;
+use crate::program::{made, no_links, opener_of, same, words};
+use crate::session::{cut, script_of, session};
 use command_line::run;
 use file_commands::Status;
 use ports::{Failed, Link, NoGate};
@@ -12,30 +12,50 @@ use std::sync::Wait;
 use std::test::Fail;
 use std::thread::Threads;
 
-/// Two requests of 47 bytes, whose responses have 170.
-const INPUT: &[u8] =
-    b"PUT /content HTTP/1.1\r\nContent-Length: 3\r\n\r\nabcPUT /content HTTP/1.1\r\nContent-Length: 3\r\n\r\nabc";
+/// A changeset is uploaded and read back: requests of 73 and 111 bytes, and responses of 163 and 105.
+const SCRIPT: &str =
+    r#"PUT /changeset | 0x4301000001610000000000000000000000000000000000000000 | 200 OK | {"code":"changeset","id":"ffb74880ae0d3038b6e6e402ea0840634c79efb3c927e280d44f36567ece7169"}
+GET /changeset/ffb74880ae0d3038b6e6e402ea0840634c79efb3c927e280d44f36567ece7169 |  | 200 OK | 0x4301000001610000000000000000000000000000000000000000"#;
 
-// How many bytes went out before the session ended by the stream's fault.
-fn written_before<R: Abort + Threads + Wait + Sync>(
+// Which read fails, which write, and how many bytes of the responses went out then. One read gives at most 40 bytes, and
+// the last finds the end; no call has the number 9.
+const FAILING: &str = "\
+0 | 9 | 0
+1 | 9 | 0
+2 | 9 | 163
+3 | 9 | 163
+4 | 9 | 163
+5 | 9 | 268
+9 | 0 | 0
+9 | 1 | 163";
+
+// No call of the whole session has these numbers.
+const SPARED: &str = "6 | 2 | 268";
+
+// Where this read and this write fail, the session ends so, and so many bytes of the responses went out.
+fn check_failing<R: Abort + Threads + Wait + Sync>(
     rt: &R,
     alloc: Global,
-    reads: &[u64],
-    writes: &[u64],
-) -> Result<usize, Fail> {
-    let came = session(rt, alloc, INPUT, 47, reads, writes)?;
-    assert_eq!(rt; came.status, Status::StreamFault);
-    Ok(came.written.len())
+    row: &str,
+    status: Status,
+) -> Result<(), Fail> {
+    let (read, rest) = cut(row);
+    let (write, length) = cut(rest);
+    let script = script_of(alloc, SCRIPT)?;
+    let input = script.input.as_slice();
+    let came = session(rt, alloc, input, 40, &[read.parse()?], &[write.parse()?])?;
+    let front = script.wanted.as_slice().get(..length.parse()?);
+    let wanted = (status, front.ok_or("a length")?);
+    same(rt, (came.status, came.written.as_slice()), wanted, row);
+    Ok(())
 }
 
 #[test]
 fn a_link_that_fails_ends_the_session(rt: HostRuntime) -> Result<(), Fail> {
-    let alloc = rt.alloc();
-    assert_eq!(rt; written_before(&rt, alloc, &[0], &[])?, 0);
-    assert_eq!(rt; written_before(&rt, alloc, &[2], &[])?, 340);
-    assert_eq!(rt; written_before(&rt, alloc, &[], &[0])?, 0);
-    assert_eq!(rt; written_before(&rt, alloc, &[], &[1])?, 170);
-    Ok(())
+    for row in FAILING.lines() {
+        check_failing(&rt, rt.alloc(), row, Status::StreamFault)?;
+    }
+    check_failing(&rt, rt.alloc(), SPARED, Status::Done)
 }
 
 // A link whose input is line ends that never stop.

@@ -28,7 +28,7 @@ const UNREAD: &str =
 GET /content/ba7816bf8f01cfea414140de5dae2223b00361a396177a9cb410ff61f20015ad |  | 200 OK | 0x616263"#;
 
 /// A call that is to fail: the kind and which one of it. No call fails for `None`.
-type Failing = Option<(CallKind, u64)>;
+pub(crate) type Failing = Option<(CallKind, u64)>;
 
 fn failing_disk(alloc: Global, file: &[u8], failing: Failing) -> Result<MemDisk, AllocError> {
     let mut calls = Vec::new(alloc);
@@ -38,16 +38,14 @@ fn failing_disk(alloc: Global, file: &[u8], failing: Failing) -> Result<MemDisk,
     disk_of(alloc, file, calls)
 }
 
-// Runs a session of this script on a file of these bytes. The file stays as a crash leaves it that writes `fill` where
-// nothing is sure.
-fn crashed<R: Abort + Threads + Wait + Sync>(
+/// Runs a session of this script on a file of these bytes, and gives the disk as the session leaves it.
+pub(crate) fn ended<R: Abort + Threads + Wait + Sync>(
     rt: &R,
     alloc: Global,
     file: &[u8],
     failing: Failing,
     lines: &str,
     status: Status,
-    fill: u8,
 ) -> Result<MemDisk, Fail> {
     let script = script_of(alloc, lines)?;
     let disk = failing_disk(alloc, file, failing)?;
@@ -60,11 +58,24 @@ fn crashed<R: Abort + Threads + Wait + Sync>(
     )?;
     let found = (came.status, came.written.as_slice());
     same(rt, found, (status, script.wanted.as_slice()), lines);
-    Ok(came.disk.ok_or("a file")?.crash(fill))
+    Ok(came.disk.ok_or("a file")?)
 }
 
-// What a session of this script, whose calls are done, leaves of the file.
-fn left<R: Abort + Threads + Wait + Sync>(
+// The same, as a crash leaves the file that writes `fill` where nothing is sure.
+fn crashed<R: Abort + Threads + Wait + Sync>(
+    rt: &R,
+    alloc: Global,
+    file: &[u8],
+    failing: Failing,
+    lines: &str,
+    status: Status,
+    fill: u8,
+) -> Result<MemDisk, Fail> {
+    Ok(ended(rt, alloc, file, failing, lines, status)?.crash(fill))
+}
+
+/// What a session of this script, whose calls are done, leaves of the file.
+pub(crate) fn left<R: Abort + Threads + Wait + Sync>(
     rt: &R,
     alloc: Global,
     file: &[u8],
@@ -73,12 +84,13 @@ fn left<R: Abort + Threads + Wait + Sync>(
     crashed(rt, alloc, file, None, lines, Status::Done, 0)
 }
 
-// The file of a new repository.
-fn new_file<R: Threads + Wait + Sync>(rt: &R, alloc: Global) -> Result<MemDisk, Fail> {
+/// The file of a new repository.
+pub(crate) fn new_file<R: Threads + Wait + Sync>(rt: &R, alloc: Global) -> Result<MemDisk, Fail> {
     Ok(made(rt, alloc, 65_536)?.ok_or("a file")?)
 }
 
-fn kind_of(word: &str) -> Result<CallKind, Fail> {
+/// The kind of call that a row's word stands for.
+pub(crate) fn kind_of(word: &str) -> Result<CallKind, Fail> {
     match word {
         "size" => Ok(CallKind::Size),
         "read" => Ok(CallKind::Read),
@@ -88,8 +100,8 @@ fn kind_of(word: &str) -> Result<CallKind, Fail> {
     }
 }
 
-// The call `KIND N`, or none for `-`.
-fn failing_of(text: &str) -> Result<Failing, Fail> {
+/// The call `KIND N`, or none for `-`.
+pub(crate) fn failing_of(text: &str) -> Result<Failing, Fail> {
     match text.split_once(" ") {
         Some((word, number)) => Ok(Some((kind_of(word)?, number.parse()?))),
         None => Ok(None),
@@ -153,8 +165,8 @@ fn a_crash_leaves_the_old_file_or_the_new(rt: HostRuntime) -> Result<(), Fail> {
     Ok(())
 }
 
-// How many calls of the kind opening the file makes.
-fn calls_of_opening<R: Threads + Wait + Sync>(
+/// How many calls of the kind opening the file makes.
+pub(crate) fn calls_of_opening<R: Threads + Wait + Sync>(
     rt: &R,
     alloc: Global,
     file: &[u8],
@@ -206,33 +218,26 @@ fn a_disk_fault_ends_changes_and_no_reads(rt: HostRuntime) -> Result<(), Fail> {
 fn opened<R: Threads + Wait + Sync>(
     rt: &R,
     alloc: Global,
-    failing: Failing,
+    call: (CallKind, u64),
     line: &str,
 ) -> Result<Came, Fail> {
     let file = new_file(rt, alloc)?;
-    let disk = failing_disk(alloc, file.bytes(), failing)?;
+    let disk = failing_disk(alloc, file.bytes(), Some(call))?;
     run_line(rt, alloc, line, link_of(alloc, b"GET")?, Some(disk))
 }
 
-fn check_opening<R: Abort + Threads + Wait + Sync>(
+/// A new repository of which this call fails isn't opened, and stays as it was.
+pub(crate) fn check_opening<R: Abort + Threads + Wait + Sync>(
     rt: &R,
     alloc: Global,
-    call: &str,
+    call: (CallKind, u64),
 ) -> Result<(), Fail> {
-    let failing = failing_of(call)?;
-    let came = opened(rt, alloc, failing, "hg_cli fsck repository")?;
+    let came = opened(rt, alloc, call, "hg_cli fsck repository")?;
     let found = (came.status, came.written.as_slice());
-    same(rt, found, (Status::DiskFault, b"disk fault\n"), call);
-    let came = opened(rt, alloc, failing, "hg_cli session repository")?;
+    same(rt, found, (Status::DiskFault, b"disk fault\n"), "fsck");
+    let came = opened(rt, alloc, call, "hg_cli session repository")?;
     let found = (came.status, came.written.as_slice());
-    same(rt, found, (Status::DiskFault, b""), call);
-    Ok(())
-}
-
-#[test]
-fn a_disk_that_fails_in_opening_is_a_disk_fault(rt: HostRuntime) -> Result<(), Fail> {
-    for call in "size 0, sync 0, read 0".split(", ") {
-        check_opening(&rt, rt.alloc(), call)?;
-    }
+    same(rt, found, (Status::DiskFault, b""), "session");
+    assert_eq!(rt; came.file(), new_file(rt, alloc)?.bytes());
     Ok(())
 }
