@@ -82,7 +82,7 @@ fn a_landing_goes_on_while_another_waits(rt: HostRuntime) -> Result<(), Fail> {
         links.push(link_of(alloc, draft, &landed)?)?;
     }
     let accept = MemAccept::new(links, Vec::new(alloc));
-    let closing = serve_all(&rt, alloc, with_main(alloc)?, accept, &gate, 2, 2);
+    let closing = serve_all(&rt, alloc, with_main(alloc)?, accept, &gate, 2, 2, 2);
     let state = closing.state.ok_or("memory")?;
     assert_eq!(rt;
         gate.told().1,

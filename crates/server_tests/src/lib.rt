@@ -1,6 +1,9 @@
-//! Servers over memory: which links are served and how often, and that two are served at once.
+//! Servers over memory: which links are served and how often, that two are served at once, and which
+//! changesets derivers are told of.
 #![tactic(auto)]
 
+#[cfg(test)]
+mod derivers;
 #[cfg(test)]
 mod gates;
 #[cfg(test)]

@@ -11,6 +11,8 @@ use std::thread::Threads;
 
 const MOST_LANES: u64 = 3;
 
+const MOST_DERIVERS: u64 = 2;
+
 const REQUEST: &[u8] = b"PUT /content HTTP/1.1\r\nContent-Length: 3\r\n\r\nabc";
 
 // The id is SHA-256 of `abc` (FIPS 180-4).
@@ -177,8 +179,13 @@ where
     }
 }
 
-fn left_of<R: Threads + Wait + Sync>(rt: &R, alloc: Global, row: &Row) -> Result<Left, Fail> {
-    if row.lanes == 0 || row.lanes > MOST_LANES {
+fn left_of<R: Threads + Wait + Sync>(
+    rt: &R,
+    alloc: Global,
+    row: &Row,
+    derivers: u64,
+) -> Result<Left, Fail> {
+    if row.lanes == 0 || row.lanes > MOST_LANES || derivers > MOST_DERIVERS {
         return Err(Fail::from("lanes"));
     }
     let answered = AtomicU64::new(0);
@@ -195,6 +202,7 @@ fn left_of<R: Threads + Wait + Sync>(rt: &R, alloc: Global, row: &Row) -> Result
         accept,
         &NoGate,
         row.lanes,
+        derivers,
         row.connections,
     );
     let state = closing.state.ok_or("memory")?;
@@ -210,7 +218,10 @@ fn left_of<R: Threads + Wait + Sync>(rt: &R, alloc: Global, row: &Row) -> Result
 #[test]
 fn each_link_that_is_given_is_served_once(rt: HostRuntime) -> Result<(), Fail> {
     for (number, row) in ROWS.iter().enumerate() {
-        assert_eq!(rt; left_of(&rt, rt.alloc(), row)?, row.left, "row {number}");
+        for derivers in [0, MOST_DERIVERS] {
+            let left = left_of(&rt, rt.alloc(), row, derivers)?;
+            assert_eq!(rt; left, row.left, "row {number}, {derivers} derivers");
+        }
     }
     Ok(())
 }
