@@ -17,20 +17,24 @@ const SCRIPT: &str =
     r#"PUT /changeset | 0x4301000001610000000000000000000000000000000000000000 | 200 OK | {"code":"changeset","id":"ffb74880ae0d3038b6e6e402ea0840634c79efb3c927e280d44f36567ece7169"}
 GET /changeset/ffb74880ae0d3038b6e6e402ea0840634c79efb3c927e280d44f36567ece7169 |  | 200 OK | 0x4301000001610000000000000000000000000000000000000000"#;
 
-// Which read fails, which write, and how many bytes of the responses went out then. One read gives at most 40 bytes, and
-// the last finds the end; no call has the number 9.
+// How many bytes one read gives at most, which read fails, which write, and how many bytes of the responses went out then.
+// The last read finds the end, and no call has the number 9. Of 73 bytes at once the first read gives the first request.
 const FAILING: &str = "\
-0 | 9 | 0
-1 | 9 | 0
-2 | 9 | 163
-3 | 9 | 163
-4 | 9 | 163
-5 | 9 | 268
-9 | 0 | 0
-9 | 1 | 163";
+40 | 0 | 9 | 0
+40 | 1 | 9 | 0
+40 | 2 | 9 | 163
+40 | 3 | 9 | 163
+40 | 4 | 9 | 163
+40 | 5 | 9 | 268
+73 | 0 | 9 | 0
+73 | 1 | 9 | 163
+73 | 2 | 9 | 163
+73 | 3 | 9 | 268
+40 | 9 | 0 | 0
+40 | 9 | 1 | 163";
 
 // No call of the whole session has these numbers.
-const SPARED: &str = "6 | 2 | 268";
+const SPARED: &str = "40 | 6 | 2 | 268";
 
 // Where this read and this write fail, the session ends so, and so many bytes of the responses went out.
 fn check_failing<R: Abort + Threads + Wait + Sync>(
@@ -39,11 +43,13 @@ fn check_failing<R: Abort + Threads + Wait + Sync>(
     row: &str,
     status: Status,
 ) -> Result<(), Fail> {
-    let (read, rest) = cut(row);
+    let (piece, rest) = cut(row);
+    let (read, rest) = cut(rest);
     let (write, length) = cut(rest);
+    let (reads, writes) = ([read.parse()?], [write.parse()?]);
     let script = script_of(alloc, SCRIPT)?;
     let input = script.input.as_slice();
-    let came = session(rt, alloc, input, 40, &[read.parse()?], &[write.parse()?])?;
+    let came = session(rt, alloc, input, piece.parse()?, &reads, &writes)?;
     let front = script.wanted.as_slice().get(..length.parse()?);
     let wanted = (status, front.ok_or("a length")?);
     same(rt, (came.status, came.written.as_slice()), wanted, row);
