@@ -2,7 +2,7 @@
 //! chain is the same members, oldest first.
 //!
 //! Each member keeps its ancestors at the distances 1, 2, 4 and so on, as many as its line has.
-ghost use Rattle.std.specs.Prelude.{◌≡◌, ◌≢◌, ℕ, ◌+◌, ◌*◌, ◌<◌, ◌≤◌, ◌^◌, ◌∷◌, ◌++◌, [], length, drop, slice_get, Some, IsOk, IsTrue, OnOk, OnErr, IfOk, IfSome, IfNone};
+ghost use Rattle.std.specs.Prelude.{◌≡◌, ◌≢◌, ℕ, ◌+◌, ◌*◌, ◌<◌, ◌≤◌, ◌^◌, ◌∷◌, ◌++◌, [], length, drop, slice_get, Some, IsOk, IsTrue, OnOk, OnErr, IfOk, IfSome, IfNone, MatchOption};
 ghost use Rattle.std.specs.Option.{option_map_or};
 ghost use Rattle.ancestry.specs.Forest as forest;
 ghost use Rattle.ancestry.specs.Members.{IsAbove, AreJumps};
@@ -126,6 +126,25 @@ impl Chain {
     {
         steps.tick();
         self.ancestor(x, exponent)
+    }
+
+    /// The ancestor of a member that stands 2^exponent above it, or `None` where its chain is no longer than that. It reads
+    /// one ancestor that the member keeps.
+    pub fn jump(&self, x: u32, exponent: u32) -> Option<u32>
+        requires known { x < length self.now.parents }
+        requires few { exponent < 31 }
+        ensures above { MatchOption result (length (forest.line self.now.parents x) ≤ 2 ^ exponent) (IsAbove self.now.parents (forest.line self.now.parents x) (2 ^ exponent)) }
+        ensures in_chain { IfSome result (λ a. IsTrue (forest.is_member a (forest.chain self.now.parents x))) }
+        ensures distance { IfSome result (λ a. length (forest.following a (forest.chain self.now.parents x)) ≡ 2 ^ exponent) }
+        ensures earlier { IfSome result (λ a. a < x) }
+        ensures parents { forest.AreEarlier self.now.parents }
+        // An ancestor of an ancestor is one.
+        ensures further { IfSome result (λ a. (y : ℕ) → IsTrue (forest.is_member x (forest.chain self.now.parents y)) → IsTrue (forest.is_member a (forest.chain self.now.parents y))) }
+    {
+        if self.depth(x) <= 1 << exponent {
+            return None;
+        }
+        Some(self.ancestor(x, exponent))
     }
 
     /// Makes room for so many members more. The members stay, and no room is lost. It fails only where there is too

@@ -1,5 +1,5 @@
 //! The store of known changesets.
-ghost use Rattle.std.specs.Prelude.{◌≡◌, ℕ, ◌≤◌, ◌<◌, ◌+◌, ◌++◌, ◌∷◌, [], ◌↔◌, true, false, length, map, reverse, option_map, Some, IsSome, IsNone, IsTrue, find, not, IsOk, OnOk, IfOk, IfSome, IfNone};
+ghost use Rattle.std.specs.Prelude.{◌≡◌, ℕ, ◌≤◌, ◌<◌, ◌+◌, ◌^◌, ◌++◌, ◌∷◌, [], ◌↔◌, true, false, length, map, reverse, option_map, Some, IsSome, IsNone, IsTrue, find, not, IsOk, OnOk, IfOk, IfSome, IfNone};
 ghost use Rattle.std.specs.List.{AllByRecursion};
 ghost use Rattle.std.specs.Option.{option_and_then};
 ghost use Rattle.std.specs.Arc.{arc_value};
@@ -265,6 +265,21 @@ impl ChangesetStore {
         ensures earlier { IfSome result (λ parent. parent < number) }
     {
         self.chain.parent(number)
+    }
+
+    /// The number of the changeset that 2^exponent changesets of a chain follow up to its last, or `None` where the chain is
+    /// no longer than that. It reads one ancestor, and goes through none.
+    pub fn jump(&self, last: u32, exponent: u32) -> Option<u32>
+        requires known { last < length self.now.known }
+        requires few { exponent < 31 }
+        ensures none { IfNone result (length (chain_at self.now.known last) ≤ 2 ^ exponent) }
+        ensures ancestor { IfSome result (λ above. IsAncestor self.now.known above last) }
+        ensures distance { IfSome result (λ above. length (following_at self.now.known above last) ≡ 2 ^ exponent) }
+        ensures earlier { IfSome result (λ above. above < last) }
+        // An ancestor of an ancestor is one.
+        ensures further { IfSome result (λ above. (n : ℕ) → IsAncestor self.now.known last n → IsAncestor self.now.known above n) }
+    {
+        self.chain.jump(last, exponent)
     }
 
     /// The number of the changeset before the last of a chain, unless the last is this ancestor itself. So the changesets that

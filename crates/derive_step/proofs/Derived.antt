@@ -8,11 +8,9 @@ use Rattle.std.specs.BTreeMap.{BTreeMap}
 use Rattle.std.specs.BTreeSet.{BTreeSet}
 use Rattle.std.proofs.lemmas.Bool.{ne_eqb}
 use Rattle.std.proofs.lemmas.Grind.{flat_map-append}
-use Rattle.std.proofs.lemmas.List.{length-map}
 use Rattle.changeset_model.specs.Path.{Path, path_cmp, is_strict_prefix}
 use Rattle.history_model.specs.History.{Known}
 use Rattle.manifest_model.specs.Unode.{is_renewed}
-use Rattle.node_table.specs.Parts.{nodes_seen}
 use Rattle.derive_step.specs.declared.job.Job.{Job}
 use Rattle.derive_step.specs.declared.done.Done.{Done}
 use Rattle.derive_step.specs.declared.made.Made.{Made}
@@ -51,7 +49,7 @@ module _ (c : Known) (older : List Known) (job : Job) (of : IsJobOf c older job)
       touched (e ∷ d) ∙ above_any (e ∷ d) c.changeset.changes (omega arith) (under_root (length (e ∷ d) == 0) (list_any (λ x. is_strict_prefix (e ∷ d) x.0) c.changeset.changes) (ne_eqb (length (e ∷ d)) 0 (λ z. absurd (omega arith))) h))))
 
   pub done_of : (done : Done) (made : BTreeMap Path Made) (had mid : List (List ℕ)) → IsStrictlySortedBy path_cmp dirs.keys → done.number ≡ job.number → done.parent ≡ roots_before job.parent → had ≡ [] → AreRenewed c older dirs made had mid
-      → done.roots ≡ roots_at (c ∷ older) [] → nodes_seen done.nodes.items ≡ mid ++ dir_nodes c older [] → IsDoneOf c older job done
+      → done.roots ≡ roots_at (c ∷ older) [] → done.nodes.items ≡ mid ++ dir_nodes c older [] → IsDoneOf c older job done
   done_of done made had mid ordered number parent none renewed roots nodes = record {
     number = number;
     parent = parent ∙ of.roots;
@@ -59,18 +57,17 @@ module _ (c : Known) (older : List Known) (job : Job) (of : IsJobOf c older job)
     right = subst (AllByRecursion (Contains (all_nodes_on (c ∷ older)))) (sym are_put) (all_right c older of.right ds inside);
     whole = λ n h. found n (all_whole c older of.right ds inside n h);
     few = (
-        let count = length-map done.nodes.items (λ n. n.items) in
         let same = ap length are in
         let most = few_put c older dirs.keys ordered (λ p h. (above_some p c.changeset.changes (sym (touched p) ∙ h), renewed_there c older dirs touched had p h)) in
-        omega (arith, count, same, most));
+        omega (arith, same, most));
   }
     where
-      are : nodes_seen done.nodes.items ≡ flat_map (dir_nodes c older) (reverse dirs.keys) ++ dir_nodes c older []
+      are : done.nodes.items ≡ flat_map (dir_nodes c older) (reverse dirs.keys) ++ dir_nodes c older []
       are = nodes ∙ ap (λ ns. ns ++ dir_nodes c older []) (renewed.nodes ∙ ap (λ ns. ns ++ flat_map (dir_nodes c older) (reverse dirs.keys)) none)
 
-      are_put : nodes_seen done.nodes.items ≡ put
+      are_put : done.nodes.items ≡ put
       are_put = are ∙ ap (λ ns. flat_map (dir_nodes c older) (reverse dirs.keys) ++ ns) (sym (append-nil (dir_nodes c older []))) ∙ sym (flat_map-append (dir_nodes c older) (reverse dirs.keys) ([] ∷ []))
 
-      found : (n : List ℕ) → Contains put n ⊎ Contains (all_nodes_on older) n → Contains (nodes_seen done.nodes.items) n ⊎ Contains (all_nodes_on older) n
+      found : (n : List ℕ) → Contains put n ⊎ Contains (all_nodes_on older) n → Contains done.nodes.items n ⊎ Contains (all_nodes_on older) n
       found n (inl h) = inl (subst (λ ns. Contains ns n) (sym are_put) h)
       found n (inr h) = inr h

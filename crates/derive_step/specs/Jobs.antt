@@ -17,7 +17,6 @@ use Rattle.manifest_model.specs.Manifests.{manifests_on, nodes_in}
 use Rattle.manifest_laws.specs.Changes.{AreClear, files_in, renewed_dirs}
 use Rattle.manifest_laws.specs.Rules.{AreFiles}
 use Rattle.node_table.specs.declared.roots.Roots.{Roots}
-use Rattle.node_table.specs.Parts.{nodes_seen}
 use Rattle.derive_step.specs.declared.job.Job.{Job}
 use Rattle.derive_step.specs.declared.done.Done.{Done}
 use Rattle.derive_step.specs.Views.{Before, nodes_before, roots_before}
@@ -61,6 +60,6 @@ pub record IsDoneOf (c : Known) (older : List Known) (job : Job) (done : Done) :
   pub number : done.number ≡ job.number
   pub parent : done.parent ≡ roots_on older
   pub roots : Some done.roots ≡ roots_on (c ∷ older)
-  pub right : AllByRecursion (Contains (all_nodes_on (c ∷ older))) (nodes_seen done.nodes.items)
-  pub whole : (n : List ℕ) → Contains (all_nodes_on (c ∷ older)) n → Contains (nodes_seen done.nodes.items) n ⊎ Contains (all_nodes_on older) n
+  pub right : AllByRecursion (Contains (all_nodes_on (c ∷ older))) done.nodes.items
+  pub whole : (n : List ℕ) → Contains (all_nodes_on (c ∷ older)) n → Contains done.nodes.items n ⊎ Contains (all_nodes_on older) n
   pub few : length done.nodes.items ≤ 2 * length (renewed_dirs c.changeset) + length (sets_of c.changeset)

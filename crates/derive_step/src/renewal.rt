@@ -13,7 +13,6 @@ ghost use Rattle.fsnode.specs.Parts.{summary_seen, entry_seen as fs_entry_seen};
 ghost use Rattle.fsnode.specs.Views.{fsnode_seen};
 ghost use Rattle.unode.specs.Parts.{entry_seen as unode_entry_seen};
 ghost use Rattle.unode.specs.Views.{manifest_seen};
-ghost use Rattle.node_table.specs.Parts.{nodes_seen};
 ghost use Rattle.derive_step.specs.Places.{dir_of};
 ghost use Rattle.derive_step.specs.Slices.{edits_in};
 ghost use Rattle.derive_step.specs.Covering.{paths_seen, paths_set};
@@ -31,7 +30,7 @@ use crate::slices::edits_under;
 use crate::unodes::manifest_in;
 use bonsai::Edit;
 use fsnode::{FsEntry, Fsnode, Summary};
-use node_table::Roots;
+use node_table::{Node, Roots};
 use repo_path::RepoPath;
 use std::alloc::{AllocError, Global};
 use std::collections::BTreeSet;
@@ -53,9 +52,9 @@ pub(crate) fn renew_dirs(
     job: &Job,
     mut dirs: BTreeSet<RepoPath>,
     made: &mut MadeDirs,
-    nodes: &mut Vec<Vec<u8>>,
+    nodes: &mut Vec<Node>,
 ) -> Result<(), AllocError>
-    ensures { (c : Known) (older : List Known) → IsJobOf c older job.now → AreTouched c dirs → ((p : Path) → get path_cmp made.old p ≡ None) → OnOk result (AreRenewed c older dirs made.new (nodes_seen nodes.old.items) (nodes_seen nodes.new.items)) }
+    ensures { (c : Known) (older : List Known) → IsJobOf c older job.now → AreTouched c dirs → ((p : Path) → get path_cmp made.old p ≡ None) → OnOk result (AreRenewed c older dirs made.new nodes.old.items nodes.new.items) }
 {
     let sets = set_paths(alloc, job.commit.changeset().edits())?;
     while let Some(dir) = dirs.pop_last() {
@@ -71,9 +70,9 @@ fn renew_dir(
     sets: &[&RepoPath],
     dir: RepoPath,
     made: &mut MadeDirs,
-    nodes: &mut Vec<Vec<u8>>,
+    nodes: &mut Vec<Node>,
 ) -> Result<(), AllocError>
-    ensures { (c : Known) (older : List Known) → IsJobOf c older job.now → paths_seen sets.now ≡ paths_set c.changeset.changes → is_renewed c.changeset dir ≡ true → IsMadeUnder c older made.old dir → get path_cmp made.old dir ≡ None → OnOk result (IsRenewed c older dir made.old made.new (nodes_seen nodes.old.items) (nodes_seen nodes.new.items)) }
+    ensures { (c : Known) (older : List Known) → IsJobOf c older job.now → paths_seen sets.now ≡ paths_set c.changeset.changes → is_renewed c.changeset dir ≡ true → IsMadeUnder c older made.old dir → get path_cmp made.old dir ≡ None → OnOk result (IsRenewed c older dir made.old made.new nodes.old.items nodes.new.items) }
 {
     let renewal = Renewal {
         dir: Some(&dir),
@@ -108,9 +107,9 @@ pub(crate) fn renew_root(
     alloc: Global,
     job: &Job,
     made: &MadeDirs,
-    nodes: &mut Vec<Vec<u8>>,
+    nodes: &mut Vec<Node>,
 ) -> Result<Roots, AllocError>
-    ensures { (c : Known) (older : List Known) → IsJobOf c older job.now → IsMadeUnder c older made.now [] → IfOk result (λ roots. (roots ≡ roots_at (c ∷ older) []) × (nodes_seen nodes.new.items ≡ nodes_seen nodes.old.items ++ dir_nodes c older [])) }
+    ensures { (c : Known) (older : List Known) → IsJobOf c older job.now → IsMadeUnder c older made.now [] → IfOk result (λ roots. (roots ≡ roots_at (c ∷ older) []) × (nodes.new.items ≡ nodes.old.items ++ dir_nodes c older [])) }
 {
     let renewal = Renewal {
         dir: None,
@@ -160,10 +159,10 @@ fn put_dir(
     renewal: Renewal,
     fsnode: &Fsnode,
     made: &MadeDirs,
-    nodes: &mut Vec<Vec<u8>>,
+    nodes: &mut Vec<Node>,
 ) -> Result<Roots, AllocError>
     ensures { (c : Known) (older : List Known) → let d = dir_of renewal.entry.dir in
-        IsStep c older job.now d made.now renewal.entry.before → edits_in d (edits_view renewal.entry.edits.now) ≡ edits_in d c.changeset.changes → is_dir (files_in (c ∷ older)) d ≡ true → fsnode_seen fsnode.now ≡ fsnode_at (files_in (c ∷ older)) d → IfOk result (λ roots. (roots ≡ roots_at (c ∷ older) d) × (nodes_seen nodes.new.items ≡ nodes_seen nodes.old.items ++ dir_nodes c older d)) }
+        IsStep c older job.now d made.now renewal.entry.before → edits_in d (edits_view renewal.entry.edits.now) ≡ edits_in d c.changeset.changes → is_dir (files_in (c ∷ older)) d ≡ true → fsnode_seen fsnode.now ≡ fsnode_at (files_in (c ∷ older)) d → IfOk result (λ roots. (roots ≡ roots_at (c ∷ older) d) × (nodes.new.items ≡ nodes.old.items ++ dir_nodes c older d)) }
 {
     let Renewal { dir, before, edits } = renewal;
     let manifest = manifest_in(alloc, before, job.commit.id(), edits, dir, made, nodes)?;
@@ -175,10 +174,10 @@ fn put_nodes(
     alloc: Global,
     fsnode: &Fsnode,
     manifest: UnodeManifest,
-    nodes: &mut Vec<Vec<u8>>,
+    nodes: &mut Vec<Node>,
 ) -> Result<Roots, AllocError>
     ensures ids { IfOk result (λ roots. roots ≡ record { fsnode = fsnode_id (fsnode_seen fsnode.now); unode = unode_id (manifest_seen manifest) }) }
-    ensures nodes { OnOk result (nodes_seen nodes.new.items ≡ nodes_seen nodes.old.items ++ fsnode_bytes (fsnode_seen fsnode.now) ∷ unode_bytes (manifest_seen manifest) ∷ []) }
+    ensures nodes { OnOk result (nodes.new.items ≡ nodes.old.items ++ fsnode_bytes (fsnode_seen fsnode.now) ∷ unode_bytes (manifest_seen manifest) ∷ []) }
 {
     let fsnode = put_node(fsnode::encode(alloc, fsnode)?, nodes)?;
     let unode = put_node(unode::encode(alloc, &Unode::Manifest(manifest))?, nodes)?;

@@ -14,7 +14,6 @@ ghost use Rattle.manifest_model.specs.Fsnode.{are_entries};
 ghost use Rattle.manifest_model.specs.Unode.{UnodeEntry as ModelEntry, is_unode_entry};
 ghost use Rattle.manifest_laws.specs.Entries.{unode_entry_at};
 ghost use Rattle.entry_laws.specs.Entries.{edited as edited_to, renewed as renewed_to, without_file as no_file, without_dir as no_dir, unode_set, is_unode_file, file_parents};
-ghost use Rattle.node_table.specs.Parts.{nodes_seen};
 ghost use Rattle.unode.specs.Parts.{entry_seen, children_seen};
 ghost use Rattle.unode.specs.Views.{manifest_seen};
 ghost use Rattle.derive_step.specs.Places.{dir_of};
@@ -29,6 +28,7 @@ use crate::place::{Place, dir_before, place_in};
 use crate::slices::edits_left;
 use bonsai::{Change, Edit};
 use node_fields::Name;
+use node_table::Node;
 use object_id::Id;
 use repo_path::RepoPath;
 use std::alloc::{AllocError, Global};
@@ -47,13 +47,13 @@ pub(crate) fn manifest_in(
     edits: &[Edit],
     dir: Option<&RepoPath>,
     made: &MadeDirs,
-    nodes: &mut Vec<Vec<u8>>,
+    nodes: &mut Vec<Node>,
 ) -> Result<UnodeManifest, AllocError>
     ensures entries { IfOk result (λ node. (n : List ℕ) → unode_entry_at (manifest_seen node) n ≡ unode_after link made.now (dir_of dir.entry) (edits_view edits.now) (unode_before before.entry) n) }
     ensures rising { IfOk result (λ node. are_entries (children_seen node.entries.items) ≡ true) }
     ensures parent { IfOk result (λ node. option_to_list node.parent ≡ parent_before before.entry) }
     ensures link { IfOk result (λ node. node.linknode ≡ link) }
-    ensures nodes { OnOk result (nodes_seen nodes.new.items ≡ nodes_seen nodes.old.items ++ set_nodes link made.now (dir_of dir.entry) (edits_view edits.now) (unode_before before.entry)) }
+    ensures nodes { OnOk result (nodes.new.items ≡ nodes.old.items ++ set_nodes link made.now (dir_of dir.entry) (edits_view edits.now) (unode_before before.entry)) }
 {
     let mut entries = entries_before(alloc, before)?;
     put_edits(alloc, &mut entries, link, edits, dir, made, nodes)?;
@@ -137,10 +137,10 @@ fn put_edits(
     edits: &[Edit],
     dir: Option<&RepoPath>,
     made: &MadeDirs,
-    nodes: &mut Vec<Vec<u8>>,
+    nodes: &mut Vec<Node>,
 ) -> Result<(), AllocError>
     ensures entries { OnOk result ((n : List ℕ) → unode_in entries.new n ≡ unode_after link made.now (dir_of dir.entry) (edits_view edits.now) (unode_in entries.old) n) }
-    ensures nodes { OnOk result (nodes_seen nodes.new.items ≡ nodes_seen nodes.old.items ++ set_nodes link made.now (dir_of dir.entry) (edits_view edits.now) (unode_in entries.old)) }
+    ensures nodes { OnOk result (nodes.new.items ≡ nodes.old.items ++ set_nodes link made.now (dir_of dir.entry) (edits_view edits.now) (unode_in entries.old)) }
 {
     let mut left = edits;
     'putting: while let Some((edit, rest)) = left.split_first() {
@@ -159,11 +159,11 @@ fn put_edit(
     edit: &Edit,
     dir: Option<&RepoPath>,
     made: &MadeDirs,
-    nodes: &mut Vec<Vec<u8>>,
+    nodes: &mut Vec<Node>,
 ) -> Result<Option<RepoPath>, AllocError>
     ensures entries { OnOk result ((n : List ℕ) → unode_in entries.new n ≡ unode_after link made.now (dir_of dir.entry) (edit_view edit.now ∷ []) (unode_in entries.old) n) }
     ensures child { IfOk result (λ child. IsChild child (dir_of dir.entry) edit.now.path) }
-    ensures nodes { OnOk result (nodes_seen nodes.new.items ≡ nodes_seen nodes.old.items ++ nodes_of_edit link (dir_of dir.entry) (unode_in entries.old) (edit_view edit.now)) }
+    ensures nodes { OnOk result (nodes.new.items ≡ nodes.old.items ++ nodes_of_edit link (dir_of dir.entry) (unode_in entries.old) (edit_view edit.now)) }
 {
     match place_in(&edit.path, dir) {
         Place::Outside => Ok(None),
@@ -206,10 +206,10 @@ fn edited(
     link: Id,
     edit: &Edit,
     before: Option<UnodeEntry>,
-    nodes: &mut Vec<Vec<u8>>,
+    nodes: &mut Vec<Node>,
 ) -> Result<Option<UnodeEntry>, AllocError>
     ensures entry { (made : Option ModelEntry) → IfOk result (λ entry. option_map entry_seen entry ≡ edited_to (unode_set link edit.now.path) made is_unode_file (change_view edit.now.change) (option_map entry_seen before)) }
-    ensures nodes { OnOk result (nodes_seen nodes.new.items ≡ nodes_seen nodes.old.items ++ edit_nodes link edit.now.path (option_map entry_seen before) (change_view edit.now.change)) }
+    ensures nodes { OnOk result (nodes.new.items ≡ nodes.old.items ++ edit_nodes link edit.now.path (option_map entry_seen before) (change_view edit.now.change)) }
 {
     match edit.change {
         Change::Set { content, kind, .. } => {

@@ -166,9 +166,9 @@ impl Store {
     }
 
     fn keep(&mut self, done: Done) -> Result<(), Fail> {
-        for bytes in done.nodes {
+        for node in done.nodes {
             self.nodes
-                .insert(Id::of(&bytes), bytes)
+                .insert(node.id(), node.into_bytes())
                 .ok()
                 .ok_or("memory")?;
         }

@@ -5,3 +5,4 @@ pub mod Gathered
 pub mod Settled
 pub mod Touching
 pub mod Reading
+pub mod Answered

@@ -21,7 +21,6 @@ use Rattle.manifest_laws.proofs.Lists.{or_either}
 use Rattle.node_table.specs.declared.fault.TableFault.{TableFault}
 use Rattle.node_table.specs.declared.fault.TableFault.TheVariants as faults
 use Rattle.node_table.specs.Faults.{OfTwo}
-use Rattle.node_table.specs.Parts.{nodes_seen}
 use Rattle.node_table.specs.Table.{Nodes, Table, Has, IsAmong, is_settled, settled_with, with_nodes, empty_table}
 use Rattle.changeset_store.specs.Store.{known_at, parent_at}
 use Rattle.derive_step.specs.declared.done.Done.{Done}
@@ -94,8 +93,8 @@ is_node ks n bytes less h = ((known_at ks n).id, known_here ks n less, node_of (
 -- what the derivation says, whatever the line is
 record Tells (l rest : List Known) (done : Done) : Type 0 where
   roots : Some done.roots ≡ roots_on l
-  right : AllByRecursion (Contains (all_nodes_on l)) (nodes_seen done.nodes.items)
-  whole : (n : List ℕ) → Contains (all_nodes_on l) n → Contains (nodes_seen done.nodes.items) n ⊎ Contains (all_nodes_on rest) n
+  right : AllByRecursion (Contains (all_nodes_on l)) done.nodes.items
+  whole : (n : List ℕ) → Contains (all_nodes_on l) n → Contains done.nodes.items n ⊎ Contains (all_nodes_on rest) n
 
 tells : (l : List Known) (k : Known) (rest : List Known) (done : Done) → l ≡ k ∷ rest → IsDoneOn l done → Tells l rest done
 tells l k rest done e h =
@@ -107,7 +106,7 @@ module _ (ks : List Known) (t : Table) (a : AreManifests ks t) (done : Done) (le
   n = done.number
 
   abbrev ns : List (List ℕ)
-  ns = nodes_seen done.nodes.items
+  ns = done.nodes.items
 
   abbrev rest : List Known
   rest = option_map_or (line_at ks) (parent_at ks n) []

@@ -7,7 +7,6 @@ use Rattle.std.specs.Prelude.{◌≡◌, ℕ, Bool, true, not, ◌&&◌, if◌th
 use Rattle.std.specs.Option.{option_map_or}
 use Rattle.history_model.specs.History.{Known}
 use Rattle.node_table.specs.Table.{Table, is_settled, settled_with}
-use Rattle.node_table.specs.Parts.{nodes_seen}
 use Rattle.changeset_store.specs.Store.{parent_at}
 use Rattle.changeset_store.specs.Fork.{IsAncestor}
 use Rattle.derive_step.specs.declared.job.Job.{Job}
@@ -36,4 +35,4 @@ IsNext ks t n None = (m : ℕ) → IsAncestor ks m n → is_settled t m ≡ true
 IsNext ks t n (Some job) = IsNextJob ks t n job
 
 abbrev pub settled_by : List Known → Table → Done → Table
-settled_by ks t done = if is_ready ks t done.number then settled_with t done.number done.roots (nodes_seen done.nodes.items) else t
+settled_by ks t done = if is_ready ks t done.number then settled_with t done.number done.roots done.nodes.items else t

@@ -1,5 +1,5 @@
 //! The next job of a chain.
-ghost use Rattle.std.specs.Prelude.{◌≡◌, ◌<◌, ℕ, true, length, IfOk, IfSome, IfNone};
+ghost use Rattle.std.specs.Prelude.{◌≡◌, ◌<◌, ℕ, true, false, length, IfOk, IfSome, IfNone};
 ghost use Rattle.bonsai.specs.View.{edits_view};
 ghost use Rattle.node_table.specs.Table.{is_settled};
 ghost use Rattle.changeset_store.specs.Fork.{IsAncestor};
@@ -15,10 +15,14 @@ use changeset_store::ChangesetStore;
 use derive_step::{Job, Parent};
 use std::alloc::{AllocError, Global};
 
+// The binary digits of a distance in a chain, which has at most 2,147,483,648 changesets.
+const MOST_DIGITS: u32 = 31;
+
 impl ManifestStore {
     /// The job to derive the manifests of the oldest changeset in the chain of a number that isn't settled, or `None` where
     /// the whole chain is. Of its parent's nodes it has those of the directories above the change paths, and it reads no
-    /// others.
+    /// others. To find that changeset it reads one parent, and at most as many ancestors as the chain's length has binary
+    /// digits.
     pub fn next_job(
         &self,
         alloc: Global,
@@ -46,7 +50,7 @@ impl ManifestStore {
         if self.is_settled(number) {
             return None;
         }
-        let mut oldest = number;
+        let mut oldest = self.jump_back(changesets, number);
         while let Some(parent) = changesets.parent(oldest) {
             if self.is_settled(parent) {
                 return Some(oldest);
@@ -54,6 +58,26 @@ impl ManifestStore {
             oldest = parent;
         }
         Some(oldest)
+    }
+
+    // A changeset of the chain of one that isn't settled, which isn't either. It is the oldest such, since those that are
+    // settled are a front of the chain: it jumps by ever shorter distances, as long as it comes to one that isn't settled.
+    fn jump_back(&self, changesets: &ChangesetStore, number: u32) -> u32
+        requires manifests { AreManifests changesets.now.known self.now }
+        requires known { number < length changesets.now.known }
+        requires unsettled { is_settled self.now number ≡ false }
+        ensures in_chain { IsAncestor changesets.now.known result number }
+        ensures unsettled { is_settled self.now result ≡ false }
+    {
+        let mut oldest = number;
+        for exponent in (0..MOST_DIGITS).rev() {
+            if let Some(above) = changesets.jump(oldest, exponent)
+                && !self.is_settled(above)
+            {
+                oldest = above;
+            }
+        }
+        oldest
     }
 
     // The job of a changeset whose parent is settled, if it has one.

@@ -1,10 +1,16 @@
 //! Laws of manifests in a table, each the contract of a function that does nothing.
-ghost use Rattle.std.specs.Prelude.{◌≡◌, ◌<◌, ◌++◌, ℕ, List, length, Ok, Err};
+ghost use Rattle.std.specs.Prelude.{◌≡◌, ◌<◌, ◌++◌, ℕ, List, length, Some, Ok, Err};
 ghost use Rattle.byte_fields.specs.Bytes.{Id};
 ghost use Rattle.changeset_model.specs.Path.{Path};
 ghost use Rattle.history_model.specs.History.{Entry, Known, known};
+ghost use Rattle.history_model.specs.Journal.{Header};
+ghost use Rattle.reply_model.specs.After.{Answers, Derives, nothing};
+ghost use Rattle.reply_model.specs.After as after;
 ghost use Rattle.reply_model.specs.Reply.{Absent, SeenBytes, SeenIds, seen_fsnode, seen_unode, seen_history};
 ghost use Rattle.node_table.specs.Table.{Table};
+ghost use Rattle.node_table.specs.declared.roots.Roots.{Roots};
+ghost use Rattle.changeset_store.specs.Store.{number_in};
+ghost use Rattle.derive_step.specs.Jobs.{roots_on};
 ghost use Rattle.manifest_store.specs.Lines.{line_at, IsStore};
 ghost use Rattle.manifest_store.specs.Manifests.{AreManifests, AreRight};
 ghost use Rattle.manifest_store.specs.Reads.{fsnode_by, unode_by, history_by};
@@ -23,4 +29,9 @@ pub fn what_is_read_is_what_is_seen()
     ensures no_unode { (h : List Entry) (x : Id) (p : Path) (absent : Absent) → unode_by (known h) x p ≡ Err absent → seen_unode h x p ≡ Err absent }
     ensures history { (h : List Entry) (x : Id) (p : Path) (ids : List Id) → history_by (known h) x p ≡ Ok ids → seen_history h x p ≡ Ok (SeenIds ids) }
     ensures no_history { (h : List Entry) (x : Id) (p : Path) (absent : Absent) → history_by (known h) x p ≡ Err absent → seen_history h x p ≡ Err absent }
+{}
+
+/// The root nodes of a changeset that a history makes known answer the request to derive its manifests.
+pub fn roots_are_what_is_answered()
+    ensures { (header : Header) (h : List Entry) (x : Id) (n : ℕ) (roots : Roots) → number_in (known h) x ≡ Some n → Some roots ≡ roots_on (line_at (known h) n) → Answers header h (Derives x) (after.Roots roots.fsnode roots.unode) nothing }
 {}

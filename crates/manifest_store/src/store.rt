@@ -1,11 +1,12 @@
 //! The manifests of the known changesets.
-ghost use Rattle.std.specs.Prelude.{◌≡◌, List};
+ghost use Rattle.std.specs.Prelude.{◌≡◌, List, Some, IfSome, is_some};
 ghost use Rattle.history_model.specs.History.{Known};
 ghost use Rattle.node_table.specs.Table.{empty_table, is_settled};
-ghost use Rattle.manifest_store.specs.Lines.{IsStore};
+ghost use Rattle.derive_step.specs.Jobs.{roots_on};
+ghost use Rattle.manifest_store.specs.Lines.{line_at, IsStore};
 ghost use Rattle.manifest_store.specs.Manifests.{AreManifests, AreRight};
 
-use node_table::NodeTable;
+use node_table::{NodeTable, Roots};
 use std::alloc::Global;
 use std::marker::Model;
 
@@ -35,6 +36,14 @@ impl ManifestStore {
         ManifestStore {
             table: NodeTable::new(alloc),
         }
+    }
+
+    /// The ids of the root nodes of a changeset's manifests, or `None` where it isn't settled.
+    pub fn roots(&self, number: u32) -> Option<Roots>
+        ensures settled { is_some result ≡ is_settled self.now number }
+        ensures roots { (ks : List Known) → AreManifests ks self.now → IfSome result (λ roots. Some roots ≡ roots_on (line_at ks number)) }
+    {
+        self.table.roots(number)
     }
 
     /// Whether the manifests of a changeset are here.

@@ -26,22 +26,22 @@ stored q es = lookup (λ k. is_eq (slice_cmp nat_cmp q k)) es
 pub got : (es : List (Id × Vec ℕ)) (q : Id) → get (nodes_of_entries es) q ≡ option_map node_bytes (stored q es)
 got es q = get_seen itself itself (λ a. refl) node_bytes nat_list_cmp_total exact_bytes es q
 
-pub was_put : (es fs : List (Id × Vec ℕ)) (k : Id) (v : Vec ℕ) → ((q : Id) → stored q fs ≡ cond (is_eq (slice_cmp nat_cmp k q)) (Some v) (stored q es)) → k ≡ sha256 v.items → nodes_of_entries fs ≡ with_node (nodes_of_entries es) v.items
-was_put es fs k v put is = put_seen itself itself (λ a. refl) node_bytes nat_list_cmp_total exact_bytes es fs k v put ∙ ap (λ k. insert (nodes_of_entries es) k v.items) is
+pub was_put : (es fs : List (Id × Vec ℕ)) (k : Id) (v : Vec ℕ) (n : List ℕ) → ((q : Id) → stored q fs ≡ cond (is_eq (slice_cmp nat_cmp k q)) (Some v) (stored q es)) → k ≡ sha256 n → v.items ≡ n → nodes_of_entries fs ≡ with_node (nodes_of_entries es) n
+was_put es fs k v n put key is =
+    put_seen itself itself (λ a. refl) node_bytes nat_list_cmp_total exact_bytes es fs k v put
+    ∙ ap (λ k. insert (nodes_of_entries es) k v.items) key ∙ ap (insert (nodes_of_entries es) (sha256 n)) is
 
 pub was_removed : (es fs : List (Id × Vec ℕ)) (k : Id) → ((q : Id) → stored q fs ≡ cond (is_eq (slice_cmp nat_cmp k q)) None (stored q es)) → nodes_of_entries fs ≡ remove (nodes_of_entries es) k
 was_removed es fs k removed = removed_seen itself itself (λ a. refl) node_bytes nat_list_cmp_total exact_bytes es fs k removed
 
-pub same_node : (m : Nodes) (n : List ℕ) (id : Id) (one two : List ℕ) → id ≡ sha256 one → one ≡ n → two ≡ n → get m id ≡ Some two → m ≡ with_node m n
-same_node m n id one two is first second found = sym (kept m (sha256 n) n (ap (get m) (sym (is ∙ ap sha256 first)) ∙ found ∙ ap (λ n. Some n) second))
+pub same_node : (m : Nodes) (n : List ℕ) → get m (sha256 n) ≡ Some n → m ≡ with_node m n
+same_node m n found = sym (kept m (sha256 n) n found)
 
 pub noted_undone : (ids new : List Id) (id : Id) (m after : Nodes) → new ≡ ids ++ id ∷ [] → remove after id ≡ m → without new after ≡ without ids m
 noted_undone ids new id m after grown out = ap (λ x. without x after) grown ∙ without-push ids id after ∙ ap (without ids) out
 
-pub out_if_put : (m after : Nodes) (n : List ℕ) (id : Id) (one : List ℕ) → id ≡ sha256 one → one ≡ n → get m id ≡ None → after ≡ with_node m n → remove after id ≡ m
-out_if_put m after n id one is first none put =
-    let key : sha256 n ≡ id = sym (is ∙ ap sha256 first) in
-    ap (λ m. remove m id) (put ∙ ap (λ k. insert m k n) key) ∙ undone m id n none
+pub out_if_put : (m after : Nodes) (n : List ℕ) (id : Id) → id ≡ sha256 n → get m (sha256 n) ≡ None → after ≡ with_node m n → remove after id ≡ m
+out_if_put m after n id is none put = ap (remove after) is ∙ ap (λ m. remove m (sha256 n)) put ∙ undone m (sha256 n) n none
 
-pub out_if_not : (m after : Nodes) (id : Id) → get m id ≡ None → after ≡ m → remove after id ≡ m
-out_if_not m after id none same = ap (λ m. remove m id) same ∙ absent m id none
+pub out_if_not : (m after : Nodes) (n : List ℕ) (id : Id) → id ≡ sha256 n → get m (sha256 n) ≡ None → after ≡ m → remove after id ≡ m
+out_if_not m after n id is none same = ap (remove after) is ∙ ap (λ m. remove m (sha256 n)) same ∙ absent m (sha256 n) none

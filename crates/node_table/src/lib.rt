@@ -4,11 +4,13 @@
 
 pub mod fault;
 pub mod laws;
+pub mod node;
 mod root_table;
 pub mod roots;
 mod store;
 pub mod table;
 
 pub use fault::TableFault;
+pub use node::Node;
 pub use roots::Roots;
 pub use table::NodeTable;

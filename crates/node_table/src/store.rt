@@ -4,10 +4,10 @@ ghost use Rattle.std.specs.Option.{option_copied};
 ghost use Rattle.std.specs.FinMap as map;
 ghost use Rattle.sha2.specs.Sha256.{sha256};
 ghost use Rattle.node_table.specs.Table.{AreDigests, collides, first_collision, with_node, with_nodes, without};
-ghost use Rattle.node_table.specs.Parts.{nodes_seen};
 ghost use Rattle.node_table.specs.Faults.{FaultOf, IsHeld};
 
 use crate::fault::TableFault;
+use crate::node::Node;
 use object_id::Id;
 use std::alloc::{AllocError, Global};
 use std::collections::BTreeMap;
@@ -61,12 +61,12 @@ impl Store {
         }
     }
 
-    fn put(&mut self, id: Id, bytes: Vec<u8>) -> Result<(), AllocError>
-        requires { id ≡ sha256 bytes.items }
-        ensures ok { OnOk result (self.new ≡ with_node self.old bytes.items) }
+    fn put(&mut self, node: Node) -> Result<(), AllocError>
+        ensures ok { OnOk result (self.new ≡ with_node self.old node) }
         ensures err { OnErr result (self.new ≡ self.old) }
     {
-        self.nodes.insert(id, bytes)?;
+        let id = node.id();
+        self.nodes.insert(id, node.into_bytes())?;
         Ok(())
     }
 
@@ -76,13 +76,13 @@ impl Store {
         let _ = self.nodes.remove(id);
     }
 
-    // What stands under the id of these bytes.
-    fn held(&self, id: &Id, bytes: &[u8]) -> Held
-        ensures { IsHeld result bytes.now (map.get self.now id.now) }
+    // What stands under the id of a node.
+    fn held(&self, node: &Node) -> Held
+        ensures { IsHeld result node.now (map.get self.now (sha256 node.now)) }
     {
-        match self.get(id) {
+        match self.get(&node.id()) {
             None => Held::Nothing,
-            Some(found) if found == bytes => Held::Same,
+            Some(found) if found == node.bytes() => Held::Same,
             Some(_) => Held::Other,
         }
     }
@@ -95,10 +95,11 @@ impl Store {
         ensures apart { OnOk result (first_collision self.old (bytes.items ∷ []) ≡ None) }
         ensures fault { IfErr result (λ fault. FaultOf fault (first_collision self.old (bytes.items ∷ []))) }
     {
-        let id = Id::of(&bytes);
-        match self.held(&id, &bytes) {
+        let node = Node::of(bytes);
+        let id = node.id();
+        match self.held(&node) {
             Held::Nothing => {
-                self.put(id, bytes)?;
+                self.put(node)?;
                 Ok(id)
             }
             Held::Same => Ok(id),
@@ -107,17 +108,17 @@ impl Store {
     }
 
     // Puts a node in, and notes its id first if nothing stands there.
-    fn insert_noted(&mut self, bytes: Vec<u8>, noted: &mut Vec<Id>) -> Result<(), TableFault>
-        ensures ok { OnOk result (self.new ≡ with_node self.old bytes.items) }
+    fn insert_noted(&mut self, node: Node, noted: &mut Vec<Id>) -> Result<(), TableFault>
+        ensures ok { OnOk result (self.new ≡ with_node self.old node) }
         ensures undo { without noted.new.items self.new ≡ without noted.old.items self.old }
-        ensures apart { OnOk result (first_collision self.old (bytes.items ∷ []) ≡ None) }
-        ensures fault { IfErr result (λ fault. FaultOf fault (first_collision self.old (bytes.items ∷ []))) }
+        ensures apart { OnOk result (first_collision self.old (node ∷ []) ≡ None) }
+        ensures fault { IfErr result (λ fault. FaultOf fault (first_collision self.old (node ∷ []))) }
     {
-        let id = Id::of(&bytes);
-        match self.held(&id, &bytes) {
+        let id = node.id();
+        match self.held(&node) {
             Held::Nothing => {
                 noted.push(id)?;
-                self.put(id, bytes)?;
+                self.put(node)?;
                 Ok(())
             }
             Held::Same => Ok(()),
@@ -126,15 +127,15 @@ impl Store {
     }
 
     /// Puts nodes in, and notes the ids under which nothing stood: without these the nodes are as they were.
-    pub fn insert_all(&mut self, nodes: Vec<Vec<u8>>, noted: &mut Vec<Id>) -> Result<(), TableFault>
-        ensures ok { OnOk result (self.new ≡ with_nodes self.old (nodes_seen nodes.items)) }
+    pub fn insert_all(&mut self, nodes: Vec<Node>, noted: &mut Vec<Id>) -> Result<(), TableFault>
+        ensures ok { OnOk result (self.new ≡ with_nodes self.old nodes.items) }
         ensures undo { without noted.new.items self.new ≡ without noted.old.items self.old }
-        ensures apart { OnOk result (first_collision self.old (nodes_seen nodes.items) ≡ None) }
-        ensures fault { IfErr result (λ fault. FaultOf fault (first_collision self.old (nodes_seen nodes.items))) }
+        ensures apart { OnOk result (first_collision self.old nodes.items ≡ None) }
+        ensures fault { IfErr result (λ fault. FaultOf fault (first_collision self.old nodes.items)) }
     {
         let mut rest = nodes.into_iter();
-        while let Some(bytes) = rest.next() {
-            self.insert_noted(bytes, noted)?;
+        while let Some(node) = rest.next() {
+            self.insert_noted(node, noted)?;
         }
         Ok(())
     }

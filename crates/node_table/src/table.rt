@@ -5,10 +5,10 @@ ghost use Rattle.std.specs.Option.{option_copied};
 ghost use Rattle.std.specs.FinMap as map;
 ghost use Rattle.sha2.specs.Sha256.{sha256};
 ghost use Rattle.node_table.specs.Table.{AreApart, AreDigests, Has, IsAmong, empty_table, first_collision, is_settled, settled_with, with_node};
-ghost use Rattle.node_table.specs.Parts.{nodes_seen};
 ghost use Rattle.node_table.specs.Faults.{FaultOf, OfTwo};
 
 use crate::fault::TableFault;
+use crate::node::Node;
 use crate::root_table::RootTable;
 use crate::roots::Roots;
 use crate::store::Store;
@@ -92,15 +92,15 @@ impl NodeTable {
         alloc: Global,
         number: u32,
         roots: Roots,
-        nodes: Vec<Vec<u8>>,
+        nodes: Vec<Node>,
     ) -> Result<(), TableFault>
-        ensures ok { OnOk result (self.new ≡ settled_with self.old number roots (nodes_seen nodes.items)) }
+        ensures ok { OnOk result (self.new ≡ settled_with self.old number roots nodes.items) }
         ensures err { OnErr result (self.new ≡ self.old) }
         ensures settled { is_settled self.old number ≡ true → IsOk result × (self.new ≡ self.old) }
-        ensures nodes { OnOk result (is_settled self.old number ≡ false → (n : List ℕ) → Has self.new.nodes n ↔ IsAmong self.old.nodes (nodes_seen nodes.items) n) }
-        ensures apart { OnOk result (is_settled self.old number ≡ false → AreApart self.old.nodes (nodes_seen nodes.items)) }
-        ensures fault { IfErr result (λ fault. FaultOf fault (first_collision self.old.nodes (nodes_seen nodes.items))) }
-        ensures two { IfErr result (λ fault. OfTwo fault self.old.nodes (nodes_seen nodes.items)) }
+        ensures nodes { OnOk result (is_settled self.old number ≡ false → (n : List ℕ) → Has self.new.nodes n ↔ IsAmong self.old.nodes nodes.items n) }
+        ensures apart { OnOk result (is_settled self.old number ≡ false → AreApart self.old.nodes nodes.items) }
+        ensures fault { IfErr result (λ fault. FaultOf fault (first_collision self.old.nodes nodes.items)) }
+        ensures two { IfErr result (λ fault. OfTwo fault self.old.nodes nodes.items) }
     {
         if self.roots.get(number).is_some() {
             return Ok(());

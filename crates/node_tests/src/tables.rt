@@ -1,5 +1,5 @@
 //! A table of nodes and of settled changesets.
-use node_table::{NodeTable, Roots, TableFault};
+use node_table::{Node, NodeTable, Roots, TableFault};
 use object_id::Id;
 use std::alloc::Global;
 
@@ -21,7 +21,7 @@ fn settle(
     number: u32,
     text: &[u8],
 ) -> Result<(), TableFault> {
-    let node = Vec::from_slice(alloc, text)?;
+    let node = Node::of(Vec::from_slice(alloc, text)?);
     let mut nodes = Vec::new(alloc);
     nodes.push(node)?;
     table.settle(alloc, number, roots_of(text), nodes)

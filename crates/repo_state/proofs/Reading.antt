@@ -1,9 +1,10 @@
 -- Reads of manifests, and their derivation a changeset at a time.
-use Rattle.std.proofs.Common.{◌≡◌, ◌≢◌, ℕ, zero, suc, ◌+◌, ◌<◌, ◌≤◌, Bool, true, false, cond, ◌||◌, ◌&&◌, not, ◌==◌, List, [], ◌∷◌, ◌++◌, length, reverse, refl, sym, ap, subst, ◌∙◌, arith}
-use Rattle.std.specs.Prelude.{Option, None, Some, is_some, IfSome, Result, Ok, Err, IsTrue}
+use Rattle.std.proofs.Common.{◌≡◌, ◌≢◌, ℕ, zero, suc, ◌+◌, ◌<◌, ◌≤◌, Bool, true, false, cond, ◌&&◌, not, ◌==◌, List, [], ◌∷◌, ◌++◌, length, reverse, refl, sym, ap, subst, ◌∙◌, arith}
+use Rattle.std.specs.Prelude.{Option, None, Some, is_some, IfSome, Result, Ok, Err}
 use Rattle.std.specs.Borrow.{Bor}
 use Rattle.std.specs.FinMap as map
 use Rattle.std.specs.List.{list_any}
+use Rattle.std.specs.Option.{option_map_or}
 use mathlib.Core.Bool.{true≢false}
 use Rattle.std.proofs.lemmas.Bool.{or_left, eqb-true, eq-eqb}
 use Rattle.std.proofs.lemmas.List.{reverse-reverse}
@@ -20,27 +21,28 @@ use Rattle.reply_model.specs.Reply.{Seen, SeenBytes, SeenIds, Absent, AbsentChan
 use Rattle.reply_model.specs.After as answers
 use Rattle.reply_model.specs.After.{Answers, AsksManifest, Looks, Derives, nothing}
 use Rattle.node_table.specs.Table.{Table, is_settled, with_nodes, settled_with}
-use Rattle.node_table.specs.Parts.{nodes_seen}
+use Rattle.node_table.specs.declared.roots.Roots.{Roots}
 use Rattle.node_table.specs.declared.fault.TableFault.{TableFault}
 use Rattle.node_table.specs.declared.fault.TableFault.TheVariants as tables
-use Rattle.changeset_store.specs.Store.{number_in, known_at, parent_at}
+use Rattle.changeset_store.specs.Store.{number_in, known_at}
 use Rattle.changeset_store.proofs.Numbering.{has_id, number_is}
 use Rattle.derive_step.specs.declared.job.Job.{Job}
 use Rattle.derive_step.specs.declared.done.Done.{Done}
-use Rattle.derive_step.specs.Jobs.{IsJobOf, IsDoneOf}
+use Rattle.derive_step.specs.Jobs.{IsJobOf, IsDoneOf, roots_on}
 use Rattle.manifest_store.specs.declared.fault.ManifestFault.{ManifestFault}
 use Rattle.manifest_store.specs.declared.fault.ManifestFault.TheVariants as reads
-use Rattle.manifest_store.specs.Jobs.{IsJobOn, IsDoneOn, IsNextJob, IsNext, is_ready, settled_by}
-use Rattle.manifest_store.specs.Lines.{line_at, IsStore}
+use Rattle.manifest_store.specs.Jobs.{IsJobOn, IsDoneOn, IsNextJob, is_ready, settled_by}
+use Rattle.manifest_store.specs.Lines.{line_at}
 use Rattle.manifest_store.specs.Manifests.{AreManifests}
 use Rattle.manifest_store.specs.Reads.{IsAbsence, dir_of, fsnode_by, unode_by, history_by, fsnode_at, unode_at, history_at}
 use Rattle.manifest_store.specs.Settling.{IsCollision}
+use Rattle.manifest_store.proofs.Answered.{answered}
 use Rattle.manifest_store.proofs.Lines.{itself}
 use Rattle.seat_calls.specs.declared.calls.AskFault.{AskFault}
 use Rattle.seat_calls.specs.declared.calls.AskFault.TheVariants as asked
 use Rattle.seat_calls.specs.Asking.{fault_answer, place_of}
 use Rattle.repo_state.proofs.Known.{known_apart}
-use Rattle.repo_state.specs.Manifests.{IsNextOf, StaySettled, manifest_fault, table_fault}
+use Rattle.repo_state.specs.Manifests.{IsNextOf, StaySettled, is_settled_id, manifest_fault, table_fault}
 
 -- ---- how much isn't settled
 
@@ -108,17 +110,17 @@ unsettled ks t n ready = by (is_settled t n) _ ready
     by true b h = absurd (true≢false (sym h))
     by false b h = refl
 
-stay_with : (t : Table) (done : Done) → StaySettled t (settled_with t done.number done.roots (nodes_seen done.nodes.items))
+stay_with : (t : Table) (done : Done) → StaySettled t (settled_with t done.number done.roots done.nodes.items)
 stay_with t done n h = by (is_some (map.get t.roots done.number))
   where
-    by : (b : Bool) → is_settled (cond b t (record { nodes = with_nodes t.nodes (nodes_seen done.nodes.items); roots = map.insert t.roots done.number done.roots; settled = t.settled ++ done.number ∷ [] })) n ≡ true
+    by : (b : Bool) → is_settled (cond b t (record { nodes = with_nodes t.nodes done.nodes.items; roots = map.insert t.roots done.number done.roots; settled = t.settled ++ done.number ∷ [] })) n ≡ true
     by true = h
     by false = list_any-append (λ s. s == n) t.settled (done.number ∷ []) ∙ or_left (is_settled t n) (list_any (λ s. s == n) (done.number ∷ [])) h
 
 pub stay_by : (ks : List Known) (t : Table) (done : Done) → StaySettled t (settled_by ks t done)
 stay_by ks t done n h = by (is_ready ks t done.number)
   where
-    by : (b : Bool) → is_settled (cond b (settled_with t done.number done.roots (nodes_seen done.nodes.items)) t) n ≡ true
+    by : (b : Bool) → is_settled (cond b (settled_with t done.number done.roots done.nodes.items) t) n ≡ true
     by true = stay_with t done n h
     by false = h
 
@@ -133,6 +135,18 @@ found_id h x n e =
 pub chain_settled : (ks : List Known) (t : Table) (x : Id) (n : ℕ) → AreManifests ks t → IsNextOf ks t x None → number_in ks x ≡ Some n → is_settled t n ≡ true
 chain_settled ks t x n are next e =
     subst (λ n. is_settled t n ≡ true) (same_Some next.number n (sym next.numbered ∙ e)) (next.is_next next.number (itself ks are.store next.number next.below))
+
+-- a chain with no next job has its changeset settled
+pub none_is_settled : (ks : List Known) (t : Table) (x : Id) → AreManifests ks t → IsNextOf ks t x None → is_settled_id ks t x ≡ true
+none_is_settled ks t x are next = ap (λ o. option_map_or (is_settled t) o false) next.numbered ∙ chain_settled ks t x next.number are next next.numbered
+
+-- ---- its roots
+
+-- the roots in the table, where some are there
+pub roots_told : (header : Header) (h : List Entry) (x : Id) (t : Table) → AreManifests (known h) t → (n : ℕ) → number_in (known h) x ≡ Some n → (o : Option Roots) → ((ks : List Known) → AreManifests ks t → IfSome o (λ r. Some r ≡ roots_on (line_at ks n)))
+    → IfSome o (λ r. Answers header h (Derives x) (answers.Roots r.fsnode r.unode) nothing)
+roots_told header h x t are n numbered None told = tt
+roots_told header h x t are n numbered (Some r) told = answered header h x n r numbered (told (known h) are)
 
 -- ---- what is read
 

@@ -1,25 +1,35 @@
 //! Reads of manifests, which are derived where they aren't settled.
-ghost use Rattle.std.specs.Prelude.{◌≡◌, true, Some, IfOk, IfErr};
+ghost use Rattle.std.specs.Prelude.{◌≡◌, true, is_some, Some, IfOk, IfErr, IfSome};
 ghost use Rattle.history_model.specs.History.{known};
-ghost use Rattle.reply_model.specs.After.{Answers, Derives, Looks, nothing};
+ghost use Rattle.reply_model.specs.After.{Answers, Derives, Looks, Roots as RootsOf, nothing};
 ghost use Rattle.reply_model.specs.Reply.{FsnodeOf, UnodeOf, HistoryOf};
 ghost use Rattle.node_table.specs.Table.{is_settled};
 ghost use Rattle.changeset_store.specs.Store.{number_in};
 ghost use Rattle.manifest_store.specs.Manifests.{AreManifests};
 ghost use Rattle.seat_calls.specs.Asking.{bytes_answer, fault_answer, place_of};
-ghost use Rattle.repo_state.specs.Manifests.{StaySettled, ids_answer, manifest_fault, table_fault};
+ghost use Rattle.repo_state.specs.Manifests.{StaySettled, ids_answer, is_settled_id, manifest_fault, table_fault};
 
 use crate::state::RepoState;
 use blob_disk::Disk;
 use derive_step::derive;
 use manifest_store::ManifestFault;
-use node_table::TableFault;
+use node_table::{Roots, TableFault};
 use object_id::Id;
 use repo_path::RepoPath;
 use seat_calls::AskFault;
 use std::alloc::Global;
 
 impl<D: Disk> RepoState<D> {
+    /// The ids of the root nodes of a changeset, or `None` where it isn't settled or isn't known. Nothing is derived, and
+    /// the disk isn't asked.
+    pub fn roots(&self, id: Id) -> Option<Roots>
+        ensures settled { is_some result ≡ is_settled_id (known self.now.history) self.now.table id }
+        ensures some { IfSome result (λ roots. Answers self.now.header self.now.history (Derives id) (RootsOf roots.fsnode roots.unode) nothing) }
+    {
+        let number = self.machine.number_of(&id)?;
+        self.manifests.roots(number)
+    }
+
     /// The bytes of the fsnode of a directory of a changeset, of its root where none is given. What the changeset's chain
     /// lacks is derived first. The disk isn't asked.
     pub fn fsnode(
@@ -113,8 +123,8 @@ fn read_fault(fault: ManifestFault) -> AskFault
     }
 }
 
-// Why manifests can't be put in.
-fn settle_fault(fault: TableFault) -> AskFault
+/// Why what was derived can't be put in, as the answer to a request to derive.
+pub fn settle_fault(fault: TableFault) -> AskFault
     ensures { result ≡ table_fault fault }
 {
     match fault {

@@ -16,6 +16,7 @@ pub mod seats;
 pub mod state;
 pub mod store;
 
+pub use derived::settle_fault;
 pub use exchanged::Exchanged;
 pub use fill::check_digest;
 pub use state::RepoState;

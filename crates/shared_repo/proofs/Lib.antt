@@ -1,5 +1,6 @@
 pub mod Answering
 pub mod Cleared
+pub mod Derivations
 pub mod Fronts
 pub mod Landings
 pub mod Made

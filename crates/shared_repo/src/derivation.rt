@@ -1,16 +1,24 @@
-//! Manifests, each job of which is taken under one turn, derived outside of every turn, and settled under another.
-ghost use Rattle.std.specs.Prelude.{◌≡◌};
+//! Derivations of manifests: each job is taken under one turn, derived outside of every turn, and
+//! settled under another.
+ghost use Rattle.std.specs.Prelude.{◌≡◌, false, IfOk, IfErr, IfSome};
 ghost use Rattle.bookmark_lock.specs.Place.{with_front};
-ghost use Rattle.reply_model.specs.After.{After, Derives};
+ghost use Rattle.history_model.specs.History.{known};
+ghost use Rattle.manifest_store.specs.Settling.{IsCollision};
+ghost use Rattle.reply_model.specs.After.{After, Answers, Derives, nothing};
 ghost use Rattle.repo_state.specs.Manifests.{roots_answer};
+ghost use Rattle.seat_calls.specs.Asking.{fault_answer};
+ghost use Rattle.shared_repo.specs.Derivation.{IsNextSome, WasDerived};
 ghost use Rattle.shared_repo.specs.Front.{IsFront};
 ghost use Rattle.shared_repo.specs.Landing.{SeesMore};
 
+use crate::derivation_turns::{Next, next_in, settle_in};
 use crate::repo::Repo;
 use crate::seat::RepoSeat;
 use blob_disk::Disk;
-use node_table::Roots;
+use derive_step::{Done, derive};
+use node_table::{Roots, TableFault};
 use object_id::Id;
+use repo_state::{RepoState, settle_fault};
 use seat_calls::AskFault;
 use std::alloc::Global;
 use std::sync::Wait;
@@ -19,7 +27,7 @@ impl<D: Disk> Repo<D> {
     /// The ids of the root fsnode and the root unode of a changeset. What its chain lacks is derived
     /// first, a changeset at a time: taken under one turn, derived outside of every turn, settled
     /// under another. It makes no entry.
-    #[tactic(auto, using(crate::proofs::Fronts::sees_nothing, crate::proofs::Fronts::after_nothing))]
+    #[tactic(auto, using(crate::proofs::Fronts::after_nothing))]
     pub fn derive_one<R: Wait>(
         &self,
         rt: &R,
@@ -33,7 +41,119 @@ impl<D: Disk> Repo<D> {
         ensures more { SeesMore seat.old.front seat.old.number seat.new.front }
         ensures front { IsFront self.now.opening seat.new.front }
     {
-        let _ = (rt, alloc, seat.inner.number(), id);
-        Err(AskFault::Memory)
+        self.derive_chain(rt, alloc, seat, id)
+    }
+
+    /// The same, answered at what the seat has seen in the end. Each round ends the call, or leaves
+    /// one changeset more of the chain settled, by this seat or by another; so the call ends, though
+    /// nothing bounds its rounds.
+    #[tactic(auto, using(crate::proofs::Fronts::sees_nothing, crate::proofs::Fronts::sees_twice))]
+    pub(crate) fn derive_chain<R: Wait>(
+        &self,
+        rt: &R,
+        alloc: Global,
+        seat: &mut RepoSeat,
+        id: Id,
+    ) -> Result<Roots, AskFault>
+        requires place { seat.old.lock ≡ self.now }
+        ensures seat { seat.new ≡ with_front seat.old seat.new.front }
+        ensures answer { Answers self.now.opening.header seat.new.front (Derives id) (roots_answer result) nothing }
+        ensures more { SeesMore seat.old.front seat.old.number seat.new.front }
+        ensures front { IsFront self.now.opening seat.new.front }
+    {
+        for _ in rt.forever() {
+            if let Some(answer) = self.derive_next(rt, alloc, seat, id) {
+                return answer;
+            }
+        }
+        unreachable!()
+    }
+
+    // One round: the answer, or none where a job was derived and put in.
+    #[tactic(auto, using(crate::proofs::Fronts::sees_twice))]
+    fn derive_next<R: Wait>(
+        &self,
+        rt: &R,
+        alloc: Global,
+        seat: &mut RepoSeat,
+        id: Id,
+    ) -> Option<Result<Roots, AskFault>>
+        requires place { seat.old.lock ≡ self.now }
+        ensures seat { seat.new ≡ with_front seat.old seat.new.front }
+        ensures answer { IfSome result (λ answer. Answers self.now.opening.header seat.new.front (Derives id) (roots_answer answer) nothing) }
+        ensures more { SeesMore seat.old.front seat.old.number seat.new.front }
+        ensures front { IsFront self.now.opening seat.new.front }
+    {
+        let job = match self.next(rt, alloc, seat, id) {
+            Ok(Next::Job(job)) => job,
+            Ok(Next::Roots(roots)) => return Some(Ok(roots)),
+            Err(fault) => return Some(Err(fault)),
+        };
+        let Ok(done) = derive(alloc, job) else {
+            return Some(Err(AskFault::Memory));
+        };
+        match self.settle(rt, alloc, seat, done) {
+            Ok(()) => None,
+            Err(fault) => Some(Err(settle_fault(fault))),
+        }
+    }
+
+    // The turn in which a job is taken, or the roots are read.
+    fn next<R: Wait>(
+        &self,
+        rt: &R,
+        alloc: Global,
+        seat: &mut RepoSeat,
+        id: Id,
+    ) -> Result<Next, AskFault>
+        requires place { seat.old.lock ≡ self.now }
+        ensures seat { seat.new ≡ with_front seat.old seat.new.front }
+        ensures more { SeesMore seat.old.front seat.old.number seat.new.front }
+        ensures ok { IfOk result (IsNextSome self.now.opening.header seat.new.front id) }
+        ensures err { IfErr result (λ fault. Answers self.now.opening.header seat.new.front (Derives id) (fault_answer fault) nothing) }
+        ensures front { IsFront self.now.opening seat.new.front }
+    {
+        self.lock.enter(
+            rt,
+            &mut seat.inner,
+            |state: &mut RepoState<D>| -> (bool, Result<Next, AskFault>)
+                ensures same { state.new.history ≡ state.old.history }
+                ensures opening { state.new.opening ≡ state.old.opening }
+                ensures none { result.0 ≡ false }
+                ensures ok { IfOk result.1 (IsNextSome state.old.opening.header state.old.history id) }
+                ensures err { IfErr result.1 (λ fault. Answers state.old.opening.header state.old.history (Derives id) (fault_answer fault) nothing) }
+                ensures front { IsFront state.new.opening state.new.history }
+            { (false, next_in(state, alloc, id)) },
+        )
+    }
+
+    // The turn in which what was derived is put in, without a copy of it and with nothing hashed.
+    #[tactic(auto, using(crate::proofs::Derivations::derived_later))]
+    fn settle<R: Wait>(
+        &self,
+        rt: &R,
+        alloc: Global,
+        seat: &mut RepoSeat,
+        done: Done,
+    ) -> Result<(), TableFault>
+        requires place { seat.old.lock ≡ self.now }
+        requires derived { WasDerived seat.old.front done }
+        ensures seat { seat.new ≡ with_front seat.old seat.new.front }
+        ensures more { SeesMore seat.old.front seat.old.number seat.new.front }
+        ensures err { IfErr result (λ fault. IsCollision (known seat.new.front) fault) }
+        ensures front { IsFront self.now.opening seat.new.front }
+    {
+        self.lock.enter(
+            rt,
+            &mut seat.inner,
+            |state: &mut RepoState<D>| -> (bool, Result<(), TableFault>)
+                requires { WasDerived state.old.history done }
+                ensures same { state.new.history ≡ state.old.history }
+                ensures opening { state.new.opening ≡ state.old.opening }
+                ensures none { result.0 ≡ false }
+                ensures err { IfErr result.1 (λ fault. IsCollision (known state.new.history) fault) }
+                ensures front { IsFront state.new.opening state.new.history }
+            { (false, settle_in(state, alloc, done)) },
+        )
     }
 }

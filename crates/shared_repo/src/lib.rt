@@ -4,6 +4,7 @@
 
 mod changes;
 mod derivation;
+mod derivation_turns;
 mod landing;
 mod landing_turns;
 mod manifests;

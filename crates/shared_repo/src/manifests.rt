@@ -1,4 +1,5 @@
-//! Reads of manifests of a repository that many seats share, each one turn, in which what they lack is derived.
+//! Reads of manifests of a repository that many seats share. What a read lacks is derived first, and it is answered in a
+//! turn in which nothing is lacking.
 ghost use Rattle.std.specs.Prelude.{◌≡◌, []};
 ghost use Rattle.bookmark_lock.specs.Place.{with_front};
 ghost use Rattle.bookmark_lock.specs.Turns.{IsTurn};
@@ -20,6 +21,7 @@ use std::sync::Wait;
 
 impl<D: Disk> Repo<D> {
     /// The fsnode of a directory of a changeset's tree, or of its root.
+    #[tactic(auto, using(crate::proofs::Derivations::fsnode_not_derived, crate::proofs::Derivations::reads_after))]
     pub fn fsnode<R: Wait>(
         &self,
         rt: &R,
@@ -33,6 +35,9 @@ impl<D: Disk> Repo<D> {
         ensures after { (answer : Answer) × IsAnswer result answer × After self.now.opening.header seat.old.front seat.old.number (Looks (FsnodeOf id (place_of path.entry))) answer seat.new.front }
         ensures front { IsFront self.now.opening seat.new.front }
     {
+        if let Err(fault) = self.derive_chain(rt, alloc, seat, id) {
+            return Err(fault);
+        }
         match path {
             Some(path) => self.fsnode_at(rt, alloc, seat, id, path),
             None => self.fsnode_of_root(rt, alloc, seat, id),
@@ -89,6 +94,7 @@ impl<D: Disk> Repo<D> {
     }
 
     /// The unode of a path of a changeset's tree, or of its root.
+    #[tactic(auto, using(crate::proofs::Derivations::unode_not_derived, crate::proofs::Derivations::reads_after))]
     pub fn unode<R: Wait>(
         &self,
         rt: &R,
@@ -102,6 +108,9 @@ impl<D: Disk> Repo<D> {
         ensures after { (answer : Answer) × IsAnswer result answer × After self.now.opening.header seat.old.front seat.old.number (Looks (UnodeOf id (place_of path.entry))) answer seat.new.front }
         ensures front { IsFront self.now.opening seat.new.front }
     {
+        if let Err(fault) = self.derive_chain(rt, alloc, seat, id) {
+            return Err(fault);
+        }
         match path {
             Some(path) => self.unode_at(rt, alloc, seat, id, path),
             None => self.unode_of_root(rt, alloc, seat, id),
@@ -158,7 +167,27 @@ impl<D: Disk> Repo<D> {
     }
 
     /// The changesets that set a file, newest first, back to the last whose parent lacks it as a file.
+    #[tactic(auto, using(crate::proofs::Derivations::history_not_derived, crate::proofs::Derivations::reads_after))]
     pub fn history<R: Wait>(
+        &self,
+        rt: &R,
+        alloc: Global,
+        seat: &mut RepoSeat,
+        id: Id,
+        path: &RepoPath,
+    ) -> Result<Seen, AskFault>
+        requires place { seat.old.lock ≡ self.now }
+        ensures seat { seat.new ≡ with_front seat.old seat.new.front }
+        ensures after { (answer : Answer) × IsAnswer result answer × After self.now.opening.header seat.old.front seat.old.number (Looks (HistoryOf id path.now)) answer seat.new.front }
+        ensures front { IsFront self.now.opening seat.new.front }
+    {
+        if let Err(fault) = self.derive_chain(rt, alloc, seat, id) {
+            return Err(fault);
+        }
+        self.derived_history(rt, alloc, seat, id, path)
+    }
+
+    fn derived_history<R: Wait>(
         &self,
         rt: &R,
         alloc: Global,

@@ -56,7 +56,7 @@ impl<'a, R: Wait, D: Disk, G: Gate> Served<'a, R, D, G> {
     }
 }
 
-/// Each call is one turn, but for landings.
+/// Each call is one turn, but for landings and reads of manifests.
 impl<'a, R: Wait, D: Disk, G: Gate> Seat for Served<'a, R, D, G> {
     ghost header = { λ s. s.lock.opening.header };
 

@@ -1,8 +1,10 @@
-//! Repositories over memory that seats share: landings between which a gate moves the bookmark, a disk that fails, and
-//! threads that store at once. Helpers have no contract beyond what their calls need, so that a test's proof doesn't carry
-//! what they call.
+//! Repositories over memory that seats share: landings between which a gate moves the bookmark, roots that are derived, a
+//! disk that fails, and threads that store at once. Helpers have no contract beyond what their calls need, so that a test's
+//! proof doesn't carry what they call.
 #![tactic(auto)]
 
+#[cfg(test)]
+mod derivation;
 #[cfg(test)]
 mod gates;
 #[cfg(test)]

@@ -1,10 +1,9 @@
 use Rattle.std.proofs.Common.{◌++◌, ◌∷◌, [], ap, ◌∙◌, append_assoc}
-use Rattle.node_table.specs.Parts.{nodes_seen}
 use Rattle.derive_step.proofs.renewal.put_nodes.Goals as goal
 
 pub returns-clause-nodes : goal.returns-clause-nodes
 returns-clause-nodes c =
-    let old = nodes_seen c.args.nodes.now.items in
+    let old = c.args.nodes.now.items in
     let first = c.in_ok-encode.field-0.items in
     let second = c.in_ok-encode-2.field-0.items in
     c.in_ok-unode.ensures.nodes

@@ -5,7 +5,6 @@ use Rattle.changeset_model.specs.Path.{elements}
 use Rattle.repo_path.proofs.Elements.{some_elements}
 use Rattle.bonsai.specs.View.{change_view}
 use Rattle.unode.specs.Parts.{entry_seen}
-use Rattle.node_table.specs.Parts.{nodes_seen}
 use Rattle.entry_laws.specs.Entries.{edited, renewed, unode_set, is_unode_file}
 use Rattle.derive_step.specs.Places.{dir_of}
 use Rattle.derive_step.specs.Steps.{unode_in, unode_made_in}
@@ -32,7 +31,7 @@ returns-in_ok-put-in-Here-clause-nodes c =
     let change = change_view c.args.edit.now.change in
     let here = c.in-Here.ensures.0 ∙ ap (λ x. d ++ x ∷ []) (sym (c.in_ok-key-in-Here.ensures ∙ c.as_bytes.ensures.value)) in
     c.in_ok-entry-in-Here.ensures.nodes
-    ∙ ap (λ ns. nodes_seen c.args.nodes.now.items ++ ns) (here_nodes c.args.link d c.args.edit.now.path key change (unode_in c.args.entries.now) (option_map entry_seen c.copied-before.result) here (ap (option_map entry_seen) (c.copied-before.ensures ∙ c.get.ensures.value)))
+    ∙ ap (λ ns. c.args.nodes.now.items ++ ns) (here_nodes c.args.link d c.args.edit.now.path key change (unode_in c.args.entries.now) (option_map entry_seen c.copied-before.result) here (ap (option_map entry_seen) (c.copied-before.ensures ∙ c.get.ensures.value)))
 
 pub dir_before-requires : goal.dir_before-requires
 dir_before-requires c = (dir_of c.args.dir ++ c.in-Under.name.now ∷ [], omega (arith, length_push (dir_of c.args.dir) c.in-Under.name.now), c.in-Under.ensures.0 ∙ sym (append_assoc (dir_of c.args.dir) (c.in-Under.name.now ∷ []) (elements c.in-Under.rest.now)))
@@ -55,7 +54,7 @@ returns-in_ok-put-in-Under-clause-entries c =
 
 pub returns-in_ok-put-in-Under-clause-nodes : goal.returns-in_ok-put-in-Under-clause-nodes
 returns-in_ok-put-in-Under-clause-nodes c =
-    under_nodes c.args.link (dir_of c.args.dir) c.args.edit.now.path c.in-Under.name.now (elements c.in-Under.rest.now) (change_view c.args.edit.now.change) (unode_in c.args.entries.now) (nodes_seen c.args.nodes.now.items) (some_elements c.in-Under.rest.now) c.in-Under.ensures.0
+    under_nodes c.args.link (dir_of c.args.dir) c.args.edit.now.path c.in-Under.name.now (elements c.in-Under.rest.now) (change_view c.args.edit.now.change) (unode_in c.args.entries.now) c.args.nodes.now.items (some_elements c.in-Under.rest.now) c.in-Under.ensures.0
 
 pub returns-in_ok-put-in-Under-clause-child : goal.returns-in_ok-put-in-Under-clause-child
 returns-in_ok-put-in-Under-clause-child c =

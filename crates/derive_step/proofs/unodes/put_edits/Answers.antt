@@ -1,7 +1,6 @@
 use Rattle.std.proofs.Common.{◌≡◌, ◌++◌, ◌∷◌, [], ℕ, List, Option, ap, sym, ◌∙◌, append_assoc}
 use Rattle.bonsai.specs.View.{change_view, edit_view, edits_view}
 use Rattle.manifest_model.specs.Unode.{UnodeEntry}
-use Rattle.node_table.specs.Parts.{nodes_seen}
 use Rattle.entry_laws.specs.Entries.{unode_set, is_unode_file, unode_entry_after}
 use Rattle.derive_step.specs.Places.{dir_of}
 use Rattle.derive_step.specs.Slices.{left_after}
@@ -24,7 +23,7 @@ putting-preserved c =
     let cut : edits_view c.putting.left.now ≡ edit_view x ∷ rest = ap edits_view c.in-Some.ensures.cases.0 in
     let put : (n : List ℕ) → after n ≡ one n = c.in_ok-child.ensures.entries in
     let same : after ≡ one = λ j n. put n j in
-    let had = nodes_seen c.putting.nodes.items in
+    let had = c.putting.nodes.items in
     record {
       entries = λ n.
           ap (λ q. unode_after link made d q after n) c.edits_left-left.ensures.left
@@ -33,9 +32,9 @@ putting-preserved c =
           ∙ ap (λ q. unode_after link made d q before n) (sym cut)
           ∙ c.putting.invariant.entries n;
       nodes =
-          ap (λ q. nodes_seen c.put_edit.new.nodes.items ++ set_nodes link made d q after) c.edits_left-left.ensures.left
-          ∙ ap (λ f. nodes_seen c.put_edit.new.nodes.items ++ set_nodes link made d (left_after child rest) f) same
-          ∙ ap (λ ns. nodes_seen c.put_edit.new.nodes.items ++ ns) (left_nodes link made d x.path change before child c.in_ok-child.ensures.child rest)
+          ap (λ q. c.put_edit.new.nodes.items ++ set_nodes link made d q after) c.edits_left-left.ensures.left
+          ∙ ap (λ f. c.put_edit.new.nodes.items ++ set_nodes link made d (left_after child rest) f) same
+          ∙ ap (λ ns. c.put_edit.new.nodes.items ++ ns) (left_nodes link made d x.path change before child c.in_ok-child.ensures.child rest)
           ∙ ap (λ ns. ns ++ set_nodes link made d rest one) c.in_ok-child.ensures.nodes
           ∙ append_assoc had (nodes_of_edit link d before (edit_view x)) (set_nodes link made d rest one)
           ∙ ap (λ q. had ++ set_nodes link made d q before) (sym cut)

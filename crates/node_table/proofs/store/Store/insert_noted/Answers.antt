@@ -3,14 +3,13 @@ use Rattle.node_table.proofs.store.Store.insert_noted.Goals as goal
 
 pub returns-in_err-put-in-Nothing-clause-undo : goal.returns-in_err-put-in-Nothing-clause-undo
 returns-in_err-put-in-Nothing-clause-undo c =
-    noted_undone c.args.noted.now.items c.push.new.self.items c.of-id.result c.args.self.now c.put.new.self c.in_ok-push-in-Nothing.ensures.items
-    (out_if_not c.args.self.now c.put.new.self c.of-id.result c.in-Nothing.ensures c.in_err-put-in-Nothing.ensures.err)
+    noted_undone c.args.noted.now.items c.push.new.self.items c.id-id.result c.args.self.now c.put.new.self c.in_ok-push-in-Nothing.ensures.items
+    (out_if_not c.args.self.now c.put.new.self c.args.node c.id-id.result c.id-id.ensures c.in-Nothing.ensures c.in_err-put-in-Nothing.ensures.err)
 
 pub returns-in_ok-put-in-Nothing-clause-undo : goal.returns-in_ok-put-in-Nothing-clause-undo
 returns-in_ok-put-in-Nothing-clause-undo c =
-    noted_undone c.args.noted.now.items c.push.new.self.items c.of-id.result c.args.self.now c.put.new.self c.in_ok-push-in-Nothing.ensures.items
-    (out_if_put c.args.self.now c.put.new.self c.args.bytes.items c.of-id.result c.deref.result.now c.of-id.ensures c.deref.ensures.value c.in-Nothing.ensures c.in_ok-put-in-Nothing.ensures.ok)
+    noted_undone c.args.noted.now.items c.push.new.self.items c.id-id.result c.args.self.now c.put.new.self c.in_ok-push-in-Nothing.ensures.items
+    (out_if_put c.args.self.now c.put.new.self c.args.node c.id-id.result c.id-id.ensures c.in-Nothing.ensures c.in_ok-put-in-Nothing.ensures.ok)
 
 pub returns-in-Same-clause-ok : goal.returns-in-Same-clause-ok
-returns-in-Same-clause-ok c =
-    same_node c.args.self.now c.args.bytes.items c.of-id.result c.deref.result.now c.deref-2.result.now c.of-id.ensures c.deref.ensures.value c.deref-2.ensures.value c.in-Same.ensures
+returns-in-Same-clause-ok c = same_node c.args.self.now c.args.node c.in-Same.ensures

@@ -1,0 +1,85 @@
+-- From the turns of a derivation to its answer, and to that of a read.
+use Rattle.std.proofs.Common.{◌≡◌, ℕ, ◌+◌, ◌<◌, List, ◌++◌, length, length-append, refl, sym, ap, subst, ◌∙◌, arith}
+use Rattle.std.specs.Prelude.{Result, Err}
+use mathlib.Core.List.{IsPrefix}
+use Rattle.byte_fields.specs.Bytes.{Id}
+use Rattle.changeset_model.specs.Path.{Path}
+use Rattle.history_model.specs.History.{Entry, Known, known}
+use Rattle.history_model.specs.Chain.{line}
+use Rattle.history_model.specs.Journal.{Header}
+use Rattle.bookmark_lock.proofs.Prefixes.{prefix_self, prefix_trans}
+use Rattle.reply_model.specs.After.{After, Answer, Answers, Call, Derives, Looks, nothing}
+use Rattle.reply_model.specs.Reply.{FsnodeOf, UnodeOf, HistoryOf}
+use Rattle.reply_model.proofs.Lines.{known-append, line_grows}
+use Rattle.changeset_store.specs.Store.{known_at}
+use Rattle.changeset_store.proofs.Places.{known_at-append}
+use Rattle.seat_calls.specs.Asking.{IsAnswer, fault_answer}
+use Rattle.seat_calls.specs.declared.calls.AskFault.{AskFault}
+use Rattle.seat_calls.specs.declared.calls.Seen.{Seen}
+use Rattle.derive_step.specs.Jobs.{IsJobOf, IsDoneOf}
+use Rattle.derive_step.specs.declared.done.Done.{Done}
+use Rattle.derive_step.specs.declared.job.Job.{Job}
+use Rattle.manifest_store.specs.Jobs.{IsDoneOn}
+use Rattle.manifest_store.specs.Lines.{line_at}
+use Rattle.manifest_store.proofs.Lines.{known_here}
+use Rattle.repo_state.proofs.Reading as reading
+use Rattle.shared_repo.specs.Derivation.{IsNextSome, WasDerived}
+use Rattle.shared_repo.specs.declared.derivation_turns.Next.TheVariants as nexts
+use Rattle.shared_repo.specs.Landing.{SeesMore}
+use Rattle.shared_repo.proofs.Fronts.{after_more, after_nothing}
+
+-- ---- what was derived of a job
+
+pub was_derived : (header : Header) (h : List Entry) (x : Id) (job : Job) (done : Done) → IsNextSome header h x (nexts.Job job) → ((c : Known) (older : List Known) → IsJobOf c older job → IsDoneOf c older job done) → WasDerived h done
+was_derived header h x job done next is = record {
+  then = h;
+  begins = prefix_self h;
+  derived = record {
+    below = reading.done_known (known h) next.0 next.1.1.number job next.1.1.is_next done is;
+    is_done = reading.done_right (known h) next.0 next.1.1.number job next.1.1.is_next done is;
+  };
+}
+
+-- the line of a known changeset, where the history has grown
+line_grown : (g rest : List Entry) (n : ℕ) → n < length (known g) → line_at (known (g ++ rest)) n ≡ line_at (known g) n
+line_grown g rest n less =
+    ap (λ (k : Known). line (known (g ++ rest)) k.id) (ap (λ ks. known_at ks n) (known-append g rest) ∙ known_at-append (known g) _ n less)
+    ∙ line_grows g rest (known_at (known g) n).id (known_here (known g) n less)
+
+more_known : (g rest : List Entry) (n : ℕ) → n < length (known g) → n < length (known (g ++ rest))
+more_known g rest n less =
+    let long : length (known (g ++ rest)) ≡ length (known g) + _ = ap length (known-append g rest) ∙ length-append (known g) _ in
+    omega (arith, long)
+
+pub still_below : (h : List Entry) (done : Done) → WasDerived h done → done.number < length (known h)
+still_below h done w = subst (λ (h : List Entry). done.number < length (known h)) w.begins.1 (more_known w.then w.begins.0 done.number w.derived.below)
+
+pub still_done : (h : List Entry) (done : Done) → WasDerived h done → IsDoneOn (line_at (known h) done.number) done
+still_done h done w =
+    subst (λ (h : List Entry). IsDoneOn (line_at (known h) done.number) done) w.begins.1
+    (subst (λ l. IsDoneOn l done) (sym (line_grown w.then w.begins.0 done.number w.derived.below)) w.derived.is_done)
+
+pub derived_later : (g h : List Entry) (done : Done) → IsPrefix g h → WasDerived g done → WasDerived h done
+derived_later g h done begins w = record { then = w.then; begins = prefix_trans w.then g h w.begins begins; derived = w.derived }
+
+-- ---- reads
+
+pub reads_after : (header : Header) (old between new : List Entry) (who : ℕ) (call : Call) (result : Result Seen AskFault) → SeesMore old who between → (answer : Answer) × IsAnswer result answer × After header between who call answer new
+    → (answer : Answer) × IsAnswer result answer × After header old who call answer new
+reads_after header old between new who call result sees told = (told.0, told.1, after_more header old between new who call told.0 sees told.2)
+
+module _ (header : Header) (old new : List Entry) (who : ℕ) (x : Id) (fault : AskFault) (sees : SeesMore old who new) (a : Answers header new (Derives x) (fault_answer fault) nothing) where
+  abbrev Answered : Call → Type 0
+  Answered call = (answer : Answer) × IsAnswer (Err fault) answer × After header old who call answer new
+
+  answered : (call : Call) → Answers header new call (fault_answer fault) nothing → Answered call
+  answered call told = (fault_answer fault, refl, after_nothing header old new who call (fault_answer fault) sees told)
+
+  pub fsnode_not_derived : (d : Path) → Answered (Looks (FsnodeOf x d))
+  fsnode_not_derived d = answered (Looks (FsnodeOf x d)) (reading.fsnode_not_derived header new x d fault a)
+
+  pub unode_not_derived : (p : Path) → Answered (Looks (UnodeOf x p))
+  unode_not_derived p = answered (Looks (UnodeOf x p)) (reading.unode_not_derived header new x p fault a)
+
+  pub history_not_derived : (p : Path) → Answered (Looks (HistoryOf x p))
+  history_not_derived p = answered (Looks (HistoryOf x p)) (reading.history_not_derived header new x p fault a)
