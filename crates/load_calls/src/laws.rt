@@ -12,7 +12,7 @@ ghost use Rattle.load_calls.specs.declared.fault.LoadFault.{LoadFault};
 /// However a list of asks was answered, the seat's new entries are those of the calls that were
 /// granted, in their order, one each at most.
 pub fn own_entries()
-    ensures { {X : Type 0} (header : Header) (who : ℕ) (from : List Entry) (asks : List Ask) (heads : List ModelId) (outcome : Result X LoadFault) (to : List Entry)
+    ensures { (header : Header) (who : ℕ) (from : List Entry) (asks : List Ask) (heads : List ModelId) (outcome : Result (Unit {0}) LoadFault) (to : List Entry)
         → (a : Answered header who from asks heads outcome to) → entries_by who to ≡ entries_by who from ++ map (entry_by who) (bodies_of a.calls) }
 {}
 
