@@ -32,9 +32,17 @@ KeptIn (PutChangeset bytes) made = KeptBy made
 KeptIn (SetBookmark name from to) made = Unit {0}
 KeptIn (LandDraft name draft) made = KeptBy made
 
+-- what is granted fits what was asked
+abbrev pub FitsAsk : Ask → Granted → Type 0
+FitsAsk (PutContent bytes) granted = heads_in granted ≡ []
+FitsAsk (PutChangeset bytes) granted = heads_in granted ≡ []
+FitsAsk (SetBookmark name from to) granted = heads_in granted ≡ []
+FitsAsk (LandDraft name draft) granted = (old : Id) × (ids : List Id) × (granted ≡ Landed old ids)
+
 pub record Suits (ask : Ask) (granted : Granted) (made : Option Body) : Type 0 where
   pub landings : landings_in (option_to_list made) ≡ length (heads_in granted)
   pub kept : KeptIn ask made
+  pub fits : FitsAsk ask granted
 
 abbrev SuitsIn : Ask → Result Judged Refusal → Type 0
 SuitsIn ask (Ok judged) = Suits ask judged.granted judged.made
@@ -64,7 +72,7 @@ content_suits header h bytes =
     let granted : Granted = ContentPut (sha256 bytes) in
     let body : Body = Content (sha256 bytes) (length bytes) in
     through ask _ (λ _. cond (is_some (content_len h (sha256 bytes))) (unchanged granted) (entered header h granted body))
-    (λ _ _. either ask (is_some (content_len h (sha256 bytes))) _ _ (one ask granted (record { landings = refl; kept = tt })) (entering header h ask granted body (record { landings = refl; kept = tt })))
+    (λ _ _. either ask (is_some (content_len h (sha256 bytes))) _ _ (one ask granted (record { landings = refl; kept = tt; fits = refl })) (entering header h ask granted body (record { landings = refl; kept = tt; fits = refl })))
 
 changeset_suits : (header : Header) (h : List Entry) (bytes : List ℕ) → Granting (PutChangeset bytes) (put_changeset header h bytes)
 changeset_suits header h bytes =
@@ -74,16 +82,16 @@ changeset_suits header h bytes =
     through ask (refuse_some (find (λ p. not (is_known (known h) p)) c.parents) NoParent) _ (λ _ _.
     through ask (refuse_some (first_some (λ e. content_refusal e (content_len h e.1.content)) (sets_of c)) (λ refusal. refusal)) _ (λ _ _.
     through ask (refuse_if (collides (known h) c) (Collision (id_of c))) _ (λ _ _.
-    either ask (is_known (known h) (id_of c)) _ _ (one ask (ChangesetPut (id_of c)) (record { landings = refl; kept = tt }))
-    (entering header h ask (ChangesetPut (id_of c)) (Change c) (record { landings = refl; kept = tt })))))))
+    either ask (is_known (known h) (id_of c)) _ _ (one ask (ChangesetPut (id_of c)) (record { landings = refl; kept = tt; fits = refl }))
+    (entering header h ask (ChangesetPut (id_of c)) (Change c) (record { landings = refl; kept = tt; fits = refl })))))))
 
 bookmark_suits : (header : Header) (h : List Entry) (name : List ℕ) (from to : Option Id) → Granting (SetBookmark name from to) (set_bookmark header h name from to)
 bookmark_suits header h name from to =
     let ask : Ask = SetBookmark name from to in
     through ask (refuse_some (find (λ x. not (is_known (known h) x)) (option_to_list to)) NoChangeset) _ (λ _ _.
     through ask (refuse_if (not (option_eq bytes_eq (head h name) from)) (Moved (head h name))) _ (λ _ _.
-    either ask (option_eq bytes_eq from to) _ _ (one ask BookmarkSet (record { landings = refl; kept = tt }))
-    (entering header h ask BookmarkSet (Book (record { name = name; from = from; to = to })) (record { landings = refl; kept = tt }))))
+    either ask (option_eq bytes_eq from to) _ _ (one ask BookmarkSet (record { landings = refl; kept = tt; fits = refl }))
+    (entering header h ask BookmarkSet (Book (record { name = name; from = from; to = to })) (record { landings = refl; kept = tt; fits = refl }))))
 
 some_rewritten : (stack : List Changeset) (head : Id) → length stack ≢ 0 → 0 < length (rewrite stack head)
 some_rewritten [] head some = absurd (some refl)
@@ -99,7 +107,7 @@ landing_suits header h name old draft new some =
     let body : Body = Land (record { name = name; old = old; draft = draft; new = new }) in
     through ask (refuse_if (nat_lt most_payload (payload_len body)) (TooLarge (payload_len body))) _ (λ _ _.
     through ask (refuse_some (first_collision (known h) new) Collision) _ (λ _ _.
-    entering header h ask (Landed old (map id_of new)) body (record { landings = refl; kept = some })))
+    entering header h ask (Landed old (map id_of new)) body (record { landings = refl; kept = some; fits = (old, map id_of new, refl) })))
 
 land_suits : (header : Header) (h : List Entry) (name : List ℕ) (draft : Id) → Granting (LandDraft name draft) (land header h name draft)
 land_suits header h name draft =
