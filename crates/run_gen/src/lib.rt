@@ -1,0 +1,10 @@
+//! A generated load: clients land stacks on one repository in memory, at once, and what is left is
+//! the same at every run but for the order of their landings.
+#![tactic(auto)]
+
+mod asking;
+mod client;
+mod stack;
+
+pub use client::client;
+pub use load_calls::LoadFault;
