@@ -13,6 +13,7 @@ use Rattle.history_model.specs.Pushrebase.{fork, clash, rewrite, on_parent}
 use Rattle.history_model.specs.Journal.{Header, payload_len, most_payload, size, is_full}
 use Rattle.reply_model.specs.Reply.{Down, Merge, NoParent, content_refusal, collides, Collision, NoChangeset, Moved, TooLarge, first_collision, NoBookmark, NoRoot, TooFarBehind, AlreadyIn, StackTooLong, Clash, most_range, most_stack, Ask, PutContent, PutChangeset, SetBookmark, LandDraft, Refusal, Granted, ContentPut, ChangesetPut, BookmarkSet, Landed, Judged, ◌>>=◌, Full, refuse_if, refuse_some, unchanged, entered, put_content, accepted, put_changeset, set_bookmark, enter_landing, land, by_ask, judge}
 use Rattle.load_calls.specs.Calls.{heads_in, landings_in}
+use Rattle.load_calls.specs.Grants.{FitsAsk}
 
 -- no bookmark has no head after it that had one before it
 abbrev pub KeepsHead : Body → Type 0
@@ -31,13 +32,6 @@ KeptIn (PutContent bytes) made = KeptBy made
 KeptIn (PutChangeset bytes) made = KeptBy made
 KeptIn (SetBookmark name from to) made = Unit {0}
 KeptIn (LandDraft name draft) made = KeptBy made
-
--- what is granted fits what was asked
-abbrev pub FitsAsk : Ask → Granted → Type 0
-FitsAsk (PutContent bytes) granted = heads_in granted ≡ []
-FitsAsk (PutChangeset bytes) granted = heads_in granted ≡ []
-FitsAsk (SetBookmark name from to) granted = heads_in granted ≡ []
-FitsAsk (LandDraft name draft) granted = (old : Id) × (ids : List Id) × (granted ≡ Landed old ids)
 
 pub record Suits (ask : Ask) (granted : Granted) (made : Option Body) : Type 0 where
   pub landings : landings_in (option_to_list made) ≡ length (heads_in granted)
@@ -107,7 +101,7 @@ landing_suits header h name old draft new some =
     let body : Body = Land (record { name = name; old = old; draft = draft; new = new }) in
     through ask (refuse_if (nat_lt most_payload (payload_len body)) (TooLarge (payload_len body))) _ (λ _ _.
     through ask (refuse_some (first_collision (known h) new) Collision) _ (λ _ _.
-    entering header h ask (Landed old (map id_of new)) body (record { landings = refl; kept = some; fits = (old, map id_of new, refl) })))
+    entering header h ask (Landed old (map id_of new)) body (record { landings = refl; kept = some; fits = tt })))
 
 land_suits : (header : Header) (h : List Entry) (name : List ℕ) (draft : Id) → Granting (LandDraft name draft) (land header h name draft)
 land_suits header h name draft =

@@ -11,6 +11,7 @@ use Rattle.reply_model.specs.Reply.{Ask, Granted, Refusal}
 use Rattle.reply_model.specs.After.{After, Asks, Grants, Refuses}
 use Rattle.load_calls.specs.Answers.{Answered, EndsBy, SeesMore}
 use Rattle.load_calls.specs.Calls.{Call, Went, asks_of, heads_in, heads_of}
+use Rattle.load_calls.specs.Grants.{IsSameOutcome}
 use Rattle.load_calls.specs.declared.fault.LoadFault.{LoadFault}
 use Rattle.load_calls.specs.declared.fault.LoadFault.TheVariants.{Refused, Memory}
 use Rattle.load_calls.proofs.Fronts.{prefix_after, prefix_self, prefix_trans}
@@ -84,3 +85,23 @@ pub stops_early : {X Y : Type 0} (header : Header) (who : ℕ) (from to : List E
     → IsPrefix asks more → Answered {X = X} header who from asks heads (Err fault) to → Answered {X = Y} header who from more heads (Err fault) to
 stops_early {X = X} {Y = Y} header who from to asks more heads fault p a =
     record { calls = a.calls; reached = a.reached; went = a.went; heads_are = a.heads_are; ends = ends_early X Y header who a.calls a.reached asks more fault to p a.ends }
+
+-- ---- the same of another result
+
+same_ends : (X Y : Type 0) (header : Header) (who : ℕ) (calls : List Call) (reached : List Entry) (asks : List Ask) (outcome : Result X LoadFault) (other : Result Y LoadFault) (to : List Entry)
+    → IsSameOutcome outcome other → EndsBy header who calls reached asks outcome to → EndsBy header who calls reached asks other to
+same_ends X Y header who calls reached asks (Ok x) (Ok y) to same e = e
+same_ends X Y header who calls reached asks (Ok x) (Err fault) to same e = absurd same
+same_ends X Y header who calls reached asks (Err fault) (Ok y) to same e = absurd same
+same_ends X Y header who calls reached asks (Err Refused) (Err other) to same e = subst (λ (f : LoadFault). EndsBy {X = Y} header who calls reached asks (Err f) to) same e
+same_ends X Y header who calls reached asks (Err Memory) (Err other) to same e = subst (λ (f : LoadFault). EndsBy {X = Y} header who calls reached asks (Err f) to) same e
+
+pub same_answered : {X Y : Type 0} (header : Header) (who : ℕ) (from to : List Entry) (asks : List Ask) (heads others : List Id) (outcome : Result X LoadFault) (other : Result Y LoadFault)
+    → IsSameOutcome outcome other → heads ≡ others → Answered header who from asks heads outcome to → Answered header who from asks others other to
+same_answered {X = X} {Y = Y} header who from to asks heads others outcome other same is a = record {
+  calls = a.calls;
+  reached = a.reached;
+  went = a.went;
+  heads_are = a.heads_are ∙ is;
+  ends = same_ends X Y header who a.calls a.reached asks outcome other to same a.ends;
+}

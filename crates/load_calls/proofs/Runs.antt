@@ -9,8 +9,9 @@ use Rattle.load_calls.specs.Answers.{Answered}
 use Rattle.load_calls.specs.Clients.{Ran}
 use Rattle.load_calls.specs.Running.{IsAt, done}
 use Rattle.load_calls.specs.declared.fault.LoadFault.{LoadFault}
+use Rattle.load_calls.specs.declared.fault.LoadFault.TheVariants.{Memory}
 use Rattle.load_calls.proofs.Fronts.{prefix_self}
-use Rattle.load_calls.proofs.Joined.{and_then, none_asked, stops_early}
+use Rattle.load_calls.proofs.Joined.{and_then, cut_off, none_asked, stops_early}
 
 one_more : (c : ℕ) (load : Load) (parents : List Id) (parent : Id) → stacks_after c load (parents ++ parent ∷ []) ≡ with_stack c (stacks_after c load parents) parent
 one_more c load [] parent = refl
@@ -65,3 +66,7 @@ module _ (header : Header) (who : ℕ) (from : List Entry) (c seed : ℕ) where
 
   pub ends : (stacks : ℕ) (parent : Id) (state : ℕ) (to : List Entry) → IsAt header who from c seed stacks parent state to → Ran header who from c seed stacks done to
   ends stacks parent state to at = record { parents = at.parents; heads = at.heads; are_parents = (at.count, parent, at.chained); answered = at.answered }
+
+  pub never_begun : (stacks : ℕ) → 0 < stacks → Ran {X = Unit {0}} header who from c seed stacks (Err Memory) from
+  never_begun stacks some =
+      stops 0 base_id (seed + c) from from begins stacks some Memory (cut_off header who from from (stack_of c 0 base_id (seed + c)).asks (record { begins = prefix_self from; own = refl }))

@@ -1,4 +1,5 @@
 pub mod Calls
+pub mod Grants
 pub mod Answers
 pub mod Clients
 pub mod Running

@@ -1,12 +1,12 @@
 //! One change that a client asks for.
-ghost use Rattle.std.specs.Prelude.{◌≡◌, ◌∷◌, [], IsTrue};
+ghost use Rattle.std.specs.Prelude.{◌≡◌, ◌∷◌, [], IfOk, IsTrue};
 ghost use Rattle.bookmark_lock.specs.Place.{with_front};
 ghost use Rattle.reply_model.specs.Reply.{LandDraft};
-ghost use Rattle.repo_calls.specs.Calls.{ask_seen};
+ghost use Rattle.repo_calls.specs.Calls.{ask_seen, granted_seen};
 ghost use Rattle.repo_state.specs.State.{IsQuiet};
-ghost use Rattle.shared_repo.specs.Front.{IsFront};
 ghost use Rattle.load_calls.specs.Answers.{Answered};
-ghost use Rattle.load_calls.specs.Calls.{last_id};
+ghost use Rattle.load_calls.specs.Calls.{heads_in, last_id};
+ghost use Rattle.load_calls.specs.Grants.{FitsAsk, IsLanding, IsSameOutcome};
 ghost use Rattle.run_gen.specs.Outcomes.{fault_of as fault_seen, heads_given, heads_left};
 ghost use Rattle.run_gen.specs.Parts.{is_upload};
 
@@ -61,7 +61,7 @@ fn ask<R: Wait, D: Disk>(
     requires quiet { IsQuiet repo.now.opening }
     ensures seat { seat.new ≡ with_front seat.old seat.new.front }
     ensures answered { Answered repo.now.opening.header seat.old.number seat.old.front (ask_seen change.now ∷ []) (heads_left result) result seat.new.front }
-    ensures front { IsFront repo.now.opening seat.new.front }
+    ensures fits { IfOk result (λ granted. FitsAsk (ask_seen change.now) (granted_seen granted)) }
 {
     match repo.change(rt, alloc, seat, change, &NoGate) {
         Ok(granted) => Ok(granted),
@@ -83,9 +83,16 @@ pub(crate) fn put<R: Wait, D: Disk>(
     requires upload { IsTrue (is_upload (ask_seen upload.now)) }
     ensures seat { seat.new ≡ with_front seat.old seat.new.front }
     ensures answered { Answered repo.now.opening.header seat.old.number seat.old.front (ask_seen upload.now ∷ []) [] result seat.new.front }
-    ensures front { IsFront repo.now.opening seat.new.front }
 {
-    match ask(rt, alloc, repo, seat, upload) {
+    let answer = ask(rt, alloc, repo, seat, upload);
+    whether(answer)
+}
+
+// That a change was granted, or why not.
+fn whether(answer: Result<Granted, LoadFault>) -> Result<(), LoadFault>
+    ensures { IsSameOutcome answer result }
+{
+    match answer {
         Ok(_) => Ok(()),
         Err(fault) => Err(fault),
     }
@@ -114,11 +121,31 @@ pub(crate) fn land<R: Wait, D: Disk>(
     requires quiet { IsQuiet repo.now.opening }
     ensures seat { seat.new ≡ with_front seat.old seat.new.front }
     ensures answered { Answered repo.now.opening.header seat.old.number seat.old.front (LandDraft name.now draft ∷ []) (heads_given result) result seat.new.front }
-    ensures front { IsFront repo.now.opening seat.new.front }
 {
-    match ask(rt, alloc, repo, seat, &Ask::Land { name, draft }) {
-        Ok(Granted::Landing(landed)) => Ok(head_of(&landed)),
-        Ok(Granted::Content(_) | Granted::Changeset(_) | Granted::Bookmark) => unreachable!(),
+    let answer = ask(rt, alloc, repo, seat, &Ask::Land { name, draft });
+    left_by(answer)
+}
+
+// The head that a landing left, or why there is none.
+fn left_by(answer: Result<Granted, LoadFault>) -> Result<Id, LoadFault>
+    requires { IfOk answer (λ granted. IsLanding (granted_seen granted)) }
+    ensures same { IsSameOutcome answer result }
+    ensures heads { heads_left answer ≡ heads_given result }
+{
+    match answer {
+        Ok(granted) => Ok(head_in(granted)),
         Err(fault) => Err(fault),
+    }
+}
+
+fn head_in(granted: Granted) -> Id
+    requires { IsLanding (granted_seen granted) }
+    ensures { heads_in (granted_seen granted) ≡ result ∷ [] }
+{
+    match granted {
+        Granted::Landing(landed) => head_of(&landed),
+        Granted::Content(_) => unreachable!(),
+        Granted::Changeset(_) => unreachable!(),
+        Granted::Bookmark => unreachable!(),
     }
 }

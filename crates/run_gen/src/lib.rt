@@ -3,8 +3,8 @@
 #![tactic(auto)]
 
 mod asking;
-mod client;
+mod clients;
 mod stack;
 
-pub use client::client;
+pub use clients::client;
 pub use load_calls::LoadFault;

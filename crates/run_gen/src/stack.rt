@@ -4,7 +4,6 @@ ghost use Rattle.changeset_model.specs.Changeset.{id_of};
 ghost use Rattle.bookmark_lock.specs.Place.{with_front};
 ghost use Rattle.reply_model.specs.Reply.{PutChangeset};
 ghost use Rattle.repo_state.specs.State.{IsQuiet};
-ghost use Rattle.shared_repo.specs.Front.{IsFront};
 ghost use Rattle.load_stacks.specs.Stacks.{after_part, changeset_of, main, part_asks, part_of, parts_on, stack_of};
 ghost use Rattle.load_calls.specs.Answers.{Answered};
 ghost use Rattle.run_gen.specs.Outcomes.{heads_given};
@@ -116,7 +115,10 @@ fn put_parts<R: Wait, D: Disk>(
     let length = draws.below(3) + 1;
     let mut last = parent;
     for place in 0..length {
-        last = put_part(rt, alloc, repo, seat, draws, client, stack, place, last)?;
+        match put_part(rt, alloc, repo, seat, draws, client, stack, place, last) {
+            Ok(id) => last = id,
+            Err(fault) => return Err(fault),
+        }
     }
     Ok(last)
 }
