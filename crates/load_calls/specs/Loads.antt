@@ -1,12 +1,12 @@
 -- The history that a load leaves.
---     lead_entries      what it begins with: the base, and the bookmark at it
+--     base_entry, main_entry, lead_entries      what it begins with: the base, and the bookmark at it
 --     HasClient header seed stacks h c outcome      of client c, whose seat has the number c + 1, the history has just the entries of its calls
 --     IsBegun clients h      it begins with the lead's entries, and has no others but those of so many clients
 --     IsLoaded header seed stacks clients h      every client landed so many stacks
 --     IsStopped header seed stacks clients h      a call of some client was refused
 use Rattle.std.specs.Prelude.{◌≡◌, ℕ, ◌+◌, ◌<◌, ◌≤◌, All, List, [], ◌∷◌, map, None, Some, Result, Ok, Err}
 use mathlib.Core.List.{IsPrefix}
-use Rattle.history_model.specs.History.{Body, Change, Book, Entry, entries_by, unnumbered}
+use Rattle.history_model.specs.History.{Change, Book, Entry, entries_by, unnumbered}
 use Rattle.history_model.specs.Journal.{Header}
 use Rattle.reply_model.specs.After.{entry_by}
 use Rattle.load_stacks.specs.Stacks.{base, base_id, main}
@@ -15,11 +15,14 @@ use Rattle.load_calls.specs.Clients.{Ran}
 use Rattle.load_calls.specs.declared.fault.LoadFault.{LoadFault}
 use Rattle.load_calls.specs.declared.fault.LoadFault.TheVariants.{Refused}
 
-abbrev pub lead_bodies : List Body
-lead_bodies = Change base ∷ Book (record { name = main; from = None; to = Some base_id }) ∷ []
+abbrev pub base_entry : Entry
+base_entry = unnumbered (Change base)
+
+abbrev pub main_entry : Entry
+main_entry = unnumbered (Book (record { name = main; from = None; to = Some base_id }))
 
 abbrev pub lead_entries : List Entry
-lead_entries = map unnumbered lead_bodies
+lead_entries = base_entry ∷ main_entry ∷ []
 
 pub record HasClient (header : Header) (seed stacks : ℕ) (h : List Entry) (c : ℕ) (outcome : Result (Unit {0}) LoadFault) : Type 0 where
   -- what its seat had seen in the end

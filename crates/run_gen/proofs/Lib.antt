@@ -1,2 +1,4 @@
 pub mod Outcomes
 pub mod Stacking
+pub mod Joining
+pub mod Begins

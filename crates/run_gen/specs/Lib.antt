@@ -1,2 +1,6 @@
 pub mod Outcomes
 pub mod Parts
+pub mod Crew
+pub mod Joining
+pub mod Sums
+pub mod Begun

@@ -22,7 +22,7 @@ use std::alloc::Global;
 use std::sync::Wait;
 
 // Why a client stops at a refusal.
-fn fault_of(refusal: Refusal) -> LoadFault
+pub(crate) fn fault_of(refusal: Refusal) -> LoadFault
     ensures { result ≡ fault_seen refusal }
 {
     match refusal {

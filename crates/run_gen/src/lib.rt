@@ -3,8 +3,13 @@
 #![tactic(auto)]
 
 mod asking;
+mod begin;
 mod clients;
+mod crew;
+mod joins;
 mod stack;
+mod summary;
 
 pub use clients::client;
 pub use load_calls::LoadFault;
+pub use summary::Summary;
