@@ -4,3 +4,4 @@ pub mod Crew
 pub mod Joining
 pub mod Sums
 pub mod Begun
+pub mod Loading

@@ -7,9 +7,11 @@ mod begin;
 mod clients;
 mod crew;
 mod joins;
+mod loading;
 mod stack;
 mod summary;
 
 pub use clients::client;
 pub use load_calls::LoadFault;
+pub use loading::load;
 pub use summary::Summary;
