@@ -104,7 +104,7 @@ fn lead(alloc: Global, state: &mut RepoState<MemDisk>) -> Result<(), AllocError>
 }
 
 /// A new repository in memory with the base and the bookmark at it. No call of its disk will fail.
-pub(crate) fn begin(alloc: Global) -> Result<RepoState<MemDisk>, AllocError>
+pub fn begin(alloc: Global) -> Result<RepoState<MemDisk>, AllocError>
     ensures { IfOk result (λ state. IsLed state) }
 {
     let mut disk = new_disk(alloc)?;

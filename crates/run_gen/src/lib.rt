@@ -3,7 +3,7 @@
 #![tactic(auto)]
 
 mod asking;
-mod begin;
+pub mod begin;
 mod clients;
 mod crew;
 mod joins;

@@ -1,5 +1,6 @@
 //! A whole load, from its first entry to its summary.
-ghost use Rattle.std.specs.Prelude.{◌<◌, ◌≤◌, ◌^◌, IfOk};
+ghost use Rattle.std.specs.Prelude.{◌<◌, ◌≤◌, ◌^◌, IfOk, IfSome};
+ghost use Rattle.repo_state.specs.State.{IsQuiet};
 ghost use Rattle.run_gen.specs.Loading.{Leaves, Tells};
 
 use crate::begin::begin;
@@ -32,7 +33,8 @@ fn run<R: Threads + Wait + Sync>(
     requires seed { seed < 2 ^ 32 }
     requires stacks { 0 < stacks }
     requires clients { clients ≤ 8 }
-    ensures { IfOk result (λ left. Leaves seed stacks clients left.outcome left.state) }
+    ensures leaves { IfOk result (λ left. Leaves seed stacks clients left.outcome left.state) }
+    ensures quiet { IfOk result (λ left. IsQuiet left.state.opening) }
 {
     let state = begin(alloc)?;
     let (repo, mut lead) = Repo::new(alloc, state)?;
@@ -62,7 +64,8 @@ pub fn load<R: Threads + Wait + Sync>(
     requires seed { seed < 2 ^ 32 }
     requires stacks { 0 < stacks }
     requires clients { clients ≤ 8 }
-    ensures { Tells seed stacks clients result.0 result.1 }
+    ensures tells { Tells seed stacks clients result.0 result.1 }
+    ensures quiet { IfSome result.1 (λ s. IsQuiet s.opening) }
 {
     let Ok(Left { outcome, mut state }) = run(rt, alloc, seed, stacks, clients) else {
         return (Err(LoadFault::Memory), None);

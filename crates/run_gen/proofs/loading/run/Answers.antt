@@ -16,8 +16,8 @@ join_all-requires-clause-places g c =
     subst (λ (site : Site). All (IsOf site) c.in_ok-finished.finished.items) lock
     (places first c.args.clients c.args.seed c.args.stacks c.in_ok-all.all.items c.in_ok-finished.finished.items c.in_ok-all.ensures.clients c.in_ok-all.ensures.len c.in_ok-finished.ensures.len c.in_ok-finished.ensures.did)
 
-pub returns : goal.returns
-returns g c =
+pub returns-clause-leaves : goal.returns-clause-leaves
+returns-clause-leaves g c =
     let first = c.in_ok-repo.lead in
     let fin = c.in_ok-finished.finished.items in
     let before = c.split_all.new.lead in
