@@ -12,7 +12,7 @@ use Rattle.disk_model.specs.Calls.{Kept, LeavesOnly, Looked}
 use Rattle.history_model.specs.Journal.{Keeps}
 use Rattle.repo_journal.specs.Sealing.{Makes}
 use Rattle.file_commands.specs.declared.report.Report.{Report}
-use Rattle.file_commands.specs.declared.report.Report.TheVariants.{Ready, Counted, Served, Help, Version, Usage, DiskFault, NotARepository, Damaged, NotEmpty, NoMemory, StreamFault}
+use Rattle.file_commands.specs.declared.report.Report.TheVariants.{Ready, Counted, Served, Help, Version, Usage, DiskFault, NotARepository, Damaged, NotEmpty, NoMemory, StreamFault, Loaded, LoadRefused}
 
 abbrev pub Unopened : Report → ℕ → ℕ → Type 0
 Unopened report before after = (report ≡ DiskFault) × Rose before after
@@ -36,6 +36,8 @@ Reported capacity old new NotEmpty = IsUsed old new
 Reported capacity old new DiskFault = Rose old.faults new.faults
 Reported capacity old new (Counted counts) = ⊥
 Reported capacity old new (Served connections entries) = ⊥
+Reported capacity old new (Loaded landed entries root) = ⊥
+Reported capacity old new LoadRefused = ⊥
 Reported capacity old new Help = ⊥
 Reported capacity old new Version = ⊥
 Reported capacity old new Usage = ⊥

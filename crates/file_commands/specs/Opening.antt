@@ -21,7 +21,7 @@ use Rattle.recovery.specs.Answers.{OpensAs}
 use Rattle.recovery.specs.declared.fault.OpenFault.{OpenFault}
 use Rattle.recovery.specs.declared.fault.OpenFault.TheVariants as faults
 use Rattle.file_commands.specs.declared.report.Report.{Report}
-use Rattle.file_commands.specs.declared.report.Report.TheVariants.{Ready, Counted, Served, Help, Version, Usage, DiskFault, NotARepository, Damaged, NotEmpty, NoMemory, StreamFault}
+use Rattle.file_commands.specs.declared.report.Report.TheVariants.{Ready, Counted, Served, Help, Version, Usage, DiskFault, NotARepository, Damaged, NotEmpty, NoMemory, StreamFault, Loaded, LoadRefused}
 use Rattle.file_commands.specs.declared.status.Outcome.{Outcome}
 
 abbrev pub report_of : OpenFault → Report
@@ -66,6 +66,8 @@ Finds old new NoMemory = Unit {0}
 Finds old new (Ready capacity) = ⊥
 Finds old new (Counted counts) = ⊥
 Finds old new (Served connections entries) = ⊥
+Finds old new (Loaded landed entries root) = ⊥
+Finds old new LoadRefused = ⊥
 Finds old new Help = ⊥
 Finds old new Version = ⊥
 Finds old new Usage = ⊥
@@ -80,6 +82,8 @@ is_refusal NoMemory = false
 is_refusal (Ready capacity) = false
 is_refusal (Counted counts) = false
 is_refusal (Served connections entries) = false
+is_refusal (Loaded landed entries root) = false
+is_refusal LoadRefused = false
 is_refusal Help = false
 is_refusal Version = false
 is_refusal Usage = false

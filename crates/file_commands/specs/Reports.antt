@@ -1,8 +1,10 @@
 -- The lines that the program writes.
---     report_text report      the line;  counts_text counts      that of a repository's counts;  served_text connections entries      that of what was served
+--     report_text report      the line;  counts_text counts      that of a repository's counts;  served_text connections entries      that of what was served;  loaded_text landed entries root      that of what a load came to
 --     status_of report      the status of a run that is reported so
---     Reports report status written kept before after      the line is written, or a front of it where the count of faults rose, which is the status where nothing else is wrong
+--     after_fault status      the status where that line can't be written
+--     Reports report status written kept before after      the line is written, or a front of it where the count of faults rose, which the status then says where nothing else is wrong or a load was refused
 use Rattle.std.specs.Prelude.{◌≡◌, ◌⊎◌, ℕ, List, ◌++◌, codes, decimal, Option}
+use Rattle.hex.specs.Hex.{encode_lower}
 use Rattle.ports.specs.Faults.{Rose}
 use Rattle.ports.specs.Streams.{Puts, PutsFront}
 use Rattle.program_words.specs.declared.texts.TheConstants.{HELP, USAGE, VERSION}
@@ -10,7 +12,7 @@ use Rattle.repo_machine.specs.declared.counts.Counts.{Counts}
 use Rattle.file_commands.specs.declared.report.Report.{Report}
 use Rattle.file_commands.specs.declared.report.Report.TheVariants as report
 use Rattle.file_commands.specs.declared.status.Status.{Status}
-use Rattle.file_commands.specs.declared.status.Status.TheVariants.{Done, Usage, DiskFault, BadFile, NoMemory, StreamFault, NotEmpty, Cut, Refused, Spent}
+use Rattle.file_commands.specs.declared.status.Status.TheVariants.{Done, Usage, DiskFault, BadFile, NoMemory, StreamFault, NotEmpty, Cut, Refused, Spent, LoadRefused}
 
 abbrev pub counts_text : Counts → List ℕ
 counts_text counts =
@@ -20,10 +22,16 @@ counts_text counts =
 abbrev pub served_text : (connections entries : ℕ) → List ℕ
 served_text connections entries = codes "served " ++ (decimal connections ++ (codes " entries " ++ (decimal entries ++ codes "\n")))
 
+abbrev pub loaded_text : (landed entries : ℕ) → List ℕ → List ℕ
+loaded_text landed entries root =
+    codes "landed " ++ (decimal landed ++ (codes " entries " ++ (decimal entries ++ (codes " root " ++ (encode_lower root ++ codes "\n")))))
+
 abbrev pub report_text : Report → List ℕ
 report_text (report.Ready capacity) = codes "ready " ++ (decimal capacity ++ codes "\n")
 report_text (report.Counted counts) = counts_text counts
 report_text (report.Served connections entries) = served_text connections entries
+report_text (report.Loaded landed entries root) = loaded_text landed entries root
+report_text report.LoadRefused = codes "load refused\n"
 report_text report.Help = HELP.now
 report_text report.Version = VERSION.now
 report_text report.Usage = USAGE.now
@@ -38,6 +46,8 @@ abbrev pub status_of : Report → Status
 status_of (report.Ready capacity) = Done
 status_of (report.Counted counts) = Done
 status_of (report.Served connections entries) = Done
+status_of (report.Loaded landed entries root) = Done
+status_of report.LoadRefused = LoadRefused
 status_of report.Help = Done
 status_of report.Version = Done
 status_of report.Usage = Usage
@@ -64,6 +74,7 @@ after_fault NotEmpty = NotEmpty
 after_fault Cut = Cut
 after_fault Refused = Refused
 after_fault Spent = Spent
+after_fault LoadRefused = StreamFault
 
 pub record IsFront (report : Report) (status : Status) (written kept : Option (List ℕ)) (before after : ℕ) : Type 0 where
   pub puts : PutsFront (report_text report) written kept

@@ -2,7 +2,7 @@
 --     status_code s      the number of a status
 use Rattle.std.specs.Prelude.{ℕ}
 use Rattle.file_commands.specs.declared.status.Status.{Status}
-use Rattle.file_commands.specs.declared.status.Status.TheVariants.{Done, Usage, DiskFault, BadFile, NoMemory, StreamFault, NotEmpty, Cut, Refused, Spent}
+use Rattle.file_commands.specs.declared.status.Status.TheVariants.{Done, Usage, DiskFault, BadFile, NoMemory, StreamFault, NotEmpty, Cut, Refused, Spent, LoadRefused}
 
 abbrev pub status_code : Status → ℕ
 status_code Done = 0
@@ -15,3 +15,4 @@ status_code NotEmpty = 6
 status_code Cut = 7
 status_code Refused = 8
 status_code Spent = 9
+status_code LoadRefused = 13

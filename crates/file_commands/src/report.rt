@@ -3,10 +3,12 @@ ghost use Rattle.std.specs.Prelude.{◌≡◌, ◌++◌, codes, decimal, map, On
 ghost use Rattle.std.specs.List.{concat};
 ghost use Rattle.ports.specs.Faults.{Counts as FaultCounts};
 ghost use Rattle.ports.specs.Streams.{Puts, PutsFront};
-ghost use Rattle.file_commands.specs.Reports.{Reports, counts_text, report_text, served_text, status_of};
+ghost use Rattle.file_commands.specs.Reports.{Reports, after_fault, counts_text, loaded_text, report_text, served_text, status_of};
 
 use crate::status::Status;
 use itoa::Buffer;
+use object_id::Id;
+use object_id::id::HEX_LENGTH;
 use ports::{Failed, Link};
 use program_words::texts::{HELP, USAGE, VERSION};
 use repo_machine::Counts;
@@ -20,6 +22,10 @@ pub enum Report {
     Counted(Counts),
     /// Connections were served, and the repository has this many stored entries since.
     Served { connections: u64, entries: u64 },
+    /// A load landed so many stacks, and its repository has this many stored entries and this root of the tree.
+    Loaded { landed: u64, entries: u64, root: Id },
+    /// A call of a load was refused.
+    LoadRefused,
     /// The words ask for help.
     Help,
     /// The words ask for the version.
@@ -49,8 +55,10 @@ impl Report {
             Report::Ready { .. }
             | Report::Counted(_)
             | Report::Served { .. }
+            | Report::Loaded { .. }
             | Report::Help
             | Report::Version => Status::Done,
+            Report::LoadRefused => Status::LoadRefused,
             Report::Usage => Status::Usage,
             Report::DiskFault => Status::DiskFault,
             Report::NotARepository | Report::Damaged { .. } => Status::BadFile,
@@ -74,6 +82,12 @@ impl Report {
                 connections,
                 entries,
             } => write_served(*connections, *entries, link),
+            Report::Loaded {
+                landed,
+                entries,
+                root,
+            } => write_loaded(*landed, *entries, root, link),
+            Report::LoadRefused => link.write(b"load refused\n"),
             Report::Help => link.write(HELP.as_bytes()),
             Report::Version => link.write(VERSION.as_bytes()),
             Report::Usage => link.write(USAGE.as_bytes()),
@@ -115,6 +129,28 @@ fn write_served<L: Link>(connections: u64, entries: u64, link: &mut L) -> Result
     )
 }
 
+// Writes the line of what a load came to.
+fn write_loaded<L: Link>(landed: u64, entries: u64, root: &Id, link: &mut L) -> Result<(), Failed>
+    ensures ok { OnOk result (Puts (loaded_text landed entries root.now) (L.written link.old) (L.written link.new)) }
+    ensures err { OnErr result (PutsFront (loaded_text landed entries root.now) (L.written link.old) (L.written link.new)) }
+    ensures input { L.rest link.new ≡ L.rest link.old }
+    ensures faults { FaultCounts (L.faults link.old) (L.faults link.new) (is_err result) }
+{
+    let [mut stacks, mut stored] = [Buffer::new(); 2];
+    let mut hex = [0; HEX_LENGTH];
+    root.write_hex(&mut hex);
+    let pieces: [&[u8]; 7] = [
+        b"landed ",
+        stacks.format(landed).as_bytes(),
+        b" entries ",
+        stored.format(entries).as_bytes(),
+        b" root ",
+        &hex,
+        b"\n",
+    ];
+    write_pieces(&pieces, link)
+}
+
 // Writes the line of a repository's counts.
 fn write_counts<L: Link>(counts: &Counts, link: &mut L) -> Result<(), Failed>
     ensures ok { OnOk result (Puts (counts_text counts.now) (L.written link.old) (L.written link.new)) }
@@ -152,15 +188,27 @@ fn write_pieces<L: Link>(pieces: &[&[u8]], link: &mut L) -> Result<(), Failed>
     Ok(())
 }
 
+// A line that can't be written is told only where nothing is wrong but that, or where a load was refused.
+fn after_fault(status: Status) -> Status
+    ensures { result ≡ after_fault status }
+{
+    match status {
+        Status::Done | Status::LoadRefused => Status::StreamFault,
+        status => status,
+    }
+}
+
 /// Ends a run with its report. The status says what is wrong, also where the line can't be written; where nothing else
-/// is wrong, it says that.
+/// is wrong, or a load was refused, it says that.
 pub fn end_run<L: Link>(report: Report, link: &mut L) -> Status
     ensures reports { Reports report result (L.written link.old) (L.written link.new) (L.faults link.old) (L.faults link.new) }
     ensures input { L.rest link.new ≡ L.rest link.old }
 {
     let written = report.write(link);
-    match report.status() {
-        Status::Done if written.is_err() => Status::StreamFault,
-        status => status,
+    let status = report.status();
+    if written.is_err() {
+        after_fault(status)
+    } else {
+        status
     }
 }

@@ -26,6 +26,8 @@ pub enum Status {
     Refused,
     /// All was read that a session may read.
     Spent,
+    /// A call of a load was refused.
+    LoadRefused,
 }
 
 impl Status {
@@ -44,6 +46,7 @@ impl Status {
             Status::Cut => 7,
             Status::Refused => 8,
             Status::Spent => 9,
+            Status::LoadRefused => 13,
         }
     }
 }

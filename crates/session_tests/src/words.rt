@@ -105,6 +105,7 @@ fn statuses_have_their_numbers(rt: HostRuntime) {
         (Status::Cut, 7),
         (Status::Refused, 8),
         (Status::Spent, 9),
+        (Status::LoadRefused, 13),
     ] {
         assert_eq!(rt; status.code(), number);
     }

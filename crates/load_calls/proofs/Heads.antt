@@ -1,0 +1,1 @@
+-- The bookmark has a head after a load.

@@ -1,0 +1,6 @@
+pub mod Fronts
+pub mod Granting
+pub mod Own
+pub mod Joined
+pub mod Runs
+pub mod Heads

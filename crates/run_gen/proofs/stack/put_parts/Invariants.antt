@@ -1,0 +1,14 @@
+use Rattle.std.proofs.Common.{◌≡◌, []}
+use Rattle.bookmark_lock.specs.Place.{with_front}
+use Rattle.load_stacks.specs.Stacks.{no_parts, parts_of}
+use Rattle.load_calls.specs.Answers.{Answered}
+use Rattle.load_calls.specs.Running.{done}
+use Rattle.run_gen.proofs.stack.put_parts.Given as goal
+
+abbrev pub invariant-loop-place : goal.invariant-loop-place
+invariant-loop-place g l =
+    let stack = parts_of l.client l.stack l.place (no_parts l.initial.last l.initial.draws) in
+    (l.seat ≡ with_front l.initial.seat l.seat.front)
+    × (l.last ≡ stack.last)
+    × (l.draws ≡ stack.state)
+    × Answered l.repo.opening.header l.initial.seat.number l.initial.seat.front stack.asks [] done l.seat.front

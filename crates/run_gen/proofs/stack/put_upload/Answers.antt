@@ -1,0 +1,11 @@
+use Rattle.std.proofs.Common.{[], ◌∷◌, ℕ, List, subst}
+use Rattle.reply_model.specs.Reply.{PutChangeset}
+use Rattle.load_calls.specs.Answers.{Answered}
+use Rattle.run_gen.proofs.Stacking.{seat_then}
+use Rattle.run_gen.proofs.stack.put_upload.Goals as goal
+
+pub returns-in-Ok-clause-answered : goal.returns-in-Ok-clause-answered
+returns-in-Ok-clause-answered g c =
+    let mid = c.put_content.new.seat in
+    let put = subst (λ (bytes : List ℕ). Answered c.args.repo.now.opening.header mid.number mid.front (PutChangeset bytes ∷ []) [] c.put.result c.put.new.seat.front) c.as_slice.ensures.value c.put.ensures.answered in
+    seat_then _ c.args.seat.now mid _ _ _ _ _ tt c.put.result c.put_content.ensures.seat c.in-Ok.ensures.answered put

@@ -1,0 +1,151 @@
+//! One change that a client asks for.
+ghost use Rattle.std.specs.Prelude.{◌≡◌, ◌∷◌, [], IfOk, IsTrue};
+ghost use Rattle.bookmark_lock.specs.Place.{with_front};
+ghost use Rattle.reply_model.specs.Reply.{LandDraft};
+ghost use Rattle.repo_calls.specs.Calls.{ask_seen, granted_seen};
+ghost use Rattle.repo_state.specs.State.{IsQuiet};
+ghost use Rattle.load_calls.specs.Answers.{Answered};
+ghost use Rattle.load_calls.specs.Calls.{heads_in, last_id};
+ghost use Rattle.load_calls.specs.Grants.{FitsAsk, IsLanding, IsSameOutcome};
+ghost use Rattle.run_gen.specs.Outcomes.{fault_of as fault_seen, heads_given, heads_left};
+ghost use Rattle.run_gen.specs.Parts.{is_upload};
+
+use blob_disk::Disk;
+use load_calls::LoadFault;
+use object_id::Id;
+use ports::NoGate;
+use repo_calls::{Ask, Granted, Landed, Refusal};
+use repo_path::BookName;
+use seat_calls::ChangeFault;
+use shared_repo::{Repo, RepoSeat};
+use std::alloc::Global;
+use std::sync::Wait;
+
+// Why a client stops at a refusal.
+pub(crate) fn fault_of(refusal: Refusal) -> LoadFault
+    ensures { result ≡ fault_seen refusal }
+{
+    match refusal {
+        Refusal::Memory => LoadFault::Memory,
+        Refusal::Down
+        | Refusal::TooLong { .. }
+        | Refusal::BadEncoding { .. }
+        | Refusal::SelfConflict { .. }
+        | Refusal::Merge
+        | Refusal::NoParent { .. }
+        | Refusal::NoContent { .. }
+        | Refusal::WrongSize { .. }
+        | Refusal::Collision { .. }
+        | Refusal::NoChangeset { .. }
+        | Refusal::Moved { .. }
+        | Refusal::NoBookmark
+        | Refusal::NoRoot
+        | Refusal::TooFarBehind { .. }
+        | Refusal::AlreadyIn
+        | Refusal::StackTooLong { .. }
+        | Refusal::Clash { .. }
+        | Refusal::TooLarge { .. }
+        | Refusal::Full { .. } => LoadFault::Refused,
+    }
+}
+
+// Asks for a change. No call of the disk fails.
+fn ask<R: Wait, D: Disk>(
+    rt: &R,
+    alloc: Global,
+    repo: &Repo<D>,
+    seat: &mut RepoSeat,
+    change: &Ask,
+) -> Result<Granted, LoadFault>
+    requires place { seat.old.lock ≡ repo.now }
+    requires quiet { IsQuiet repo.now.opening }
+    ensures seat { seat.new ≡ with_front seat.old seat.new.front }
+    ensures answered { Answered repo.now.opening.header seat.old.number seat.old.front (ask_seen change.now ∷ []) (heads_left result) result seat.new.front }
+    ensures fits { IfOk result (λ granted. FitsAsk (ask_seen change.now) (granted_seen granted)) }
+{
+    match repo.change(rt, alloc, seat, change, &NoGate) {
+        Ok(granted) => Ok(granted),
+        Err(ChangeFault::Refused(refusal)) => Err(fault_of(refusal)),
+        Err(ChangeFault::DiskFault) => unreachable!(),
+    }
+}
+
+/// Asks for an upload.
+pub(crate) fn put<R: Wait, D: Disk>(
+    rt: &R,
+    alloc: Global,
+    repo: &Repo<D>,
+    seat: &mut RepoSeat,
+    upload: &Ask,
+) -> Result<(), LoadFault>
+    requires place { seat.old.lock ≡ repo.now }
+    requires quiet { IsQuiet repo.now.opening }
+    requires upload { IsTrue (is_upload (ask_seen upload.now)) }
+    ensures seat { seat.new ≡ with_front seat.old seat.new.front }
+    ensures answered { Answered repo.now.opening.header seat.old.number seat.old.front (ask_seen upload.now ∷ []) [] result seat.new.front }
+{
+    let answer = ask(rt, alloc, repo, seat, upload);
+    whether(answer)
+}
+
+// That a change was granted, or why not.
+fn whether(answer: Result<Granted, LoadFault>) -> Result<(), LoadFault>
+    ensures { IsSameOutcome answer result }
+{
+    match answer {
+        Ok(_) => Ok(()),
+        Err(fault) => Err(fault),
+    }
+}
+
+// The head that a landing left.
+fn head_of(landed: &Landed) -> Id
+    ensures { result ≡ last_id landed.now.old landed.now.ids.items }
+{
+    match landed.ids.last() {
+        Some(id) => *id,
+        None => landed.old,
+    }
+}
+
+/// Asks for a landing, and gives the head that it left.
+pub(crate) fn land<R: Wait, D: Disk>(
+    rt: &R,
+    alloc: Global,
+    repo: &Repo<D>,
+    seat: &mut RepoSeat,
+    name: &BookName,
+    draft: Id,
+) -> Result<Id, LoadFault>
+    requires place { seat.old.lock ≡ repo.now }
+    requires quiet { IsQuiet repo.now.opening }
+    ensures seat { seat.new ≡ with_front seat.old seat.new.front }
+    ensures answered { Answered repo.now.opening.header seat.old.number seat.old.front (LandDraft name.now draft ∷ []) (heads_given result) result seat.new.front }
+{
+    let answer = ask(rt, alloc, repo, seat, &Ask::Land { name, draft });
+    left_by(answer)
+}
+
+// The head that a landing left, or why there is none.
+fn left_by(answer: Result<Granted, LoadFault>) -> Result<Id, LoadFault>
+    requires { IfOk answer (λ granted. IsLanding (granted_seen granted)) }
+    ensures same { IsSameOutcome answer result }
+    ensures heads { heads_left answer ≡ heads_given result }
+{
+    match answer {
+        Ok(granted) => Ok(head_in(granted)),
+        Err(fault) => Err(fault),
+    }
+}
+
+fn head_in(granted: Granted) -> Id
+    requires { IsLanding (granted_seen granted) }
+    ensures { heads_in (granted_seen granted) ≡ result ∷ [] }
+{
+    match granted {
+        Granted::Landing(landed) => head_of(&landed),
+        Granted::Content(_) => unreachable!(),
+        Granted::Changeset(_) => unreachable!(),
+        Granted::Bookmark => unreachable!(),
+    }
+}

@@ -1,0 +1,88 @@
+//! One client of a load.
+ghost use Rattle.std.specs.Prelude.{◌≡◌, ◌+◌, ◌<◌, ◌^◌, IfOk};
+ghost use Rattle.bookmark_lock.specs.Place.{with_front};
+ghost use Rattle.repo_state.specs.State.{IsQuiet};
+ghost use Rattle.load_calls.specs.Clients.{Ran};
+ghost use Rattle.load_stacks.specs.Stacks.{main};
+
+use crate::stack::land_stack;
+use blob_disk::Disk;
+use load_calls::LoadFault;
+use load_stacks::{Draws, MAIN, base_encoding};
+use object_id::Id;
+use repo_path::{BookName, NameFault};
+use shared_repo::{Repo, RepoSeat};
+use std::alloc::{AllocError, Global};
+use std::sync::Wait;
+
+/// The name of the bookmark that stacks are landed on.
+pub(crate) fn main_name(alloc: Global) -> Result<BookName, AllocError>
+    ensures { IfOk result (λ name. name ≡ main) }
+{
+    match BookName::parse(alloc, MAIN) {
+        Ok(name) => Ok(name),
+        Err(NameFault::BadName { at: _ }) => unreachable!(),
+        Err(NameFault::Memory) => Err(AllocError),
+    }
+}
+
+// Lands the stacks, one after another.
+fn land_all<R: Wait, D: Disk>(
+    rt: &R,
+    alloc: Global,
+    repo: &Repo<D>,
+    seat: &mut RepoSeat,
+    name: &BookName,
+    number: u64,
+    seed: u64,
+    stacks: u64,
+) -> Result<(), LoadFault>
+    requires place { seat.old.lock ≡ repo.now }
+    requires quiet { IsQuiet repo.now.opening }
+    requires name { name.now ≡ main }
+    requires number { number < 8 }
+    requires seed { seed + number < 2 ^ 64 }
+    requires stacks { 0 < stacks }
+    ensures seat { seat.new ≡ with_front seat.old seat.new.front }
+    ensures ran { Ran repo.now.opening.header seat.old.number seat.old.front number seed stacks result seat.new.front }
+{
+    let mut draws = Draws::new(seed + number);
+    let mut parent = Id::of(&base_encoding());
+    for stack in 0..stacks {
+        match land_stack(
+            rt, alloc, repo, seat, name, &mut draws, number, stack, parent,
+        ) {
+            Ok(head) => parent = head,
+            Err(fault) => return Err(fault),
+        }
+    }
+    Ok(())
+}
+
+/// Lands so many stacks at this seat, each on the head that the one before left. What they are
+/// follows from the client's number and the seed, and the answers to its landings.
+///
+/// # Errors
+/// `Refused` where the repository refuses a call, and then no further call is made.
+pub fn client<R: Wait, D: Disk>(
+    rt: &R,
+    alloc: Global,
+    repo: &Repo<D>,
+    seat: &mut RepoSeat,
+    number: u64,
+    seed: u64,
+    stacks: u64,
+) -> Result<(), LoadFault>
+    requires place { seat.old.lock ≡ repo.now }
+    requires quiet { IsQuiet repo.now.opening }
+    requires number { number < 8 }
+    requires seed { seed + number < 2 ^ 64 }
+    requires stacks { 0 < stacks }
+    ensures seat { seat.new ≡ with_front seat.old seat.new.front }
+    ensures ran { Ran repo.now.opening.header seat.old.number seat.old.front number seed stacks result seat.new.front }
+{
+    let Ok(name) = main_name(alloc) else {
+        return Err(LoadFault::Memory);
+    };
+    land_all(rt, alloc, repo, seat, &name, number, seed, stacks)
+}
