@@ -10,8 +10,12 @@ use repo_path::BookName;
 use repo_state::RepoState;
 use server_lanes::serve_all;
 use std::alloc::Global;
+use std::sync::Wait;
 use std::sync::atomic::{AtomicU64, Ordering};
 use std::test::Fail;
+use std::thread::Threads;
+
+const MOST_DERIVERS: u64 = 2;
 
 // A changeset without parents and edits, and two upon it that set the content `abc` at the paths `p` and `x`.
 const ROOT: &str = "4301000001610000000000000000000000000000000000000000";
@@ -72,9 +76,32 @@ fn link_of<'a>(
     Ok(Watched::new(link, LANDED, landed))
 }
 
-#[test]
-fn a_landing_goes_on_while_another_waits(rt: HostRuntime) -> Result<(), Fail> {
-    let alloc = rt.alloc();
+// Whether the manifests of both drafts are derived.
+fn has_derived(alloc: Global, state: &RepoState<MemDisk>) -> Result<bool, Fail> {
+    for draft in DRAFTS {
+        let bytes = hex::decode(alloc, draft)?;
+        if state.roots(Id::of(bytes.as_slice())).is_none() {
+            return Ok(false);
+        }
+    }
+    Ok(true)
+}
+
+// What the landings left: how many gave up waiting, how many were answered and how many links served, how
+// many entries there are, and whether the drafts' manifests are derived.
+#[derive(Clone, Copy, Debug, PartialEq, Eq)]
+struct Left {
+    gave_up: u64,
+    landed: u64,
+    served: u64,
+    entries: u64,
+    derived: bool,
+}
+
+fn left_of<R: Threads + Wait + Sync>(rt: &R, alloc: Global, derivers: u64) -> Result<Left, Fail> {
+    if derivers > MOST_DERIVERS {
+        return Err(Fail::from("derivers"));
+    }
     let landed = AtomicU64::new(0);
     let gate = FirstWaits::new(&landed);
     let mut links = Vec::new(alloc);
@@ -82,15 +109,32 @@ fn a_landing_goes_on_while_another_waits(rt: HostRuntime) -> Result<(), Fail> {
         links.push(link_of(alloc, draft, &landed)?)?;
     }
     let accept = MemAccept::new(links, Vec::new(alloc));
-    let closing = serve_all(&rt, alloc, with_main(alloc)?, accept, &gate, 2, 2, 2);
+    let closing = serve_all(rt, alloc, with_main(alloc)?, accept, &gate, 2, derivers, 2);
     let state = closing.state.ok_or("memory")?;
-    assert_eq!(rt;
-        gate.told().1,
-        0,
-        "a landing was answered while another waited"
-    );
-    assert_eq!(rt; landed.load(Ordering::SeqCst), 2);
-    assert_eq!(rt; closing.served.count(), 2);
-    assert_eq!(rt; state.history_length(), 7);
+    Ok(Left {
+        gave_up: gate.told().1,
+        landed: landed.load(Ordering::SeqCst),
+        served: closing.served.count(),
+        entries: state.history_length(),
+        derived: has_derived(alloc, &state)?,
+    })
+}
+
+#[test]
+fn a_landing_goes_on_while_another_waits(rt: HostRuntime) -> Result<(), Fail> {
+    for derivers in [0, MOST_DERIVERS] {
+        let left = Left {
+            gave_up: 0,
+            landed: 2,
+            served: 2,
+            entries: 7,
+            derived: derivers > 0,
+        };
+        assert_eq!(rt;
+            left_of(&rt, rt.alloc(), derivers)?,
+            left,
+            "{derivers} derivers"
+        );
+    }
     Ok(())
 }
