@@ -2,3 +2,4 @@ pub mod Entries
 pub mod Sessions
 pub mod Unserved
 pub mod Serving
+pub mod Loading

@@ -3,6 +3,7 @@ use Rattle.std.proofs.Common.{◌≡◌, ◌⊎◌, ℕ, List, refl, ap, subst, 
 use Rattle.std.specs.Prelude.{Option, None, Some, IfSome, MatchOption}
 use mathlib.Core.Logic.{inl, inr}
 use Rattle.disk_model.specs.Meaning.{Meaning}
+use Rattle.blob_disk.specs.declared.mem_disk.MemDisk.{MemDisk}
 use Rattle.program_words.specs.Words.{Request, session}
 use Rattle.file_commands.specs.declared.report.Report.{Report}
 use Rattle.file_commands.specs.declared.status.Status.{Status}
@@ -48,7 +49,7 @@ came_as status disk = record { status = status; disk = disk }
 same_came : {D : Type 0} (came ran : Came D) → ran.status ≡ came.status → ran.disk ≡ came.disk → came ≡ ran
 same_came {D} came ran status disk = sym (ap (λ (s : Status). came_as s ran.disk) status ∙ ap (λ (d : Option D). came_as came.status d) disk)
 
-pub runs_session : {D : Type 0} (meaning : D → Meaning) (request : Option Request) (file : List ℕ) (old new : Outside D) (links : Links) (came ran : Came D) → request ≡ Some (session file)
-    → RunsSession meaning file old new came → ran.status ≡ came.status → ran.disk ≡ came.disk → Runs meaning request old new links ran ⊎ LacksMemory request old new links ran
-runs_session {D} meaning request file old new links came ran is runs status disk = inl (subst (λ (q : Option Request). Runs meaning q old new links ran) (sym is)
+pub runs_session : {D : Type 0} (meaning : D → Meaning) (request : Option Request) (file : List ℕ) (old new : Outside D) (links : Links) (came ran : Came D) (load : Option MemDisk) → request ≡ Some (session file)
+    → RunsSession meaning file old new came → ran.status ≡ came.status → ran.disk ≡ came.disk → Runs meaning request old new links ran load ⊎ LacksMemory request old new links ran load
+runs_session {D} meaning request file old new links came ran load is runs status disk = inl (subst (λ (q : Option Request). Runs meaning q old new links ran load) (sym is)
     (subst (λ (r : Came D). RunsSession meaning file old new r) (same_came came ran status disk) runs))

@@ -3,11 +3,13 @@
 --     RunsInit meaning file capacity .., RunsFsck meaning file ..      what is reported of the file of this name
 --     RunsSession meaning file ..      one connection is served on the repository in it, or it wasn't opened and nothing is written
 --     RunsServe meaning file lanes connections ..      connections are served on the repository in it
+--     RunsGen seed stacks clients ..      a load is made in memory, and no file is opened
 --     LacksMemory request ..      there was no memory to read the words;  Runs meaning request ..      by what is asked for
---     takes_links request      the command takes links
+--     takes_links request      the command takes links;  makes_load request      it makes a load
 use Rattle.std.specs.Prelude.{◌≡◌, ◌⊎◌, ℕ, Bool, true, false, List, Option, None, Some, MatchOption}
 use Rattle.ports.specs.Faults.{Rose}
 use Rattle.disk_model.specs.Meaning.{Meaning}
+use Rattle.blob_disk.specs.declared.mem_disk.MemDisk.{MemDisk}
 use Rattle.history_model.specs.History.{Entry}
 use Rattle.history_model.specs.Journal.{Header}
 use Rattle.repo_journal.specs.View.{JournalView}
@@ -22,6 +24,7 @@ use Rattle.file_commands.specs.Making.{AttemptsIn, Unopened}
 use Rattle.file_commands.specs.Opening.{RefusesIn}
 use Rattle.file_commands.specs.Reports.{Reports, status_of}
 use Rattle.command_line.specs.declared.came.Came.{Came}
+use Rattle.command_line.specs.Loading.{Loads}
 use Rattle.command_line.specs.Outside.{Links, Outside, TakesNone, Told}
 use Rattle.command_line.specs.Sessions.{ServesFile}
 use Rattle.command_line.specs.Serving.{ServesOpened, ServesRepository}
@@ -104,6 +107,17 @@ abbrev pub RunsServe : {D : Type 0} → (D → Meaning) → List ℕ → (lanes 
 RunsServe meaning file lanes connections old new links ran =
     OpensNone meaning file old new links ran ⊎ LacksLanes old.link new.link links ran ⊎ Ends (ServesRepository meaning file old.shelf lanes connections links) old.link new.link ran
 
+-- ---- a load
+
+-- it is reported, and the disk that it left is handed out
+pub record ReportsLoad (seed stacks clients : ℕ) (load : Option MemDisk) (status : Status) (old new : Told) : Type 0 where
+  pub report : Report
+  pub writes : Writes report status old new
+  pub loads : Loads seed stacks clients report load
+
+abbrev pub RunsGen : {D : Type 0} → (seed stacks clients : ℕ) → Outside D → Outside D → Came D → Option MemDisk → Type 0
+RunsGen seed stacks clients old new ran load = RunsAlone (ReportsLoad seed stacks clients load) old new ran
+
 -- ---- all words
 
 abbrev pub takes_links : Option Request → Bool
@@ -116,16 +130,27 @@ takes_links (Some help) = false
 takes_links (Some version) = false
 takes_links None = false
 
-abbrev pub LacksMemory : {D : Type 0} → Option Request → Outside D → Outside D → Links → Came D → Type 0
-LacksMemory request old new links ran = RunsAlone (LacksLine (is_session request)) old new ran × TakesNone links
+abbrev pub makes_load : Option Request → Bool
+makes_load (Some (init file capacity)) = false
+makes_load (Some (session file)) = false
+makes_load (Some (serve file address lanes derivers connections)) = false
+makes_load (Some (fsck file)) = false
+makes_load (Some (gen seed stacks clients)) = true
+makes_load (Some help) = false
+makes_load (Some version) = false
+makes_load None = false
 
--- `gen` isn't there yet, and is answered as words that are no command
-abbrev pub Runs : {D : Type 0} → (D → Meaning) → Option Request → Outside D → Outside D → Links → Came D → Type 0
-Runs meaning (Some (init file capacity)) old new links ran = RunsInit meaning file capacity old new ran
-Runs meaning (Some (session file)) old new links ran = RunsSession meaning file old new ran
-Runs meaning (Some (serve file address lanes derivers connections)) old new links ran = RunsServe meaning file lanes connections old new links ran
-Runs meaning (Some (fsck file)) old new links ran = RunsFsck meaning file old new ran
-Runs meaning (Some (gen seed stacks clients)) old new links ran = RunsLine report.Usage old new ran
-Runs meaning (Some help) old new links ran = RunsLine report.Help old new ran
-Runs meaning (Some version) old new links ran = RunsLine report.Version old new ran
-Runs meaning None old new links ran = RunsLine report.Usage old new ran
+pub record LacksMemory {D : Type 0} (request : Option Request) (old new : Outside D) (links : Links) (ran : Came D) (load : Option MemDisk) : Type 0 where
+  pub line : RunsAlone (LacksLine (is_session request)) old new ran
+  pub untaken : TakesNone links
+  pub unloaded : load ≡ None
+
+abbrev pub Runs : {D : Type 0} → (D → Meaning) → Option Request → Outside D → Outside D → Links → Came D → Option MemDisk → Type 0
+Runs meaning (Some (init file capacity)) old new links ran load = RunsInit meaning file capacity old new ran
+Runs meaning (Some (session file)) old new links ran load = RunsSession meaning file old new ran
+Runs meaning (Some (serve file address lanes derivers connections)) old new links ran load = RunsServe meaning file lanes connections old new links ran
+Runs meaning (Some (fsck file)) old new links ran load = RunsFsck meaning file old new ran
+Runs meaning (Some (gen seed stacks clients)) old new links ran load = RunsGen seed stacks clients old new ran load
+Runs meaning (Some help) old new links ran load = RunsLine report.Help old new ran
+Runs meaning (Some version) old new links ran load = RunsLine report.Version old new ran
+Runs meaning None old new links ran load = RunsLine report.Usage old new ran

@@ -2,6 +2,7 @@
 #![tactic(auto)]
 
 pub mod came;
+pub mod load;
 pub mod program;
 pub mod ran;
 pub mod serve;

@@ -1,13 +1,14 @@
 //! What the program does with its words.
-ghost use Rattle.std.specs.Prelude.{◌≡◌, ◌≢◌, ◌⊎◌, false, map, string_bytes};
+ghost use Rattle.std.specs.Prelude.{◌≡◌, ◌≢◌, ◌⊎◌, false, map, None, string_bytes};
 ghost use Rattle.program_words.specs.Words.{command_of};
 ghost use Rattle.program_words.specs.Sessions.{is_session};
 ghost use Rattle.file_commands.specs.declared.report.Report.TheVariants.{NoMemory as NoMemoryLine, Usage as UsageLine};
 ghost use Rattle.command_line.specs.Outside.{links, outside, told};
-ghost use Rattle.command_line.specs.Running.{LacksLine, LacksMemory, Runs, Writes, takes_links};
+ghost use Rattle.command_line.specs.Running.{LacksLine, LacksMemory, Runs, Writes, makes_load, takes_links};
 ghost use Rattle.command_line.specs.Serving.{IsServed};
 
 use crate::came::Came;
+use crate::load::run_load;
 use crate::ran::{Ran, apart};
 use crate::serve::run_serve;
 use crate::session::run_session;
@@ -57,7 +58,7 @@ fn lack_memory<D: Drop, L: Link>(words: &[String], link: &mut L) -> Came<D>
 
 /// Runs the program on its words, of which the first is its name. `init` and `fsck` report in one line what they found
 /// of a file. `session` serves one connection over the link. `serve` serves the connections that the accept gives, in lanes, and
-/// reports how many they were. `gen` isn't there yet, and is answered, as words that are no command, by the usage line.
+/// reports how many they were. `gen` makes a generated load in memory, and reports what it came to.
 pub fn run<R, D, O, L, A, K, G>(
     rt: &R,
     alloc: Global,
@@ -75,10 +76,11 @@ where
     A: Accept<K> + Send,
     K: Link + Send,
     G: Gate + Sync,
-    ensures runs { Runs D.meaning (command_of (map string_bytes words.now)) (outside O.shelf O.faults L.rest L.written L.faults opener.old link.old) (outside O.shelf O.faults L.rest L.written L.faults opener.new link.new) (links A.given A.over A.faults accept result.accept result.served) (record { status = result.status; disk = result.disk })
-        ⊎ LacksMemory (command_of (map string_bytes words.now)) (outside O.shelf O.faults L.rest L.written L.faults opener.old link.old) (outside O.shelf O.faults L.rest L.written L.faults opener.new link.new) (links A.given A.over A.faults accept result.accept result.served) (record { status = result.status; disk = result.disk }) }
+    ensures runs { Runs D.meaning (command_of (map string_bytes words.now)) (outside O.shelf O.faults L.rest L.written L.faults opener.old link.old) (outside O.shelf O.faults L.rest L.written L.faults opener.new link.new) (links A.given A.over A.faults accept result.accept result.served) (record { status = result.status; disk = result.disk }) result.load
+        ⊎ LacksMemory (command_of (map string_bytes words.now)) (outside O.shelf O.faults L.rest L.written L.faults opener.old link.old) (outside O.shelf O.faults L.rest L.written L.faults opener.new link.new) (links A.given A.over A.faults accept result.accept result.served) (record { status = result.status; disk = result.disk }) result.load }
     ensures served { IsServed (links A.given A.over A.faults accept result.accept result.served) }
     ensures apart { takes_links (command_of (map string_bytes words.now)) ≡ false → (result.served ≡ 0) × (result.accept ≡ accept) }
+    ensures unloaded { makes_load (command_of (map string_bytes words.now)) ≡ false → result.load ≡ None }
 {
     match read_words(alloc, words) {
         Ok(Command::Init { file, capacity }) => {
@@ -110,9 +112,19 @@ where
             )
         }
         Ok(Command::Fsck { file }) => apart(tell(fsck_file(alloc, opener, file), link), accept),
+        Ok(
+            Command::Gen {
+                seed,
+                stacks,
+                clients,
+            },
+        ) => {
+            let (seed, stacks, clients) = (u64::from(seed), u64::from(stacks), u64::from(clients));
+            run_load(rt, alloc, seed, stacks, clients, link, accept)
+        }
         Ok(Command::Help) => apart(say(Report::Help, link), accept),
         Ok(Command::Version) => apart(say(Report::Version, link), accept),
-        Ok(Command::Gen { .. }) | Err(WordsFault::Usage) => apart(say(Report::Usage, link), accept),
+        Err(WordsFault::Usage) => apart(say(Report::Usage, link), accept),
         Err(WordsFault::Memory) => apart(lack_memory(words, link), accept),
     }
 }

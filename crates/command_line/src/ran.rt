@@ -1,30 +1,55 @@
 //! What a run of the program came to.
-ghost use Rattle.std.specs.Prelude.{◌≡◌};
+ghost use Rattle.std.specs.Prelude.{◌≡◌, None};
 
 use crate::came::Came;
+use blob_disk::MemDisk;
 use file_commands::Status;
 use http_front::connection::ServedLinks;
 
-/// What a run of the program came to: its status, the file that it opened, how many connections it served, and what is left of
-/// what they come from.
+/// What a run of the program came to: its status, the file that it opened, the disk of the load that it made in memory, how many
+/// connections it served, and what is left of what they come from.
 #[derive(Drop)]
 pub struct Ran<D, A, K: Drop> {
     pub status: Status,
     pub disk: Option<D>,
+    pub load: Option<MemDisk>,
     pub served: ServedLinks<K>,
     pub accept: A,
 }
 
-/// A command that takes no connection.
+/// A command that takes no connection and makes no load.
 pub(crate) fn apart<D, A, K: Drop>(came: Came<D>, accept: A) -> Ran<D, A, K>
     ensures status { result.status ≡ came.status }
     ensures disk { result.disk ≡ came.disk }
+    ensures load { result.load ≡ None }
     ensures served { result.served ≡ 0 }
     ensures accept { result.accept ≡ accept }
 {
     Ran {
         status: came.status,
         disk: came.disk,
+        load: None,
+        served: ServedLinks::new(),
+        accept,
+    }
+}
+
+/// A load, which takes no connection and opens no file.
+pub(crate) fn loaded<D, A, K: Drop>(
+    status: Status,
+    load: Option<MemDisk>,
+    accept: A,
+) -> Ran<D, A, K>
+    ensures status { result.status ≡ status }
+    ensures disk { result.disk ≡ None }
+    ensures load { result.load ≡ load }
+    ensures served { result.served ≡ 0 }
+    ensures accept { result.accept ≡ accept }
+{
+    Ran {
+        status,
+        disk: None,
+        load,
         served: ServedLinks::new(),
         accept,
     }

@@ -1,5 +1,5 @@
 //! Many connections, served on the repository in a file.
-ghost use Rattle.std.specs.Prelude.{◌≡◌, ◌≤◌, All, IfNone, IfSome};
+ghost use Rattle.std.specs.Prelude.{◌≡◌, ◌≤◌, All, IfNone, IfSome, None};
 ghost use mathlib.Core.List.{IsPrefix};
 ghost use Rattle.disk_model.specs.Meaning.{IsSound};
 ghost use Rattle.repo_state.specs.State.{IsSound as IsSoundState};
@@ -52,6 +52,7 @@ where
     requires { (1 ≤ lanes) × (lanes ≤ 16) × (derivers ≤ 8) }
     ensures runs { RunsServe D.meaning file.now lanes connections (outside O.shelf O.faults L.rest L.written L.faults opener.old link.old) (outside O.shelf O.faults L.rest L.written L.faults opener.new link.new) (links A.given A.over A.faults accept result.accept result.served) (record { status = result.status; disk = result.disk }) }
     ensures served { IsServed (links A.given A.over A.faults accept result.accept result.served) }
+    ensures load { result.load ≡ None }
 {
     match open_file(alloc, opener, file) {
         Ok(opened) => serve_opened(
@@ -95,6 +96,7 @@ where
     requires derivers { derivers ≤ 8 }
     ensures runs { RunsOpened D.meaning opened.machine.header opened.machine.history opened.journal (D.meaning opened.disk) lanes connections (told L.rest L.written L.faults link.old) (told L.rest L.written L.faults link.new) (links A.given A.over A.faults accept result.accept result.served) (record { status = result.status; disk = result.disk }) }
     ensures served { IsServed (links A.given A.over A.faults accept result.accept result.served) }
+    ensures load { result.load ≡ None }
 {
     let OpenedFile {
         machine,
@@ -122,12 +124,14 @@ where
         Some(state) => Ran {
             status: end_run(served_report(&state, faulted, served.count()), link),
             disk: Some(closed(state)),
+            load: None,
             served,
             accept,
         },
         None => Ran {
             status: end_run(Report::NoMemory, link),
             disk: None,
+            load: None,
             served,
             accept,
         },
@@ -196,8 +200,8 @@ where
     }
 }
 
-// The disk of a state that is done with.
-fn closed<D: Disk>(state: RepoState<D>) -> D
+/// The disk of a state that is done with.
+pub(crate) fn closed<D: Disk>(state: RepoState<D>) -> D
     ensures disk { D.meaning result ≡ state.disk }
     ensures whole { IsSound (D.meaning result) }
     ensures state { IsSoundState state.opening state.history state.disk }

@@ -1,6 +1,6 @@
 //! The program: `hg_cli init FILE CAP` makes a repository in a file, `hg_cli session FILE` serves one HTTP connection on
 //! it over standard input and output, `hg_cli serve FILE ADDR LANES DERIVERS CONNECTIONS` serves connections at an address,
-//! and `hg_cli fsck FILE` opens it and counts what it holds.
+//! `hg_cli fsck FILE` opens it and counts what it holds, and `hg_cli gen SEED STACKS CLIENTS` lands a generated load in memory.
 #![tactic(auto)]
 
 use command_line::{refuse_words, run};

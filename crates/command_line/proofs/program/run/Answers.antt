@@ -13,5 +13,5 @@ returns-in-Ok-Session-clause-runs g c =
     runs_session g.D.Disk.meaning _ c.in-Ok-Session.file.now
     (outside_of c.args.opener.now c.args.link.now) (outside_of c.run_session.new.opener c.run_session.new.link)
     (links g.A.Accept.given g.A.Accept.over g.A.Accept.faults c.args.accept apart.result.accept apart.result.served)
-    c.run_session.result (record { status = apart.result.status; disk = apart.result.disk })
+    c.run_session.result (record { status = apart.result.status; disk = apart.result.disk }) apart.result.load
     is c.run_session.ensures apart.ensures.status apart.ensures.disk

@@ -1,0 +1,51 @@
+-- The disk that a load left, told of its history.
+use Rattle.std.proofs.Common.{◌≡◌, ℕ, Bool, true, false, List, refl, subst, sym, arith}
+use Rattle.std.specs.Prelude.{IfSome, Option, None, Some, Result, Ok, Err}
+use Rattle.blob_disk.specs.MemDisk.{memory_of, told_of}
+use Rattle.blob_disk.specs.declared.mem_disk.MemDisk.{MemDisk}
+use Rattle.history_model.specs.History.{Entry, is_down}
+use Rattle.history_model.specs.Journal.{Header}
+use Rattle.repo_state.specs.State.{HasNoFault, IsQuiet, IsSound, State, faults_in}
+use Rattle.repo_state.proofs.Leaving.{keeps_up}
+use Rattle.repo_state.proofs.Stands.{no_faults}
+use Rattle.load_calls.specs.declared.fault.LoadFault.{LoadFault}
+use Rattle.load_calls.specs.declared.fault.LoadFault.TheVariants.{Refused, Memory}
+use Rattle.run_gen.specs.Loading as loads
+use Rattle.run_gen.specs.declared.summary.Summary.{Summary}
+use Rattle.command_line.specs.Loading.{Closes, HoldsAll, IsClosed, LeavesLoad, Loads, report_of}
+use Rattle.command_line.proofs.Entries.{down_has_fault}
+
+by_faults : (h : List Entry) → faults_in h ≡ 0 → (down : Bool) → is_down h ≡ down → is_down h ≡ false
+by_faults h none true is = (let some = down_has_fault h is in absurd (omega arith))
+by_faults h none false is = is
+
+is_up : (h : List Entry) → HasNoFault h → is_down h ≡ false
+is_up h calm = by_faults h (no_faults h calm) (is_down h) refl
+
+holds_all : (s : State) (disk : MemDisk) → IsQuiet s.opening → IsClosed s disk → HoldsAll s.opening.header s.history disk
+holds_all s disk quiet closed =
+    let sound : IsSound s.opening s.history (told_of disk) = subst (IsSound s.opening s.history) (sym closed.disk_is) closed.sound in
+    let calm = sound.calm quiet in
+    let keeps = keeps_up s.opening.header s.opening.length s.opening.moment s.history s.opening.disk (told_of disk) (is_up s.history calm) (sound.leaves refl) in
+    record {
+      legal = sound.legal;
+      calm = calm;
+      stands = keeps (memory_of disk).reads (closed.whole.image refl);
+      keeps = keeps;
+    }
+
+leaves_load : (Is : Header → List Entry → Type 0) (s : State) (disk : MemDisk) → IsQuiet s.opening → IsClosed s disk → Is s.opening.header s.history → LeavesLoad Is (Some disk)
+leaves_load Is s disk quiet closed is =
+    record { disk = disk; disk_is = refl; header = s.opening.header; history = s.history; holds = holds_all s disk quiet closed; is = is }
+
+pub loads_of : (seed stacks clients : ℕ) (outcome : Result Summary LoadFault) (left : Option State) (load : Option MemDisk)
+    → loads.Tells seed stacks clients outcome left → IfSome left (λ s. IsQuiet s.opening) → Closes left load → Loads seed stacks clients (report_of outcome) load
+loads_of seed stacks clients (Ok summary) (Some s) (Some disk) tells quiet closed = leaves_load _ s disk quiet closed (record { loaded = tells.0; sums = tells.1 })
+loads_of seed stacks clients (Err Refused) (Some s) (Some disk) tells quiet closed = leaves_load _ s disk quiet closed tells
+loads_of seed stacks clients (Err Memory) None None tells quiet closed = refl
+loads_of seed stacks clients (Ok summary) (Some s) None tells quiet closed = absurd closed
+loads_of seed stacks clients (Err Refused) (Some s) None tells quiet closed = absurd closed
+loads_of seed stacks clients (Err Memory) None (Some disk) tells quiet closed = absurd closed
+loads_of seed stacks clients (Ok summary) None load tells quiet closed = absurd tells
+loads_of seed stacks clients (Err Refused) None load tells quiet closed = absurd tells
+loads_of seed stacks clients (Err Memory) (Some s) load tells quiet closed = absurd tells
