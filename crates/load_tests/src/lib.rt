@@ -1,6 +1,8 @@
-//! Generated loads, held against what they come to by a computation of their own. Helpers have no
-//! contract beyond what their calls need, so that a test's proof doesn't carry what they call.
+//! Generated loads: runs of the program over memory, from the words to the status and the line, and clients that land one
+//! after another. The numbers and roots are those of an independent computation.
 #![tactic(auto)]
 
 #[cfg(test)]
-mod loads;
+mod in_turn;
+#[cfg(test)]
+mod runs;
