@@ -3,4 +3,3 @@ pub mod Granting
 pub mod Own
 pub mod Joined
 pub mod Runs
-pub mod Heads

@@ -1,1 +1,0 @@
--- The bookmark has a head after a load.
