@@ -10,6 +10,7 @@ use Rattle.repo_state.proofs.Leaving.{keeps_up}
 use Rattle.repo_state.proofs.Stands.{no_faults}
 use Rattle.load_calls.specs.declared.fault.LoadFault.{LoadFault}
 use Rattle.load_calls.specs.declared.fault.LoadFault.TheVariants.{Refused, Memory}
+use Rattle.run_gen.specs.Begun.{load_header}
 use Rattle.run_gen.specs.Loading as loads
 use Rattle.run_gen.specs.declared.summary.Summary.{Summary}
 use Rattle.command_line.specs.Loading.{Closes, HoldsAll, IsClosed, LeavesLoad, Loads, report_of}
@@ -34,18 +35,18 @@ holds_all s disk quiet closed =
       keeps = keeps;
     }
 
-leaves_load : (Is : Header → List Entry → Type 0) (s : State) (disk : MemDisk) → IsQuiet s.opening → IsClosed s disk → Is s.opening.header s.history → LeavesLoad Is (Some disk)
-leaves_load Is s disk quiet closed is =
-    record { disk = disk; disk_is = refl; header = s.opening.header; history = s.history; holds = holds_all s disk quiet closed; is = is }
+leaves_load : (Is : Header → List Entry → Type 0) (s : State) (disk : MemDisk) → IsQuiet s.opening → s.opening.header ≡ load_header → IsClosed s disk → Is s.opening.header s.history → LeavesLoad Is (Some disk)
+leaves_load Is s disk quiet header closed is =
+    record { disk = disk; disk_is = refl; header = s.opening.header; header_is = header; history = s.history; holds = holds_all s disk quiet closed; is = is }
 
 pub loads_of : (seed stacks clients : ℕ) (outcome : Result Summary LoadFault) (left : Option State) (load : Option MemDisk)
-    → loads.Tells seed stacks clients outcome left → IfSome left (λ s. IsQuiet s.opening) → Closes left load → Loads seed stacks clients (report_of outcome) load
-loads_of seed stacks clients (Ok summary) (Some s) (Some disk) tells quiet closed = leaves_load _ s disk quiet closed (record { loaded = tells.0; sums = tells.1 })
-loads_of seed stacks clients (Err Refused) (Some s) (Some disk) tells quiet closed = leaves_load _ s disk quiet closed tells
-loads_of seed stacks clients (Err Memory) None None tells quiet closed = refl
-loads_of seed stacks clients (Ok summary) (Some s) None tells quiet closed = absurd closed
-loads_of seed stacks clients (Err Refused) (Some s) None tells quiet closed = absurd closed
-loads_of seed stacks clients (Err Memory) None (Some disk) tells quiet closed = absurd closed
-loads_of seed stacks clients (Ok summary) None load tells quiet closed = absurd tells
-loads_of seed stacks clients (Err Refused) None load tells quiet closed = absurd tells
-loads_of seed stacks clients (Err Memory) (Some s) load tells quiet closed = absurd tells
+    → loads.Tells seed stacks clients outcome left → IfSome left (λ s. IsQuiet s.opening) → IfSome left (λ s. s.opening.header ≡ load_header) → Closes left load → Loads seed stacks clients (report_of outcome) load
+loads_of seed stacks clients (Ok summary) (Some s) (Some disk) tells quiet header closed = leaves_load _ s disk quiet header closed (record { loaded = tells.0; sums = tells.1 })
+loads_of seed stacks clients (Err Refused) (Some s) (Some disk) tells quiet header closed = leaves_load _ s disk quiet header closed tells
+loads_of seed stacks clients (Err Memory) None None tells quiet header closed = refl
+loads_of seed stacks clients (Ok summary) (Some s) None tells quiet header closed = absurd closed
+loads_of seed stacks clients (Err Refused) (Some s) None tells quiet header closed = absurd closed
+loads_of seed stacks clients (Err Memory) None (Some disk) tells quiet header closed = absurd closed
+loads_of seed stacks clients (Ok summary) None load tells quiet header closed = absurd tells
+loads_of seed stacks clients (Err Refused) None load tells quiet header closed = absurd tells
+loads_of seed stacks clients (Err Memory) (Some s) load tells quiet header closed = absurd tells

@@ -16,6 +16,7 @@ use Rattle.repo_state.specs.State.{HasNoFault, IsSound, State}
 use Rattle.load_calls.specs.Loads.{IsLoaded, IsStopped}
 use Rattle.load_calls.specs.declared.fault.LoadFault.{LoadFault}
 use Rattle.load_calls.specs.declared.fault.LoadFault.TheVariants.{Refused, Memory}
+use Rattle.run_gen.specs.Begun.{load_header}
 use Rattle.run_gen.specs.Sums.{SumsUp}
 use Rattle.run_gen.specs.declared.summary.Summary.{Summary}
 use Rattle.file_commands.specs.declared.report.Report.{Report}
@@ -49,6 +50,7 @@ pub record LeavesLoad (Is : Header → List Entry → Type 0) (load : Option Mem
   pub disk : MemDisk
   pub disk_is : load ≡ Some disk
   pub header : Header
+  pub header_is : header ≡ load_header
   pub history : List Entry
   pub holds : HoldsAll header history disk
   pub is : Is header history

@@ -36,10 +36,12 @@ pub record IsMade (m : Meaning) : Type 0 where
 
 pub record IsNew (s : State) : Type 0 where
   pub header : s.header ≡ load_header
+  pub opened : s.opening.header ≡ load_header
   pub quiet : IsQuiet s.opening
   pub none : s.history ≡ []
 
 pub record IsLed (s : State) : Type 0 where
+  pub header : s.opening.header ≡ load_header
   pub quiet : IsQuiet s.opening
   pub history : s.history ≡ lead_entries
 

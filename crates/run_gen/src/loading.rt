@@ -1,6 +1,7 @@
 //! A whole load, from its first entry to its summary.
-ghost use Rattle.std.specs.Prelude.{◌<◌, ◌≤◌, ◌^◌, IfOk, IfSome};
+ghost use Rattle.std.specs.Prelude.{◌≡◌, ◌<◌, ◌≤◌, ◌^◌, IfOk, IfSome};
 ghost use Rattle.repo_state.specs.State.{IsQuiet};
+ghost use Rattle.run_gen.specs.Begun.{load_header};
 ghost use Rattle.run_gen.specs.Loading.{Leaves, Tells};
 
 use crate::begin::begin;
@@ -35,6 +36,7 @@ fn run<R: Threads + Wait + Sync>(
     requires clients { clients ≤ 8 }
     ensures leaves { IfOk result (λ left. Leaves seed stacks clients left.outcome left.state) }
     ensures quiet { IfOk result (λ left. IsQuiet left.state.opening) }
+    ensures header { IfOk result (λ left. left.state.opening.header ≡ load_header) }
 {
     let state = begin(alloc)?;
     let (repo, mut lead) = Repo::new(alloc, state)?;
@@ -66,6 +68,8 @@ pub fn load<R: Threads + Wait + Sync>(
     requires clients { clients ≤ 8 }
     ensures tells { Tells seed stacks clients result.0 result.1 }
     ensures quiet { IfSome result.1 (λ s. IsQuiet s.opening) }
+    // Its file may have so many bytes.
+    ensures header { IfSome result.1 (λ s. s.opening.header ≡ load_header) }
 {
     let Ok(Left { outcome, mut state }) = run(rt, alloc, seed, stacks, clients) else {
         return (Err(LoadFault::Memory), None);

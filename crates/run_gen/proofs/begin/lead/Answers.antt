@@ -8,6 +8,7 @@ use Rattle.history_model.specs.History.{Body, Book, Change, Entry}
 use Rattle.history_model.specs.Journal.{Header}
 use Rattle.reply_model.specs.Reply.{PutChangeset, SetBookmark}
 use Rattle.repo_state.specs.State.{IsQuiet}
+use Rattle.turn_history.specs.Opening.{Opening}
 use Rattle.load_stacks.specs.Stacks.{base, base_id, main}
 use Rattle.load_calls.specs.Loads.{base_entry, main_entry}
 use Rattle.run_gen.specs.Begun.{Enters, IsLed, load_header}
@@ -38,4 +39,4 @@ returns c =
     let stored = c.in_ok-store.ensures.entered (Change base) first ∙ ap (λ h. h ++ base_entry ∷ []) c.requires.none in
     let second = main_asked c.store.new.state.header c.store.new.state.history c.in_ok-name.name c.of.result (c.store.ensures.header ∙ c.requires.header) stored c.in_ok-name.ensures (c.of.ensures ∙ ap sha256 c.base_encoding-base.ensures) in
     let opening = c.store-2.ensures.opening ∙ c.store.ensures.opening in
-    on_ok_weaker c.store-2.result (λ made. record { quiet = subst IsQuiet (sym opening) c.requires.quiet; history = made ∙ ap (λ h. h ++ main_entry ∷ []) stored }) (c.store-2.ensures.entered main_body second)
+    on_ok_weaker c.store-2.result (λ made. record { header = ap (λ (o : Opening). o.header) opening ∙ c.requires.opened; quiet = subst IsQuiet (sym opening) c.requires.quiet; history = made ∙ ap (λ h. h ++ main_entry ∷ []) stored }) (c.store-2.ensures.entered main_body second)

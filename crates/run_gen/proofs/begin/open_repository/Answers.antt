@@ -15,6 +15,7 @@ returns-in-Ok c =
     let is = c.in-Ok.ensures.never_damaged c.requires.honest load_header [] c.requires.stands tt in
     let opening = c.new.ensures.opening in record {
       header = c.new.ensures.header ∙ is.0;
+      opened = ap (λ (o : Opening). o.header) opening ∙ is.0;
       quiet = quiet_opening c.new.result.opening (ap (λ (o : Opening). o.quiet) opening ∙ c.open.ensures.kept.quiet ∙ c.requires.quiet) (ap (λ (o : Opening). o.header) opening ∙ is.0);
       none = c.new.ensures.history ∙ is.1;
     }
