@@ -66,3 +66,47 @@ fn run_derived<R: Abort + Wait>(rt: &R, alloc: Global) -> Result<(), Fail> {
 fn a_seat_is_told_the_roots_of_what_another_stored(rt: HostRuntime) -> Result<(), Fail> {
     run_derived(&rt, rt.alloc())
 }
+
+// The changeset without changes, and its id.
+const EMPTY: (&str, &str) = (
+    "4301000001610000000000000000000000000000000000000000",
+    "ffb74880ae0d3038b6e6e402ea0840634c79efb3c927e280d44f36567ece7169",
+);
+
+// Asks for the roots of a changeset, or doesn't.
+fn ask<R: Wait>(
+    rt: &R,
+    alloc: Global,
+    repo: &Repo<MemDisk>,
+    seat: &mut RepoSeat,
+    id: Id,
+    asks: bool,
+)
+    requires place { seat.old.lock ≡ repo.now }
+    ensures seat { seat.new ≡ with_front seat.old seat.new.front }
+{
+    if asks {
+        let _roots = repo.derive_one(rt, alloc, seat, id);
+    }
+}
+
+// Whether nothing is left to derive of a changeset that was stored, in the repository that is closed then.
+fn is_derived<R: Wait>(rt: &R, alloc: Global, asks: bool) -> Result<bool, Fail> {
+    let (encoding, digits) = EMPTY;
+    let (bytes, id) = (hex::decode(alloc, encoding)?, Id::from_hex(digits)?);
+    let (repo, mut lead) = Repo::new(alloc, new_repository(alloc, &[])?)?;
+    let _stored = repo.put_changeset(rt, alloc, &mut lead, bytes.as_slice());
+    ask(rt, alloc, &repo, &mut lead, id, asks);
+    let state = repo.close(lead);
+    match state.next_job(alloc, id) {
+        Ok(job) => Ok(job.is_none()),
+        Err(_) => Err(Fail::from("a changeset")),
+    }
+}
+
+#[test]
+fn nothing_is_left_to_derive_once_roots_are_told(rt: HostRuntime) -> Result<(), Fail> {
+    assert!(rt; is_derived(&rt, rt.alloc(), true)?);
+    assert!(rt; !is_derived(&rt, rt.alloc(), false)?);
+    Ok(())
+}
