@@ -23,7 +23,7 @@ hg_cli Session repository | 4096 | usage | usage
 hg_cli session repository more | 126 | usage | usage
 hg_cli init repository 4095 | 125 | usage | none
 hg_cli serve repository 127.0.0.1:0 1 9 1 | 4096 | usage | usage
-hg_cli gen 7 5 3 | 4096 | usage | usage
+hg_cli gen 7 401 1 | 4096 | usage | usage
 hg_cli session --help | 4096 | done | help
 hg_cli -V | 4096 | done | version
 hg_cli -V | 12 | stream fault | none"#;
