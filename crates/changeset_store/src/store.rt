@@ -20,6 +20,7 @@ use bonsai::{Changeset, Commit};
 use object_id::Id;
 use std::alloc::{AllocError, Global};
 use std::collections::HashMap;
+use std::hash::RandomState;
 use std::marker::{Brand, Model};
 use std::sync::Arc;
 use std::sync::ledger::{Blank, Ledger};
@@ -33,7 +34,7 @@ pub const MOST_CHANGESETS: usize = 2_147_483_648;
 #[derive(Drop)]
 pub struct ChangesetStore {
     commits: Vec<Arc<Commit>>,
-    numbers: HashMap<Id, u32>,
+    numbers: HashMap<Id, u32, RandomState>,
     chain: Chain,
 }
 
@@ -56,13 +57,14 @@ impl Model for ChangesetStore {
 }
 
 impl ChangesetStore {
-    /// A store without a changeset.
-    pub fn new(alloc: Global) -> ChangesetStore
+    /// A store without a changeset. Its table by ids is hashed with these keys, so that whoever doesn't know them can't choose
+    /// ids which make it slow.
+    pub fn new(alloc: Global, keys: RandomState) -> ChangesetStore
         ensures { result.known ≡ [] }
     {
         ChangesetStore {
             commits: Vec::new(alloc),
-            numbers: HashMap::new(alloc),
+            numbers: HashMap::with_hasher(alloc, keys),
             chain: Chain::new(alloc),
         }
     }

@@ -12,6 +12,7 @@ use ports::Link;
 use repo_state::RepoState;
 use run_gen::{LoadFault, Summary, load};
 use std::alloc::Global;
+use std::hash::RandomState;
 use std::sync::Wait;
 use std::thread::Threads;
 
@@ -55,6 +56,7 @@ fn left_disk(state: Option<RepoState<MemDisk>>) -> Option<MemDisk>
 fn make_load<R: Threads + Wait + Sync>(
     rt: &R,
     alloc: Global,
+    keys: RandomState,
     seed: u64,
     stacks: u64,
     clients: u64,
@@ -64,7 +66,7 @@ fn make_load<R: Threads + Wait + Sync>(
     requires clients { clients ≤ 8 }
     ensures { Loads seed stacks clients result.report result.disk }
 {
-    let (outcome, state) = load(rt, alloc, seed, stacks, clients);
+    let (outcome, state) = load(rt, alloc, keys, seed, stacks, clients);
     Left {
         report: report_of(outcome),
         disk: left_disk(state),
@@ -75,6 +77,7 @@ fn make_load<R: Threads + Wait + Sync>(
 pub(crate) fn run_load<R, D, L, A, K>(
     rt: &R,
     alloc: Global,
+    keys: RandomState,
     seed: u64,
     stacks: u64,
     clients: u64,
@@ -93,6 +96,6 @@ where
     ensures served { result.served ≡ 0 }
     ensures accept { result.accept ≡ accept }
 {
-    let left = make_load(rt, alloc, seed, stacks, clients);
+    let left = make_load(rt, alloc, keys, seed, stacks, clients);
     loaded(end_run(left.report, link), left.disk, accept)
 }

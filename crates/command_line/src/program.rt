@@ -17,6 +17,7 @@ use file_commands::{Outcome, Report, Status, end_run, fsck_file, init_file};
 use ports::{Accept, Gate, Link, Opener};
 use program_words::{Command, WordsFault, asks_session, read_words};
 use std::alloc::Global;
+use std::hash::RandomState;
 use std::io::ErrorKind;
 use std::sync::Wait;
 use std::thread::Threads;
@@ -59,9 +60,11 @@ fn lack_memory<D: Drop, L: Link>(words: &[String], link: &mut L) -> Came<D>
 /// Runs the program on its words, of which the first is its name. `init` and `fsck` report in one line what they found
 /// of a file. `session` serves one connection over the link. `serve` serves the connections that the accept gives, in lanes, and
 /// reports how many they were. `gen` makes a generated load in memory, and reports what it came to.
+/// The tables by ids are hashed with these keys, so that whoever doesn't know them can't choose ids which make them slow.
 pub fn run<R, D, O, L, A, K, G>(
     rt: &R,
     alloc: Global,
+    keys: RandomState,
     words: &[String],
     link: &mut L,
     opener: &mut O,
@@ -86,7 +89,10 @@ where
         Ok(Command::Init { file, capacity }) => {
             apart(tell(init_file(opener, file, capacity), link), accept)
         }
-        Ok(Command::Session { file }) => apart(run_session(alloc, file, link, opener), accept),
+        Ok(Command::Session { file }) => apart(
+            run_session(alloc, keys, file, link, opener),
+            accept,
+        ),
         Ok(
             Command::Serve {
                 file,
@@ -101,6 +107,7 @@ where
             run_serve(
                 rt,
                 alloc,
+                keys,
                 file,
                 lanes,
                 derivers,
@@ -111,7 +118,10 @@ where
                 gate,
             )
         }
-        Ok(Command::Fsck { file }) => apart(tell(fsck_file(alloc, opener, file), link), accept),
+        Ok(Command::Fsck { file }) => apart(
+            tell(fsck_file(alloc, keys, opener, file), link),
+            accept,
+        ),
         Ok(
             Command::Gen {
                 seed,
@@ -120,7 +130,7 @@ where
             },
         ) => {
             let (seed, stacks, clients) = (u64::from(seed), u64::from(stacks), u64::from(clients));
-            run_load(rt, alloc, seed, stacks, clients, link, accept)
+            run_load(rt, alloc, keys, seed, stacks, clients, link, accept)
         }
         Ok(Command::Help) => apart(say(Report::Help, link), accept),
         Ok(Command::Version) => apart(say(Report::Version, link), accept),

@@ -22,6 +22,7 @@ use ports::{Accept, Gate, Link, Opener};
 use repo_state::RepoState;
 use server_lanes::{Closing, serve_all};
 use std::alloc::Global;
+use std::hash::RandomState;
 use std::marker::Brand;
 use std::sync::Wait;
 use std::thread::Threads;
@@ -32,6 +33,7 @@ use std::thread::Threads;
 pub(crate) fn run_serve<R, D, O, L, A, K, G>(
     rt: &R,
     alloc: Global,
+    keys: RandomState,
     file: &str,
     lanes: u64,
     derivers: u64,
@@ -54,7 +56,7 @@ where
     ensures served { IsServed (links A.given A.over A.faults accept result.accept result.served) }
     ensures load { result.load ≡ None }
 {
-    match open_file(alloc, opener, file) {
+    match open_file(alloc, keys, opener, file) {
         Ok(opened) => serve_opened(
             rt,
             alloc,

@@ -15,6 +15,7 @@ use http_front::session::serve_session;
 use ports::{Link, Opener};
 use repo_state::RepoState;
 use std::alloc::Global;
+use std::hash::RandomState;
 
 fn status_of(end: Ended) -> Status
     ensures { result ≡ status_of end }
@@ -44,13 +45,14 @@ fn session_status(down: bool, end: Ended) -> Status
 /// repository in it isn't opened.
 pub(crate) fn run_session<D: Disk, O: Opener<D>, L: Link>(
     alloc: Global,
+    keys: RandomState,
     file: &str,
     link: &mut L,
     opener: &mut O,
 ) -> Came<D>
     ensures { RunsSession D.meaning file.now (outside O.shelf O.faults L.rest L.written L.faults opener.old link.old) (outside O.shelf O.faults L.rest L.written L.faults opener.new link.new) result }
 {
-    match open_file(alloc, opener, file) {
+    match open_file(alloc, keys, opener, file) {
         Ok(opened) => serve_file(alloc, opened, link),
         Err(Outcome { report, disk }) => Came {
             status: report.status(),

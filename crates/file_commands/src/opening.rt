@@ -12,6 +12,7 @@ use recovery::{OpenFault, Opened, open};
 use repo_journal::Journal;
 use repo_machine::Machine;
 use std::alloc::Global;
+use std::hash::RandomState;
 
 /// A file whose repository was opened: what is known of the repository, its journal, and the disk.
 #[derive(Drop)]
@@ -22,11 +23,13 @@ pub struct OpenedFile<D> {
 }
 
 /// Opens the repository in the file of this name. The file isn't made where there is none.
+/// The tables by ids are hashed with these keys.
 ///
 /// # Errors
 /// What is reported where the file or the repository in it wasn't opened, with the file's disk once that was.
 pub fn open_file<D: Disk, O: Opener<D>>(
     alloc: Global,
+    keys: RandomState,
     opener: &mut O,
     file: &str,
 ) -> Result<OpenedFile<D>, Outcome<D>>
@@ -41,7 +44,7 @@ pub fn open_file<D: Disk, O: Opener<D>>(
             disk: None,
         });
     };
-    match open_disk(alloc, &mut disk) {
+    match open_disk(alloc, keys, &mut disk) {
         Ok(Opened { machine, journal }) => Ok(OpenedFile {
             machine,
             journal,
@@ -54,11 +57,11 @@ pub fn open_file<D: Disk, O: Opener<D>>(
     }
 }
 
-fn open_disk<D: Disk>(alloc: Global, disk: &mut D) -> Result<Opened, Report>
+fn open_disk<D: Disk>(alloc: Global, keys: RandomState, disk: &mut D) -> Result<Opened, Report>
     ensures opens { IfOk result (λ o. Opens o.machine.header o.machine.history o.journal (D.meaning disk.old) (D.meaning disk.new)) }
     ensures refuses { IfErr result (Refuses (D.meaning disk.old) (D.meaning disk.new)) }
 {
-    match open(alloc, disk) {
+    match open(alloc, keys, disk) {
         Ok(opened) => Ok(opened),
         Err(fault) => Err(report_of(fault)),
     }

@@ -4,11 +4,13 @@
 #![tactic(auto)]
 
 use command_line::{refuse_words, run};
+use file_commands::Status;
 use file_disk::FileOpener;
 use net_ports::{ReaderSource, TcpAccept, WriterSink};
-use ports::{NoGate, Pair};
+use ports::{Link, NoGate, Pair};
 use program_words::{Command, read_words};
 use std::alloc::Global;
+use std::hash::RandomState;
 use std::process::ExitCode;
 use std::{env, io};
 
@@ -51,16 +53,40 @@ fn accept_for(rt: &HostRuntime, words: &[String]) -> TcpAccept {
     }
 }
 
+// Keys for the tables by ids. Where the system has none to give, that is said on standard error.
+fn new_keys(rt: &HostRuntime) -> Option<RandomState> {
+    match RandomState::new(rt) {
+        Ok(keys) => Some(keys),
+        Err(error) => {
+            let _ = eprintln!(rt; "no random bytes: {error}");
+            None
+        }
+    }
+}
+
+fn start<L: Link>(rt: &HostRuntime, words: &[String], link: &mut L) -> Status {
+    let Some(keys) = new_keys(rt) else {
+        return Status::StreamFault;
+    };
+    let accept = accept_for(rt, words);
+    let mut opener = FileOpener::new(rt);
+    run(
+        rt,
+        rt.alloc(),
+        keys,
+        words,
+        link,
+        &mut opener,
+        accept,
+        &NoGate,
+    )
+    .status
+}
+
 fn main(rt: HostRuntime) -> ExitCode {
     let mut link = Pair::new(ReaderSource::new(rt.stdin()), WriterSink::new(rt.stdout()));
-    let alloc = rt.alloc();
     let status = match words(&rt) {
-        Ok(words) => {
-            let accept = accept_for(&rt, words.as_slice());
-            let mut opener = FileOpener::new(&rt);
-            let words = words.as_slice();
-            run(&rt, alloc, words, &mut link, &mut opener, accept, &NoGate).status
-        }
+        Ok(words) => start(&rt, words.as_slice(), &mut link),
         Err(error) => refuse_words(error.kind(), &mut link),
     };
     ExitCode::from(status.code())

@@ -1,12 +1,14 @@
 //! A repository over memory, with changes that are told by texts.
 use blob_disk::MemDisk;
 use object_id::Id;
+use ports::ZeroBytes;
 use recovery::{Opened, open};
 use repo_calls::Ask;
 use repo_journal::init;
 use repo_path::BookName;
 use repo_state::RepoState;
 use std::alloc::Global;
+use std::hash::RandomState;
 use std::test::Fail;
 
 /// A new repository of 65,536 bytes at most.
@@ -15,7 +17,8 @@ pub(crate) fn new_repository(alloc: Global) -> Result<RepoState<MemDisk>, Fail> 
     if init(&mut disk, 65_536).is_err() {
         return Err(Fail::from("a new file"));
     }
-    let Opened { machine, journal } = open(alloc, &mut disk)?;
+    let keys = RandomState::new(&ZeroBytes)?;
+    let Opened { machine, journal } = open(alloc, keys, &mut disk)?;
     Ok(RepoState::new(alloc, machine, journal, disk))
 }
 

@@ -4,7 +4,7 @@ ghost use Rattle.repo_state.specs.State.{IsQuiet};
 
 use blob_disk::Disk;
 use object_id::Id;
-use ports::NoGate;
+use ports::{NoGate, ZeroBytes};
 use repo_calls::Ask;
 use repo_path::BookName;
 use run_gen::begin::begin;
@@ -12,6 +12,7 @@ use run_gen::{LoadFault, client};
 use seat_calls::{Question, Seat, Seen};
 use shared_repo::{Repo, RepoSeat, Served};
 use std::alloc::Global;
+use std::hash::RandomState;
 use std::sync::Wait;
 use std::test::Fail;
 
@@ -68,7 +69,7 @@ fn total<S: Seat>(alloc: Global, seat: &mut S) -> Result<u64, Fail> {
 
 // What 3 clients leave.
 fn left<R: Wait>(rt: &R, alloc: Global) -> Result<(u64, Id), Fail> {
-    let (repo, mut lead) = Repo::new(alloc, begin(alloc)?)?;
+    let (repo, mut lead) = Repo::new(alloc, begin(alloc, RandomState::new(&ZeroBytes)?)?)?;
     land_in_turn(rt, alloc, &repo, &mut lead, 3)?;
     let mut seat = Served::new(rt, &repo, lead, &NoGate);
     Ok((total(alloc, &mut seat)?, root(alloc, &mut seat)?))
@@ -87,7 +88,7 @@ fn land_blocking<S: Seat>(alloc: Global, seat: &mut S) -> Result<(), Fail> {
 
 // What becomes of client 0 where another seat has landed the file `client0`.
 fn blocked<R: Wait>(rt: &R, alloc: Global) -> Result<Result<(), LoadFault>, Fail> {
-    let (repo, mut lead) = Repo::new(alloc, begin(alloc)?)?;
+    let (repo, mut lead) = Repo::new(alloc, begin(alloc, RandomState::new(&ZeroBytes)?)?)?;
     let mut other = Served::new(rt, &repo, repo.split(&mut lead), &NoGate);
     land_blocking(alloc, &mut other)?;
     Ok(land_in_turn(rt, alloc, &repo, &mut lead, 1))

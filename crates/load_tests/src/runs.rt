@@ -2,8 +2,9 @@
 use blob_disk::MemDisk;
 use command_line::{Ran, run};
 use file_commands::Status;
-use ports::{Accept, MemAccept, MemLink, MemOpener, NoGate};
+use ports::{Accept, MemAccept, MemLink, MemOpener, NoGate, ZeroBytes};
 use std::alloc::Global;
+use std::hash::RandomState;
 use std::sync::Wait;
 use std::test::Fail;
 use std::thread::Threads;
@@ -52,6 +53,7 @@ fn ran<R: Threads + Wait + Sync>(
     let ran = run(
         rt,
         alloc,
+        RandomState::new(&ZeroBytes)?,
         words.as_slice(),
         &mut link,
         &mut opener,

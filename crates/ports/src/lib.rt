@@ -16,6 +16,7 @@ pub mod opener;
 pub mod pair;
 pub mod sink;
 pub mod source;
+pub mod zero_bytes;
 
 pub use accept::Accept;
 pub use clock::Clock;
@@ -31,3 +32,4 @@ pub use opener::Opener;
 pub use pair::Pair;
 pub use sink::Sink;
 pub use source::Source;
+pub use zero_bytes::ZeroBytes;

@@ -21,11 +21,13 @@ use blob_disk::Disk;
 use ports::Failed;
 use repo_journal::{Journal, Opening};
 use std::alloc::Global;
+use std::hash::RandomState;
 
 /// Opens the repository in a file: asks its size, syncs it, and reads it once in order, up to its
 /// closing gate. The history is that of the records in it, all of one seat, whose number is 0.
+/// The tables by ids are hashed with these keys.
 /// After an error the file is as it was, and may be opened again.
-pub fn open<D: Disk>(alloc: Global, disk: &mut D) -> Result<Opened, OpenFault>
+pub fn open<D: Disk>(alloc: Global, keys: RandomState, disk: &mut D) -> Result<Opened, OpenFault>
     ensures ok { IfOk result (λ o. IsOpened o.machine.header o.machine.history o.journal (D.meaning disk.new)) }
     ensures legal { IfOk result (λ o. IsLegal o.machine.header o.machine.history) }
     ensures stored { IfOk result (λ o. o.machine.history ≡ stored o.machine.history) }
@@ -53,13 +55,18 @@ pub fn open<D: Disk>(alloc: Global, disk: &mut D) -> Result<Opened, OpenFault>
     ensures quiet { IsSome (D.meaning disk.old).quiet → is_disk_fault result ≡ false }
 {
     match begin(disk) {
-        Ok(begun) => read_file(alloc, disk, begun),
+        Ok(begun) => read_file(alloc, keys, disk, begun),
         Err(Failed) => Err(OpenFault::DiskFault),
     }
 }
 
 // Reads a file that is stable.
-fn read_file<D: Disk>(alloc: Global, disk: &mut D, begun: Begun) -> Result<Opened, OpenFault>
+fn read_file<D: Disk>(
+    alloc: Global,
+    keys: RandomState,
+    disk: &mut D,
+    begun: Begun,
+) -> Result<Opened, OpenFault>
     requires long { IsLong (D.meaning disk.old).reads begun.size }
     requires whole { IsTrue (D.meaning disk.old).honest → begun.size ≡ length (D.meaning disk.old).state.reads }
     ensures read { IfOk result (λ o. IsRead (D.meaning disk.new) o.machine.header o.machine.history) }
@@ -71,7 +78,7 @@ fn read_file<D: Disk>(alloc: Global, disk: &mut D, begun: Begun) -> Result<Opene
     ensures quiet { IsSome (D.meaning disk.old).quiet → is_disk_fault result ≡ false }
 {
     let capacity = read_capacity(disk, begun.size)?;
-    let machine = read_records(alloc, disk, begun.size, capacity)?;
+    let machine = read_records(alloc, keys, disk, begun.size, capacity)?;
     let opening = Opening {
         moment: begun.moment,
         length: machine.history_length(),

@@ -18,6 +18,7 @@ use repo_events::MOST_PAYLOAD;
 use repo_journal::{Scanner, Span, Step};
 use repo_machine::Machine;
 use std::alloc::Global;
+use std::hash::RandomState;
 
 // No record that may count ends behind this place: its gate stands within the capacity, and its
 // payload has less than 2^32 bytes.
@@ -26,6 +27,7 @@ const MOST_READ: u64 = 68_719_476_736;
 /// The history that the records of a file of this size stand for, with this capacity.
 pub(crate) fn read_records<D: Disk>(
     alloc: Global,
+    keys: RandomState,
     disk: &mut D,
     size: u64,
     capacity: u64,
@@ -45,7 +47,7 @@ pub(crate) fn read_records<D: Disk>(
     let Ok(mut scanner) = Scanner::new(alloc, size.min(MOST_READ)) else {
         return Err(OpenFault::Memory);
     };
-    let mut machine = Machine::new(alloc, capacity);
+    let mut machine = Machine::new(alloc, keys, capacity);
     enter_all(alloc, disk, &mut scanner, &mut machine)?;
     Ok(machine)
 }

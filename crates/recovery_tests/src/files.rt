@@ -1,7 +1,9 @@
 //! Files that are whole, changed and cut, and disks that fail.
 use blob_disk::{CallKind, Disk, MemDisk};
+use ports::ZeroBytes;
 use recovery::{OpenFault, open};
 use std::alloc::Global;
+use std::hash::RandomState;
 use std::process::Abort;
 use std::test::Fail;
 
@@ -21,17 +23,20 @@ const WHOLE: Told = Told {
     size: 26,
 };
 
-fn tell(alloc: Global, disk: &mut MemDisk) -> Result<Told, OpenFault> {
-    let opened = open(alloc, disk)?;
-    Ok(Told {
-        entries: opened.machine.history_length(),
-        size: opened.journal.size(),
+fn tell(alloc: Global, disk: &mut MemDisk) -> Result<Result<Told, OpenFault>, Fail> {
+    let keys = RandomState::new(&ZeroBytes)?;
+    Ok(match open(alloc, keys, disk) {
+        Ok(opened) => Ok(Told {
+            entries: opened.machine.history_length(),
+            size: opened.journal.size(),
+        }),
+        Err(fault) => Err(fault),
     })
 }
 
 fn told_of(alloc: Global, file: &[u8]) -> Result<Result<Told, OpenFault>, Fail> {
     let mut disk = MemDisk::holding(alloc, file, file.len() as u64, Vec::new(alloc))?;
-    Ok(tell(alloc, &mut disk))
+    tell(alloc, &mut disk)
 }
 
 // Bytes that stand in the file in place of its own, from a place on, and what it opens as then.
@@ -171,10 +176,10 @@ fn a_failing_call_is_told(rt: HostRuntime) -> Result<(), Fail> {
         let mut failing = Vec::new(rt.alloc());
         failing.push((kind, call))?;
         let mut disk = MemDisk::holding(rt.alloc(), &FILE, 26, failing)?;
-        assert_eq!(rt; tell(rt.alloc(), &mut disk), want, "{kind:?} {call}");
+        assert_eq!(rt; tell(rt.alloc(), &mut disk)?, want, "{kind:?} {call}");
         if want.is_err() {
             assert_eq!(rt;
-                tell(rt.alloc(), &mut disk),
+                tell(rt.alloc(), &mut disk)?,
                 Ok(WHOLE),
                 "again after {kind:?} {call}"
             );
@@ -194,9 +199,9 @@ fn what_is_told_outlasts_a_crash(rt: HostRuntime) -> Result<(), Fail> {
     let mut disk = MemDisk::holding(rt.alloc(), &file, room, Vec::new(rt.alloc()))?;
     assert!(rt; disk.bytes().len() > 16);
     assert!(rt; disk.write_at(16, &[1]).is_ok());
-    assert_eq!(rt; tell(rt.alloc(), &mut disk), Ok(WHOLE));
+    assert_eq!(rt; tell(rt.alloc(), &mut disk)?, Ok(WHOLE));
     let mut left = disk.crash(b'X');
-    assert_eq!(rt; tell(rt.alloc(), &mut left), Ok(WHOLE));
+    assert_eq!(rt; tell(rt.alloc(), &mut left)?, Ok(WHOLE));
     Ok(())
 }
 
@@ -228,7 +233,7 @@ fn a_long_file_is_read_once_in_blocks(rt: HostRuntime) -> Result<(), Fail> {
         let room = file.len() as u64;
         let mut disk = MemDisk::holding(rt.alloc(), &file, room, Vec::new(rt.alloc()))?;
         assert_eq!(rt;
-            tell(rt.alloc(), &mut disk),
+            tell(rt.alloc(), &mut disk)?,
             want,
             "capacity byte {capacity}"
         );

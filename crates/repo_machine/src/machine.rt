@@ -13,6 +13,7 @@ use repo_events::FRAME;
 use repo_path::BookName;
 use std::alloc::Global;
 use std::collections::{BTreeMap, HashMap};
+use std::hash::RandomState;
 use std::marker::Model;
 
 /// The bytes of an empty journal: a header of 16 and the closing gate.
@@ -28,7 +29,7 @@ pub struct Machine {
     pub(crate) entries: Vec<Entry>,
     // The places of the entries that are stored.
     pub(crate) kept: Vec<usize>,
-    pub(crate) contents: HashMap<Id, Place>,
+    pub(crate) contents: HashMap<Id, Place, RandomState>,
     pub(crate) changesets: ChangesetStore,
     // Each bookmark that was ever named, with its head if it has one.
     pub(crate) heads: BTreeMap<BookName, Option<Id>>,
@@ -72,8 +73,9 @@ impl Model for Machine {
 }
 
 impl Machine {
-    /// A repository of this capacity in bytes, from 4,096 to 34,359,738,368, without an entry.
-    pub fn new(alloc: Global, capacity: u64) -> Machine
+    /// A repository of this capacity in bytes, from 4,096 to 34,359,738,368, without an entry. Its tables by ids
+    /// are hashed with these keys.
+    pub fn new(alloc: Global, keys: RandomState, capacity: u64) -> Machine
         requires { IsTrue (is_header (record { capacity = capacity })) }
         ensures header { result.header.capacity ≡ capacity }
         ensures history { result.history ≡ [] }
@@ -84,8 +86,8 @@ impl Machine {
             down: false,
             entries: Vec::new(alloc),
             kept: Vec::new(alloc),
-            contents: HashMap::new(alloc),
-            changesets: ChangesetStore::new(alloc),
+            contents: HashMap::with_hasher(alloc, keys),
+            changesets: ChangesetStore::new(alloc, keys),
             heads: BTreeMap::new(alloc),
         }
     }

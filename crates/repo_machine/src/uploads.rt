@@ -25,6 +25,7 @@ use object_id::Id;
 use repo_calls::{Ask, Granted, Refusal};
 use std::alloc::Global;
 use std::collections::HashMap;
+use std::hash::RandomState;
 
 impl Machine {
     /// Stores a changeset for the seat `who`, and answers its id.
@@ -117,7 +118,7 @@ fn check_parent(changesets: &ChangesetStore, parent: &Id) -> Result<(), Refusal>
 
 // Refuses contents that aren't stored, and contents of another length.
 fn check_contents(
-    contents: &HashMap<Id, Place>,
+    contents: &HashMap<Id, Place, RandomState>,
     alloc: Global,
     edits: &[Edit],
 ) -> Result<(), Refusal>
@@ -129,7 +130,11 @@ fn check_contents(
     Ok(())
 }
 
-fn check_edit(contents: &HashMap<Id, Place>, alloc: Global, edit: &Edit) -> Result<(), Refusal>
+fn check_edit(
+    contents: &HashMap<Id, Place, RandomState>,
+    alloc: Global,
+    edit: &Edit,
+) -> Result<(), Refusal>
     ensures { Checks result (edit_refusal (λ x. option_map (λ place. place.length) (get ⟦<Id as PartialEq>⟧.eq contents.now x)) (edit_view edit.now)) }
 {
     let Change::Set {

@@ -5,9 +5,11 @@ ghost use Rattle.reply_model.specs.Legal.{IsLegal};
 
 use crate::rows::same;
 use crate::steps::{log_text, new_run, run_lines};
+use ports::ZeroBytes;
 use replay::{ReplayFault, enter_payload};
 use repo_machine::Machine;
 use std::alloc::Global;
+use std::hash::RandomState;
 use std::process::Abort;
 use std::test::Fail;
 
@@ -71,7 +73,7 @@ fn state(alloc: Global, machine: &Machine) -> Result<String, Fail> {
 }
 
 fn entered(rt: &impl Abort, alloc: Global) -> Result<String, Fail> {
-    let mut machine = Machine::new(alloc, 65_536);
+    let mut machine = Machine::new(alloc, RandomState::new(&ZeroBytes)?, 65_536);
     enter_all(rt, alloc, &mut machine, PAYLOADS)?;
     state(alloc, &machine)
 }

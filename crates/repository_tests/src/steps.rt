@@ -21,10 +21,12 @@ use crate::examples::{Example, first, main_name};
 use crate::heads::put_sizes_at;
 use crate::rows::same;
 use object_id::Id;
+use ports::ZeroBytes;
 use repo_calls::{Landed, Refusal};
 use repo_machine::{Counts, Machine};
 use repo_path::BookName;
 use std::alloc::Global;
+use std::hash::RandomState;
 use std::process::Abort;
 use std::test::Fail;
 
@@ -73,7 +75,7 @@ pub(crate) fn new_run(alloc: Global, capacity: u64) -> Result<Run, Fail> {
         return Err(Fail::from("a capacity"));
     }
     Ok(Run {
-        machine: Machine::new(alloc, capacity),
+        machine: Machine::new(alloc, RandomState::new(&ZeroBytes)?, capacity),
         main: main_name(alloc)?,
         ids: Vec::new(alloc),
         log: String::new(alloc),

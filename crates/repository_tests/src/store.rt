@@ -4,7 +4,9 @@ use crate::rows::same;
 use bonsai::Changeset;
 use changeset_store::ChangesetStore;
 use object_id::Id;
+use ports::ZeroBytes;
 use std::alloc::Global;
+use std::hash::RandomState;
 use std::process::Abort;
 use std::sync::Arc;
 use std::test::Fail;
@@ -47,7 +49,7 @@ fn put_alone(alloc: Global, filled: &mut Filled, author: u8) -> Result<(), Fail>
 
 fn new_filled(alloc: Global) -> Result<Filled, Fail> {
     let mut filled = Filled {
-        store: ChangesetStore::new(alloc),
+        store: ChangesetStore::new(alloc, RandomState::new(&ZeroBytes)?),
         ids: Vec::new(alloc),
     };
     put_alone(alloc, &mut filled, b'a')?;
@@ -146,7 +148,7 @@ fn where_chains_part(rt: HostRuntime) -> Result<(), Fail> {
 
 #[test]
 fn room_is_not_made_for_more_than_numbers_go(rt: HostRuntime) -> Result<(), Fail> {
-    let mut store = ChangesetStore::new(rt.alloc());
+    let mut store = ChangesetStore::new(rt.alloc(), RandomState::new(&rt)?);
     assert!(rt; store.reserve(2_147_483_649).is_err());
     assert!(rt; store.reserve(3).is_ok());
     Ok(())

@@ -18,6 +18,7 @@ use repo_journal::{InitFault, init};
 use repo_state::RepoState;
 use seat_calls::ChangeFault;
 use std::alloc::{AllocError, Global};
+use std::hash::RandomState;
 
 // The bytes that the file may have, and that there is room for.
 const CAPACITY: u64 = 16_777_216;
@@ -42,12 +43,16 @@ fn make_repository(disk: &mut MemDisk)
 }
 
 // Opens it.
-fn open_repository(alloc: Global, disk: MemDisk) -> Result<RepoState<MemDisk>, AllocError>
+fn open_repository(
+    alloc: Global,
+    keys: RandomState,
+    disk: MemDisk,
+) -> Result<RepoState<MemDisk>, AllocError>
     requires { IsMade (told_of disk) }
     ensures { IfOk result (λ state. IsNew state) }
 {
     let mut disk = disk;
-    match open(alloc, &mut disk) {
+    match open(alloc, keys, &mut disk) {
         Ok(Opened { machine, journal }) => Ok(RepoState::new(alloc, machine, journal, disk)),
         Err(OpenFault::Memory) => Err(AllocError),
         Err(OpenFault::NotARepository) => unreachable!(),
@@ -104,12 +109,13 @@ fn lead(alloc: Global, state: &mut RepoState<MemDisk>) -> Result<(), AllocError>
 }
 
 /// A new repository in memory with the base and the bookmark at it. No call of its disk will fail.
-pub fn begin(alloc: Global) -> Result<RepoState<MemDisk>, AllocError>
+/// Its tables by ids are hashed with these keys.
+pub fn begin(alloc: Global, keys: RandomState) -> Result<RepoState<MemDisk>, AllocError>
     ensures { IfOk result (λ state. IsLed state) }
 {
     let mut disk = new_disk(alloc)?;
     make_repository(&mut disk);
-    let mut state = open_repository(alloc, disk)?;
+    let mut state = open_repository(alloc, keys, disk)?;
     lead(alloc, &mut state)?;
     Ok(state)
 }

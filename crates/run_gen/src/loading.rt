@@ -13,6 +13,7 @@ use load_calls::LoadFault;
 use repo_state::RepoState;
 use shared_repo::Repo;
 use std::alloc::{AllocError, Global};
+use std::hash::RandomState;
 use std::sync::Wait;
 use std::thread::Threads;
 
@@ -27,6 +28,7 @@ struct Left {
 fn run<R: Threads + Wait + Sync>(
     rt: &R,
     alloc: Global,
+    keys: RandomState,
     seed: u64,
     stacks: u64,
     clients: u64,
@@ -38,7 +40,7 @@ fn run<R: Threads + Wait + Sync>(
     ensures quiet { IfOk result (λ left. IsQuiet left.state.opening) }
     ensures header { IfOk result (λ left. left.state.opening.header ≡ load_header) }
 {
-    let state = begin(alloc)?;
+    let state = begin(alloc, keys)?;
     let (repo, mut lead) = Repo::new(alloc, state)?;
     let all = split_all(&repo, alloc, &mut lead, clients)?;
     let finished = run_all(rt, alloc, &repo, all, seed, stacks)?;
@@ -52,13 +54,14 @@ fn run<R: Threads + Wait + Sync>(
 
 /// Clients that run at once, each at a seat of its own, land so many stacks each on one repository
 /// in memory. What they ask follows from the seed, up to what their landings answer. The state is
-/// handed back but where memory runs out.
+/// handed back but where memory runs out. The tables by ids are hashed with these keys.
 ///
 /// # Errors
 /// `Refused` where the repository refuses a call of some client.
 pub fn load<R: Threads + Wait + Sync>(
     rt: &R,
     alloc: Global,
+    keys: RandomState,
     seed: u64,
     stacks: u64,
     clients: u64,
@@ -71,7 +74,7 @@ pub fn load<R: Threads + Wait + Sync>(
     // Its file may have so many bytes.
     ensures header { IfSome result.1 (λ s. s.opening.header ≡ load_header) }
 {
-    let Ok(Left { outcome, mut state }) = run(rt, alloc, seed, stacks, clients) else {
+    let Ok(Left { outcome, mut state }) = run(rt, alloc, keys, seed, stacks, clients) else {
         return (Err(LoadFault::Memory), None);
     };
     match outcome {

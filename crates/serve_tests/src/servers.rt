@@ -5,8 +5,9 @@ use crate::given::{link_of, opener_of, words};
 use command_line::run;
 use file_commands::Status;
 use net_ports::TcpAccept;
-use ports::{Accept, Failed, Link, MemAccept, MemLink, NoGate};
+use ports::{Accept, Failed, Link, MemAccept, MemLink, NoGate, ZeroBytes};
 use std::alloc::Global;
+use std::hash::RandomState;
 use std::io::{Read, Write};
 use std::net::{Shutdown, TcpStream};
 use std::sync::atomic::{AtomicU64, Ordering};
@@ -180,6 +181,7 @@ fn ends_so<R: Threads + Wait + Sync>(rt: &R, alloc: Global, server: &Server) -> 
     let ran = run(
         rt,
         alloc,
+        RandomState::new(&ZeroBytes)?,
         words.as_slice(),
         &mut link,
         &mut opener,
@@ -227,6 +229,7 @@ fn a_server_takes_nothing_where_its_words_or_its_file_are_wrong(
         let mut ran = run(
             &rt,
             alloc,
+            RandomState::new(&ZeroBytes)?,
             words.as_slice(),
             &mut link,
             &mut opener,
@@ -255,6 +258,7 @@ fn a_server_answers_over_a_socket(rt: HostRuntime) -> Result<(), Fail> {
     let ran = run(
         &rt,
         alloc,
+        RandomState::new(&ZeroBytes)?,
         words.as_slice(),
         &mut link,
         &mut opener,

@@ -5,8 +5,9 @@ use crate::program::{made, no_links, opener_of, same, words};
 use crate::session::{cut, script_of, session};
 use command_line::run;
 use file_commands::Status;
-use ports::{Failed, Link, NoGate};
+use ports::{Failed, Link, NoGate, ZeroBytes};
 use std::alloc::Global;
+use std::hash::RandomState;
 use std::process::Abort;
 use std::sync::Wait;
 use std::test::Fail;
@@ -103,6 +104,7 @@ fn served<R: Threads + Wait + Sync>(
     let ran = run(
         rt,
         alloc,
+        RandomState::new(&ZeroBytes)?,
         words.as_slice(),
         link,
         &mut opener,

@@ -2,8 +2,9 @@
 use blob_disk::{CallKind, MemDisk};
 use command_line::run;
 use file_commands::Status;
-use ports::{Link, MemAccept, MemLink, MemOpener, NoGate, Slot};
+use ports::{Link, MemAccept, MemLink, MemOpener, NoGate, Slot, ZeroBytes};
 use std::alloc::{AllocError, Global};
+use std::hash::RandomState;
 use std::process::Abort;
 use std::sync::Wait;
 use std::test::Fail;
@@ -87,6 +88,7 @@ fn run_opener<R: Threads + Wait + Sync>(
     let ran = run(
         rt,
         alloc,
+        RandomState::new(&ZeroBytes)?,
         words.as_slice(),
         &mut link,
         &mut opener,

@@ -4,9 +4,10 @@ use crate::session::script_of;
 use command_line::run;
 use file_commands::Status;
 use file_disk::{FileDisk, FileOpener};
-use ports::{NoGate, Opener};
+use ports::{NoGate, Opener, ZeroBytes};
 use std::alloc::Global;
 use std::fs;
+use std::hash::RandomState;
 use std::process::Abort;
 use std::sync::Wait;
 use std::test::Fail;
@@ -34,6 +35,7 @@ fn check<R: Abort + Threads + Wait + Sync + Alloc<A = Global>, O: Opener<FileDis
     let ran = run(
         rt,
         rt.alloc(),
+        RandomState::new(&ZeroBytes)?,
         words.as_slice(),
         &mut link,
         opener,
@@ -96,6 +98,7 @@ fn fsck<R: Threads + Wait + Sync, O: Opener<FileDisk>>(
     let ran = run(
         rt,
         alloc,
+        RandomState::new(&ZeroBytes)?,
         words.as_slice(),
         &mut link,
         opener,
