@@ -4,8 +4,7 @@ use mathlib.Core.List.{IsPrefix}
 use Rattle.history_model.specs.History.{Entry, entries_by}
 use Rattle.history_model.specs.Journal.{Header}
 use Rattle.reply_model.specs.Reply.{Ask, Refusal}
-use Rattle.reply_model.specs.After.{After, Asks, Refuses, Memory, Made, Grows, nothing, entries_of}
-use Rattle.load_calls.specs.Answers.{SeesMore}
+use Rattle.reply_model.specs.After.{After, Asks, Refuses, Memory, Made, Grows, nothing, entries_of, SeesMore}
 use Rattle.load_calls.specs.Calls.{Call, IsGranted, Went}
 
 pub prefix_self : {A : Type 0} (xs : List A) → IsPrefix xs xs

@@ -8,8 +8,8 @@ use Rattle.byte_fields.specs.Bytes.{Id}
 use Rattle.history_model.specs.History.{Entry}
 use Rattle.history_model.specs.Journal.{Header}
 use Rattle.reply_model.specs.Reply.{Ask, Granted, Refusal}
-use Rattle.reply_model.specs.After.{After, Asks, Grants, Refuses}
-use Rattle.load_calls.specs.Answers.{Answered, EndsBy, SeesMore}
+use Rattle.reply_model.specs.After.{After, Asks, Grants, Refuses, SeesMore}
+use Rattle.load_calls.specs.Answers.{Answered, EndsBy}
 use Rattle.load_calls.specs.Calls.{Call, Went, asks_of, heads_in, heads_of}
 use Rattle.load_calls.specs.Grants.{IsSameOutcome}
 use Rattle.load_calls.specs.declared.fault.LoadFault.{LoadFault}

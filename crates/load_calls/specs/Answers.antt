@@ -1,21 +1,16 @@
 -- How a list of asks of one seat was answered.
---     SeesMore from who to      the seat has seen more, and made no entry
 --     EndsBy header who calls reached asks outcome to      these calls were granted, up to this front, and then all had been asked, or the next was refused, or there was no memory
 --     Answered header who from asks heads outcome to      so it was from this front on, and the landings that were granted left these heads
 use Rattle.std.specs.Prelude.{◌≡◌, ℕ, List, [], ◌∷◌, ◌++◌, Result, Ok, Err}
 use mathlib.Core.List.{IsPrefix}
 use Rattle.byte_fields.specs.Bytes.{Id}
-use Rattle.history_model.specs.History.{Entry, entries_by}
+use Rattle.history_model.specs.History.{Entry}
 use Rattle.history_model.specs.Journal.{Header}
 use Rattle.reply_model.specs.Reply.{Ask, Refusal}
-use Rattle.reply_model.specs.After.{After, Asks, Refuses}
+use Rattle.reply_model.specs.After.{After, Asks, Refuses, SeesMore}
 use Rattle.load_calls.specs.Calls.{Call, Went, asks_of, heads_of}
 use Rattle.load_calls.specs.declared.fault.LoadFault.{LoadFault}
 use Rattle.load_calls.specs.declared.fault.LoadFault.TheVariants.{Refused, Memory}
-
-pub record SeesMore (from : List Entry) (who : ℕ) (to : List Entry) : Type 0 where
-  pub begins : IsPrefix from to
-  pub own : entries_by who to ≡ entries_by who from
 
 -- the next ask is one that the repository of one thread refuses, at the seat's new front
 pub record IsRefused (header : Header) (who : ℕ) (calls : List Call) (reached : List Entry) (asks : List Ask) (to : List Entry) : Type 0 where

@@ -18,6 +18,7 @@ use Rattle.byte_fields.specs.Bytes.{Id}
 use Rattle.history_model.specs.History.{Known}
 use Rattle.manifest_model.specs.Manifests.{manifests_on, nodes_in}
 use Rattle.manifest_laws.proofs.Lists.{or_either}
+use Rattle.reply_model.specs.After.{IsNode}
 use Rattle.node_table.specs.declared.fault.TableFault.{TableFault}
 use Rattle.node_table.specs.declared.fault.TableFault.TheVariants as faults
 use Rattle.node_table.specs.Faults.{OfTwo}
@@ -27,7 +28,7 @@ use Rattle.derive_step.specs.declared.done.Done.{Done}
 use Rattle.derive_step.specs.Jobs.{roots_on, all_nodes_on}
 use Rattle.derive_step.proofs.Members.{contains_has, all_has}
 use Rattle.manifest_store.specs.Lines.{line_at, IsStore}
-use Rattle.manifest_store.specs.Manifests.{AreRight, AreManifests, HoldsAll, IsNode, IsSettledNode}
+use Rattle.manifest_store.specs.Manifests.{AreRight, AreManifests, HoldsAll, IsSettledNode}
 use Rattle.manifest_store.specs.Jobs.{IsDoneOn, is_ready}
 use Rattle.manifest_store.specs.Settling.{IsCollision, IsNodeBeside, IsCollisionBeside}
 use Rattle.manifest_store.proofs.Lines.{known_here, line_step, line_stays, parent_stays}

@@ -1,15 +1,10 @@
 -- The manifests of known changesets in a table of nodes.
 --     AreRight ks      the changesets keep their rules, and the files of each can be counted
---     IsNode ks bytes      a node of the definitions' manifests of some known changeset
---     NodesCollide ks x      two different ones of them have the digest x
 --     HoldsAll m line      all nodes of the first of a line stand under their digests
 --     AreManifests ks t      of the settled changesets, and of no others, the table has the definitions' manifests, and with a changeset its parent is settled
-use Rattle.std.specs.Prelude.{◌≡◌, ◌≢◌, ◌<◌, ℕ, true, IsTrue, List, length, Contains, Some}
+use Rattle.std.specs.Prelude.{◌≡◌, ◌<◌, ℕ, true, List, length, Contains, Some}
 use Rattle.std.specs.FinMap as map
-use Rattle.sha2.specs.Sha256.{sha256}
-use Rattle.byte_fields.specs.Bytes.{Id}
-use Rattle.history_model.specs.History.{Known, is_known}
-use Rattle.manifest_model.specs.Manifests.{nodes_of}
+use Rattle.history_model.specs.History.{Known}
 use Rattle.node_table.specs.Table.{Nodes, Table, Has, is_settled}
 use Rattle.changeset_store.specs.Store.{parent_at}
 use Rattle.derive_step.specs.Jobs.{IsRight, roots_on, all_nodes_on}
@@ -17,12 +12,6 @@ use Rattle.manifest_store.specs.Lines.{line_at, IsStore}
 
 abbrev pub AreRight : List Known → Type 0
 AreRight ks = (n : ℕ) → n < length ks → IsRight (line_at ks n)
-
-abbrev pub IsNode : List Known → List ℕ → Type 0
-IsNode ks bytes = (x : Id) × IsTrue (is_known ks x) × Contains (nodes_of ks x) bytes
-
-abbrev pub NodesCollide : List Known → Id → Type 0
-NodesCollide ks x = (a b : List ℕ) × IsNode ks a × IsNode ks b × (a ≢ b) × (sha256 a ≡ x) × (sha256 b ≡ x)
 
 abbrev pub HoldsAll : Nodes → List Known → Type 0
 HoldsAll m line = (bytes : List ℕ) → Contains (all_nodes_on line) bytes → Has m bytes

@@ -6,12 +6,13 @@ use Rattle.std.specs.Prelude.{◌≡◌, ◌≢◌, ◌⊎◌, ℕ, List, Contai
 use Rattle.sha2.specs.Sha256.{sha256}
 use Rattle.byte_fields.specs.Bytes.{Id}
 use Rattle.history_model.specs.History.{Known}
+use Rattle.reply_model.specs.After.{NodesCollide}
 use Rattle.node_table.specs.Table.{Table}
 use Rattle.node_table.specs.declared.fault.TableFault.{TableFault}
 use Rattle.node_table.specs.declared.fault.TableFault.TheVariants as faults
 use Rattle.derive_step.specs.Jobs.{all_nodes_on}
 use Rattle.manifest_store.specs.Lines.{line_at}
-use Rattle.manifest_store.specs.Manifests.{IsSettledNode, NodesCollide}
+use Rattle.manifest_store.specs.Manifests.{IsSettledNode}
 
 abbrev pub IsCollision : List Known → TableFault → Type 0
 IsCollision ks (faults.Collision id) = NodesCollide ks id

@@ -3,13 +3,16 @@
 --     Answers header h call answer made      the call may be answered so at h, if it makes this there
 --     Relation      how a repository answers a call of a seat: the header, the history that the seat has seen, its number, the call, the answer, and the history that it has seen then
 --     Replies header h who call answer new      the repository of one thread answers the call so at h, and then has the history new
+--     IsNode ks bytes      a node of the definitions' manifests of some known changeset
+--     NodesCollide ks x      two different ones of them have the digest x
+--     SeesMore old who new      the seat has seen more, and made no entry
 --     Grows old who before made new      the front before a call and after it, and the history between at which the call is answered
 --     After header old who call answer new      the front before a call that is answered so, and after it
 use Rattle.std.specs.Prelude.{Contains, ◌≡◌, ◌≢◌, ℕ, ◌==◌, Bool, true, false, IsTrue, IsSome, List, [], ◌++◌, map, filter, Option, None, Some, option_map, option_to_list, Ok, Err}
 use mathlib.Core.List.{IsPrefix}
 use Rattle.sha2.specs.Sha256.{sha256}
 use Rattle.byte_fields.specs.Bytes.{Id}
-use Rattle.history_model.specs.History.{Body, Fault, Entry, entries_by, known, is_known, content_len}
+use Rattle.history_model.specs.History.{Body, Fault, Entry, Known, entries_by, known, is_known, content_len}
 use Rattle.history_model.specs.Chain.{line}
 use Rattle.history_model.specs.Journal.{Header}
 use Rattle.reply_model.specs.Reply.{Ask, Refusal, Granted, judge, Question, HeadOf, ContentOf, ChangesetOf, LogFrom, FsnodeOf, UnodeOf, HistoryOf, Seen, Absent, AbsentChangeset, Sees}
@@ -39,12 +42,11 @@ pub data Answer : Type 0 where
   NodeCollision : (id : Id) → Answer
   Memory : Answer
 
--- a node of a known changeset
-abbrev pub IsNode : List Entry → List ℕ → Type 0
-IsNode h bytes = (x : Id) × IsTrue (is_known (known h) x) × Contains (nodes_of (known h) x) bytes
+abbrev pub IsNode : List Known → List ℕ → Type 0
+IsNode ks bytes = (x : Id) × IsTrue (is_known ks x) × Contains (nodes_of ks x) bytes
 
-abbrev pub NodesCollide : List Entry → Id → Type 0
-NodesCollide h x = (a b : List ℕ) × IsNode h a × IsNode h b × (a ≢ b) × (sha256 a ≡ x) × (sha256 b ≡ x)
+abbrev pub NodesCollide : List Known → Id → Type 0
+NodesCollide ks x = (a b : List ℕ) × IsNode ks a × IsNode ks b × (a ≢ b) × (sha256 a ≡ x) × (sha256 b ≡ x)
 
 abbrev pub AsksManifest : Question → Type 0
 AsksManifest (HeadOf name) = ⊥
@@ -88,7 +90,7 @@ Answers header h (Looks (ContentOf x)) (BadBytes wanted found) made = (made ≡ 
 -- want of memory
 Answers header h call Memory made = made ≡ nothing
 -- manifests whose nodes can't be told apart
-Answers header h call (NodeCollision x) made = (made ≡ nothing) × ReadsManifest call × NodesCollide h x
+Answers header h call (NodeCollision x) made = (made ≡ nothing) × ReadsManifest call × NodesCollide (known h) x
 -- no other answer is given
 Answers _ _ _ _ _ = ⊥
 
@@ -109,6 +111,10 @@ pub record Replies (header : Header) (h : List Entry) (who : ℕ) (call : Call) 
   pub made : Made
   pub answers : Answers header h call answer made
   pub new_is : new ≡ h ++ entries_of who made
+
+pub record SeesMore (old : List Entry) (who : ℕ) (new : List Entry) : Type 0 where
+  pub begins : IsPrefix old new
+  pub own : entries_by who new ≡ entries_by who old
 
 -- The new front is a history that the old front begins, in which the seat made at most one entry more: first the history before it, in which the seat made no other, and then the entry, or the fault.
 pub record Grows (old : List Entry) (who : ℕ) (before : List Entry) (made : Made) (new : List Entry) : Type 0 where

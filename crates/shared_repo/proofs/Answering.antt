@@ -7,12 +7,11 @@ use Rattle.changeset_model.specs.Changeset.{Changeset, spelling}
 use Rattle.history_model.specs.History.{Entry, changeset_of, content_len, known}
 use Rattle.history_model.specs.Journal.{Header}
 use Rattle.reply_model.specs.Reply.{ContentOf, ChangesetOf, SeenBytes, AbsentChangeset, ◌>>=◌}
-use Rattle.reply_model.specs.After.{After, Looks, Shows}
+use Rattle.reply_model.specs.After.{After, Looks, Shows, SeesMore}
 use Rattle.seat_calls.specs.declared.calls.AskFault.{AskFault}
 use Rattle.seat_calls.specs.declared.calls.AskFault.TheVariants.{BadBytes}
 use Rattle.seat_calls.specs.Asking.{bytes_answer}
 use Rattle.repo_state.proofs.Looking.{checked_answers}
-use Rattle.shared_repo.specs.Landing.{SeesMore}
 use Rattle.shared_repo.proofs.Fronts.{after_nothing}
 
 pub after_checked : {A : Type 0} (header : Header) (old new : List Entry) (who : ℕ) (x : Id) (bytes : List ℕ) (result : Result (Vec ℕ A) AskFault) → SeesMore old who new → content_len new x ≡ Some (length bytes)

@@ -8,7 +8,7 @@ use Rattle.history_model.specs.History.{Entry, Known, known}
 use Rattle.history_model.specs.Chain.{line}
 use Rattle.history_model.specs.Journal.{Header}
 use Rattle.bookmark_lock.proofs.Prefixes.{prefix_self, prefix_trans}
-use Rattle.reply_model.specs.After.{After, Answer, Answers, Call, Derives, Looks, nothing}
+use Rattle.reply_model.specs.After.{After, Answer, Answers, Call, Derives, Looks, nothing, SeesMore}
 use Rattle.reply_model.specs.Reply.{FsnodeOf, UnodeOf, HistoryOf}
 use Rattle.reply_model.proofs.Lines.{known-append, line_grows}
 use Rattle.changeset_store.specs.Store.{known_at}
@@ -25,7 +25,6 @@ use Rattle.manifest_store.proofs.Lines.{known_here}
 use Rattle.repo_state.proofs.Reading as reading
 use Rattle.shared_repo.specs.Derivation.{IsNextSome, WasDerived}
 use Rattle.shared_repo.specs.declared.derivation_turns.Next.TheVariants as nexts
-use Rattle.shared_repo.specs.Landing.{SeesMore}
 use Rattle.shared_repo.proofs.Fronts.{after_more, after_nothing}
 
 -- ---- what was derived of a job

@@ -7,10 +7,10 @@ use Rattle.history_model.specs.Journal.{Header}
 use Rattle.bookmark_lock.specs.Place.{Place, with_front}
 use Rattle.bookmark_lock.proofs.Prefixes.{prefix_self, prefix_trans}
 use Rattle.reply_model.specs.Reply.{Ask, LandDraft}
-use Rattle.reply_model.specs.After.{Call, Asks, Answer, Answers, After, Memory, nothing}
+use Rattle.reply_model.specs.After.{Call, Asks, Answer, Answers, After, Memory, nothing, SeesMore}
 use Rattle.repo_machine.specs.Plans.{PlannedLanding, RebasedLanding, IsPlan, WasPlanned, rebased_of}
 use Rattle.repo_machine.proofs.Renewed.{was_plan, was_plan_later}
-use Rattle.shared_repo.specs.Landing.{IsEarlier, IsMadeBefore, SeesMore}
+use Rattle.shared_repo.specs.Landing.{IsEarlier, IsMadeBefore}
 
 pub sees_nothing : (h : List Entry) (who : ℕ) → SeesMore h who h
 sees_nothing h who = record { begins = prefix_self h; own = refl }

@@ -1,11 +1,9 @@
 -- What a seat knows between the turns of a landing.
---     SeesMore old who new      the seat has seen more, and made no entry
 --     IsEarlier h name draft earlier      the plan of an attempt before, if there is one, is of this landing, and was one at a history with which h begins
 --     outcome_of exchanged      the answer to a planned landing, unless the bookmark's head has moved
 use Rattle.std.specs.Prelude.{◌≡◌, ℕ, List, Option, None, Some, Result, Ok, Err, IfSome}
-use mathlib.Core.List.{IsPrefix}
 use Rattle.byte_fields.specs.Bytes.{Id}
-use Rattle.history_model.specs.History.{Entry, entries_by}
+use Rattle.history_model.specs.History.{Entry}
 use Rattle.repo_calls.specs.declared.ask.Granted.{Granted}
 use Rattle.repo_calls.specs.declared.ask.Granted.TheVariants.{Landing}
 use Rattle.repo_machine.specs.Again.{WasPlan}
@@ -14,10 +12,6 @@ use Rattle.repo_state.specs.declared.exchanged.Exchanged.{Exchanged}
 use Rattle.repo_state.specs.declared.exchanged.Exchanged.TheVariants.{Landed, HeadMoved, Refused, DiskFault}
 use Rattle.seat_calls.specs.declared.calls.ChangeFault.{ChangeFault}
 use Rattle.seat_calls.specs.declared.calls.ChangeFault.TheVariants as faults
-
-pub record SeesMore (old : List Entry) (who : ℕ) (new : List Entry) : Type 0 where
-  pub begins : IsPrefix old new
-  pub own : entries_by who new ≡ entries_by who old
 
 pub record IsMadeBefore (h : List Entry) (name : List ℕ) (draft : Id) (plan : PlannedLanding) : Type 0 where
   pub planned : WasPlan h plan

@@ -4,12 +4,11 @@ ghost use Rattle.std.specs.Prelude.{◌≡◌, false, IfOk, IfErr, IfSome};
 ghost use Rattle.bookmark_lock.specs.Place.{with_front};
 ghost use Rattle.history_model.specs.History.{known};
 ghost use Rattle.manifest_store.specs.Settling.{IsCollision};
-ghost use Rattle.reply_model.specs.After.{After, Answers, Derives, nothing};
+ghost use Rattle.reply_model.specs.After.{After, Answers, Derives, nothing, SeesMore};
 ghost use Rattle.repo_state.specs.Manifests.{roots_answer};
 ghost use Rattle.seat_calls.specs.Asking.{fault_answer};
 ghost use Rattle.shared_repo.specs.Derivation.{IsNextSome, WasDerived};
 ghost use Rattle.shared_repo.specs.Front.{IsFront};
-ghost use Rattle.shared_repo.specs.Landing.{SeesMore};
 
 use crate::derivation_turns::{Next, next_in, settle_in};
 use crate::repo::Repo;

@@ -3,12 +3,12 @@ ghost use Rattle.std.specs.Prelude.{◌≡◌, IfOk, IfErr, MatchOption, false};
 ghost use Rattle.bookmark_lock.specs.Place.{with_front};
 ghost use Rattle.bookmark_lock.specs.Turns.{IsTurn};
 ghost use Rattle.reply_model.specs.Reply.{LandDraft};
-ghost use Rattle.reply_model.specs.After.{After, Answers, Asks, Replies, nothing};
+ghost use Rattle.reply_model.specs.After.{After, Answers, Asks, Replies, nothing, SeesMore};
 ghost use Rattle.repo_calls.specs.Calls.{refused};
 ghost use Rattle.repo_machine.specs.Plans.{IsPlan, WasPlanned};
 ghost use Rattle.seat_calls.specs.Asking.{stored_answer};
 ghost use Rattle.shared_repo.specs.Front.{IsFront, history_of, opening_of};
-ghost use Rattle.shared_repo.specs.Landing.{IsEarlier, SeesMore};
+ghost use Rattle.shared_repo.specs.Landing.{IsEarlier};
 
 use crate::landing_turns::{land_in, plan_from};
 use crate::repo::Repo;

@@ -5,10 +5,9 @@ ghost use Rattle.bookmark_lock.specs.Place.{with_front};
 ghost use Rattle.bookmark_lock.specs.Turns.{IsTurn};
 ghost use Rattle.reply_model.specs.Reply.{HeadOf, ContentOf, ChangesetOf, LogFrom};
 ghost use Rattle.history_model.specs.History.{changeset_of, content_len, known};
-ghost use Rattle.reply_model.specs.After.{After, Answer, Answers, Looks, Replies, nothing};
+ghost use Rattle.reply_model.specs.After.{After, Answer, Answers, Looks, Replies, nothing, SeesMore};
 ghost use Rattle.seat_calls.specs.Asking.{IsAnswer, bytes_answer, fault_answer, question_seen};
 ghost use Rattle.shared_repo.specs.Front.{IsFront, history_of, opening_of};
-ghost use Rattle.shared_repo.specs.Landing.{SeesMore};
 
 use crate::repo::Repo;
 use crate::seat::RepoSeat;

@@ -1,6 +1,6 @@
 use Rattle.std.proofs.Common.{◌≡◌}
 use Rattle.bookmark_lock.specs.Place.{with_front}
-use Rattle.shared_repo.specs.Landing.{SeesMore}
+use Rattle.reply_model.specs.After.{SeesMore}
 use Rattle.shared_repo.proofs.repo.Repo.derive_chain.Given as goal
 
 abbrev pub invariant-loop : goal.invariant-loop

@@ -1,6 +1,7 @@
 use Rattle.std.proofs.Common.{◌≡◌}
 use Rattle.bookmark_lock.specs.Place.{with_front}
-use Rattle.shared_repo.specs.Landing.{IsEarlier, SeesMore}
+use Rattle.reply_model.specs.After.{SeesMore}
+use Rattle.shared_repo.specs.Landing.{IsEarlier}
 use Rattle.shared_repo.proofs.repo.Repo.land.Given as goal
 
 abbrev pub invariant-loop-attempt : goal.invariant-loop-attempt
