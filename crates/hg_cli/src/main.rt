@@ -7,7 +7,7 @@ use command_line::{refuse_words, run};
 use file_commands::Status;
 use file_disk::FileOpener;
 use net_ports::{ReaderSource, TcpAccept, WriterSink};
-use ports::{Link, NoGate, Pair};
+use ports::{NoGate, Pair};
 use program_words::{Command, read_words};
 use std::alloc::Global;
 use std::hash::RandomState;
@@ -64,29 +64,29 @@ fn new_keys(rt: &HostRuntime) -> Option<RandomState> {
     }
 }
 
-fn start<L: Link>(rt: &HostRuntime, words: &[String], link: &mut L) -> Status {
-    let Some(keys) = new_keys(rt) else {
-        return Status::StreamFault;
-    };
-    let accept = accept_for(rt, words);
-    let mut opener = FileOpener::new(rt);
-    run(
-        rt,
-        rt.alloc(),
-        keys,
-        words,
-        link,
-        &mut opener,
-        accept,
-        &NoGate,
-    )
-    .status
-}
-
 fn main(rt: HostRuntime) -> ExitCode {
     let mut link = Pair::new(ReaderSource::new(rt.stdin()), WriterSink::new(rt.stdout()));
+    let alloc = rt.alloc();
     let status = match words(&rt) {
-        Ok(words) => start(&rt, words.as_slice(), &mut link),
+        Ok(words) => match new_keys(&rt) {
+            Some(keys) => {
+                let words = words.as_slice();
+                let accept = accept_for(&rt, words);
+                let mut opener = FileOpener::new(&rt);
+                run(
+                    &rt,
+                    alloc,
+                    keys,
+                    words,
+                    &mut link,
+                    &mut opener,
+                    accept,
+                    &NoGate,
+                )
+                .status
+            }
+            None => Status::StreamFault,
+        },
         Err(error) => refuse_words(error.kind(), &mut link),
     };
     ExitCode::from(status.code())
