@@ -1,5 +1,5 @@
 -- What a command came to, by whether the file was opened.
-use Rattle.std.proofs.Common.{◌≡◌, ◌⊎◌, ℕ, List, refl, ap, subst, sym, ◌∙◌}
+use Rattle.std.proofs.Common.{◌≡◌, ℕ, List, refl, ap, subst, sym, ◌∙◌}
 use Rattle.std.specs.Prelude.{Option, None, Some, IfSome, MatchOption}
 use mathlib.Core.Logic.{inl, inr}
 use Rattle.disk_model.specs.Meaning.{Meaning}
@@ -13,7 +13,7 @@ use Rattle.file_commands.specs.Opening.{RefusesIn}
 use Rattle.file_commands.specs.Reports.{status_of}
 use Rattle.command_line.specs.declared.came.Came.{Came}
 use Rattle.command_line.specs.Outside.{Links, Outside}
-use Rattle.command_line.specs.Running.{LacksMemory, Runs, RunsOn, RunsSession, Writes}
+use Rattle.command_line.specs.Running.{Runs, RunsOn, RunsSession, Writes}
 
 pub by_disk : {D : Type 0} (o : Option D) (U : Type 0) (P : D → Type 0) → (o ≡ None → U) → IfSome o P → MatchOption o U P
 by_disk None U P none some = none refl
@@ -50,6 +50,6 @@ same_came : {D : Type 0} (came ran : Came D) → ran.status ≡ came.status → 
 same_came {D} came ran status disk = sym (ap (λ (s : Status). came_as s ran.disk) status ∙ ap (λ (d : Option D). came_as came.status d) disk)
 
 pub runs_session : {D : Type 0} (meaning : D → Meaning) (request : Option Request) (file : List ℕ) (old new : Outside D) (links : Links) (came ran : Came D) (load : Option MemDisk) → request ≡ Some (session file)
-    → RunsSession meaning file old new came → ran.status ≡ came.status → ran.disk ≡ came.disk → Runs meaning request old new links ran load ⊎ LacksMemory request old new links ran load
-runs_session {D} meaning request file old new links came ran load is runs status disk = inl (subst (λ (q : Option Request). Runs meaning q old new links ran load) (sym is)
-    (subst (λ (r : Came D). RunsSession meaning file old new r) (same_came came ran status disk) runs))
+    → RunsSession meaning file old new came → ran.status ≡ came.status → ran.disk ≡ came.disk → Runs meaning request old new links ran load
+runs_session {D} meaning request file old new links came ran load is runs status disk = subst (λ (q : Option Request). Runs meaning q old new links ran load) (sym is)
+    (subst (λ (r : Came D). RunsSession meaning file old new r) (same_came came ran status disk) runs)

@@ -1,5 +1,6 @@
 //! What the program does with its words.
-ghost use Rattle.std.specs.Prelude.{◌≡◌, ◌≢◌, ◌⊎◌, false, map, None, string_bytes};
+ghost use Rattle.std.specs.Prelude.{◌≡◌, ◌≢◌, ◌⊎◌, false, map, None, Some, string_bytes};
+ghost use Rattle.program_words.specs.Said.{IsInRange, said_of};
 ghost use Rattle.program_words.specs.Words.{command_of};
 ghost use Rattle.program_words.specs.Sessions.{is_session};
 ghost use Rattle.file_commands.specs.declared.report.Report.TheVariants.{NoMemory as NoMemoryLine, Usage as UsageLine};
@@ -57,6 +58,69 @@ fn lack_memory<D: Drop, L: Link>(words: &[String], link: &mut L) -> Came<D>
     say(Report::NoMemory, link)
 }
 
+// Runs a command, once its words are read.
+fn run_command<R, D, O, L, A, K, G>(
+    rt: &R,
+    alloc: Global,
+    keys: RandomState,
+    command: Command,
+    link: &mut L,
+    opener: &mut O,
+    accept: A,
+    gate: &G,
+) -> Ran<D, A, K>
+where
+    R: Threads + Wait + Sync,
+    D: Disk + Send,
+    O: Opener<D>,
+    L: Link,
+    A: Accept<K> + Send,
+    K: Link + Send,
+    G: Gate + Sync,
+    requires { IsInRange command }
+    ensures runs { Runs D.meaning (Some (said_of command.entry)) (outside O.shelf O.faults L.rest L.written L.faults opener.old link.old) (outside O.shelf O.faults L.rest L.written L.faults opener.new link.new) (links A.given A.over A.faults accept result.accept result.served) (record { status = result.status; disk = result.disk }) result.load }
+    ensures served { IsServed (links A.given A.over A.faults accept result.accept result.served) }
+    ensures apart { takes_links (Some (said_of command.entry)) ≡ false → (result.served ≡ 0) × (result.accept ≡ accept) }
+    ensures unloaded { makes_load (Some (said_of command.entry)) ≡ false → result.load ≡ None }
+{
+    match command {
+        Command::Init { file, capacity } => {
+            apart(tell(init_file(opener, file, capacity), link), accept)
+        }
+        Command::Session { file } => apart(run_session(alloc, keys, file, link, opener), accept),
+        Command::Serve {
+            file,
+            lanes,
+            derivers,
+            connections,
+            ..
+        } => run_serve(
+            rt,
+            alloc,
+            keys,
+            file,
+            u64::from(lanes),
+            u64::from(derivers),
+            u64::from(connections),
+            link,
+            opener,
+            accept,
+            gate,
+        ),
+        Command::Fsck { file } => apart(tell(fsck_file(alloc, keys, opener, file), link), accept),
+        Command::Gen {
+            seed,
+            stacks,
+            clients,
+        } => {
+            let (seed, stacks, clients) = (u64::from(seed), u64::from(stacks), u64::from(clients));
+            run_load(rt, alloc, keys, seed, stacks, clients, link, accept)
+        }
+        Command::Help => apart(say(Report::Help, link), accept),
+        Command::Version => apart(say(Report::Version, link), accept),
+    }
+}
+
 /// Runs the program on its words, of which the first is its name. `init` and `fsck` report in one line what they found
 /// of a file. `session` serves one connection over the link. `serve` serves the connections that the accept gives, in lanes, and
 /// reports how many they were. `gen` makes a generated load in memory, and reports what it came to.
@@ -86,54 +150,7 @@ where
     ensures unloaded { makes_load (command_of (map string_bytes words.now)) ≡ false → result.load ≡ None }
 {
     match read_words(alloc, words) {
-        Ok(Command::Init { file, capacity }) => {
-            apart(tell(init_file(opener, file, capacity), link), accept)
-        }
-        Ok(Command::Session { file }) => apart(
-            run_session(alloc, keys, file, link, opener),
-            accept,
-        ),
-        Ok(
-            Command::Serve {
-                file,
-                lanes,
-                derivers,
-                connections,
-                ..
-            },
-        ) => {
-            let (lanes, derivers) = (u64::from(lanes), u64::from(derivers));
-            let connections = u64::from(connections);
-            run_serve(
-                rt,
-                alloc,
-                keys,
-                file,
-                lanes,
-                derivers,
-                connections,
-                link,
-                opener,
-                accept,
-                gate,
-            )
-        }
-        Ok(Command::Fsck { file }) => apart(
-            tell(fsck_file(alloc, keys, opener, file), link),
-            accept,
-        ),
-        Ok(
-            Command::Gen {
-                seed,
-                stacks,
-                clients,
-            },
-        ) => {
-            let (seed, stacks, clients) = (u64::from(seed), u64::from(stacks), u64::from(clients));
-            run_load(rt, alloc, keys, seed, stacks, clients, link, accept)
-        }
-        Ok(Command::Help) => apart(say(Report::Help, link), accept),
-        Ok(Command::Version) => apart(say(Report::Version, link), accept),
+        Ok(command) => run_command(rt, alloc, keys, command, link, opener, accept, gate),
         Err(WordsFault::Usage) => apart(say(Report::Usage, link), accept),
         Err(WordsFault::Memory) => apart(lack_memory(words, link), accept),
     }
