@@ -50,11 +50,12 @@ fn the_longest_content(rt: HostRuntime) -> Result<(), Fail> {
 #[test]
 fn stored_contents_by_going_through_them(rt: HostRuntime) -> Result<(), Fail> {
     let abc = Id::of(b"abc".as_slice());
-    let contents = [StoredContent {
+    let mut contents = Vec::new(rt.alloc());
+    contents.push(StoredContent {
         who: 7,
         id: abc,
         length: 3,
-    }];
+    })?;
     let found = content_length(contents.as_slice(), &abc);
     assert_eq!(rt; found, Some(3));
     Ok(())

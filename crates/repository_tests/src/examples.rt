@@ -38,8 +38,12 @@ impl Example<'_> {
     /// It and its id.
     pub(crate) fn commit(&self, alloc: Global) -> Result<Commit, Fail> {
         let bytes = self.bytes(alloc)?;
-        Ok(Commit::decode(alloc, bytes.as_slice())?)
+        commit_of(alloc, bytes.as_slice())
     }
+}
+
+fn commit_of(alloc: Global, bytes: &[u8]) -> Result<Commit, Fail> {
+    Ok(Commit::decode(alloc, bytes)?)
 }
 
 // The fields before the message.
@@ -76,15 +80,14 @@ fn put_edits(out: &mut Vec<u8>, edits: &str) -> Result<(), AllocError> {
 
 fn put_edit(out: &mut Vec<u8>, edit: &str) -> Result<(), AllocError> {
     match edit.split_once(":") {
-        Some((path, content)) => {
-            put_path(out, path)?;
-            put_set(out, content.as_bytes())
-        }
-        None => {
-            put_path(out, edit.trim_start_matches("-"))?;
-            Ok(out.push(0)?)
-        }
+        Some((path, content)) => put_set(out, path, content.as_bytes()),
+        None => put_deletion(out, edit.strip_prefix("-").unwrap_or(edit)),
     }
+}
+
+fn put_deletion(out: &mut Vec<u8>, path: &str) -> Result<(), AllocError> {
+    put_path(out, path)?;
+    Ok(out.push(0)?)
 }
 
 fn put_path(out: &mut Vec<u8>, path: &str) -> Result<(), AllocError> {
@@ -93,8 +96,13 @@ fn put_path(out: &mut Vec<u8>, path: &str) -> Result<(), AllocError> {
     out.extend_from_slice(path.as_bytes())
 }
 
-fn put_set(out: &mut Vec<u8>, content: &[u8]) -> Result<(), AllocError> {
+fn put_set(out: &mut Vec<u8>, path: &str, content: &[u8]) -> Result<(), AllocError> {
+    put_path(out, path)?;
     out.extend_from_slice(b"\x01\x00\x00\x00\x00\x00\x00\x00\x00")?;
+    put_content(out, content)
+}
+
+fn put_content(out: &mut Vec<u8>, content: &[u8]) -> Result<(), AllocError> {
     out.push(content.len().min(255) as u8)?;
     out.extend_from_slice(Id::of(content).as_bytes())
 }

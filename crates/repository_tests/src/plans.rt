@@ -3,7 +3,7 @@
 ghost use mathlib.Core.List.{IsPrefix};
 ghost use Rattle.repo_machine.specs.Plans.{WasPlanned};
 
-use crate::steps::{Run, id_at, new_run, run_lines};
+use crate::steps::{Run, id_in, new_run, run_lines};
 use object_id::Id;
 use repo_machine::{Machine, Rebased};
 use repo_path::BookName;
@@ -70,9 +70,9 @@ move 1";
 
 // Whether the draft was landed, after moves to the root and from there to this changeset.
 fn attempt(alloc: Global, run: &mut Run, last: &str) -> Result<bool, Fail> {
-    let draft = id_at(run, "2")?.ok_or("a draft")?;
-    let root = id_at(run, "0")?.ok_or("a root")?;
-    let last = id_at(run, last)?.ok_or("a head")?;
+    let draft = id_in(run, "2")?;
+    let root = id_in(run, "0")?;
+    let last = id_in(run, last)?;
     land_between(alloc, &mut run.machine, &run.main, draft, (root, last))
 }
 

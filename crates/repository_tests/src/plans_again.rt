@@ -6,7 +6,8 @@ ghost use Rattle.repo_machine.specs.Again.{WasPlan};
 
 use crate::plans::move_from_there;
 use crate::rows::same;
-use crate::steps::{Run, id_at, new_run, run_lines};
+use crate::steps::{Run, id_at, id_in, new_run, run_lines};
+use bonsai::Commit;
 use object_id::Id;
 use repo_calls::Refusal;
 use repo_machine::{Machine, Plan};
@@ -14,6 +15,7 @@ use repo_path::BookName;
 use std::alloc::Global;
 use std::marker::Brand;
 use std::process::Abort;
+use std::sync::Arc;
 use std::sync::ledger::{Blank, Ledger};
 use std::test::Fail;
 use step_count::Steps;
@@ -76,31 +78,52 @@ fn plan_twice(
 
 // How many new changesets a plan gives, and the id of the last.
 fn tell(alloc: Global, planned: Result<Plan, Refusal>) -> Result<String, Fail> {
+    let mut out = String::new(alloc);
     match planned {
-        Ok(plan) => tell_plan(alloc, &plan),
-        Err(refusal) => Ok(format!(in alloc; "{refusal:?}")?),
+        Ok(plan) => put_plan(alloc, &mut out, &plan)?,
+        Err(refusal) => write!(out, "{refusal:?}")?,
+    }
+    Ok(out)
+}
+
+fn put_plan(alloc: Global, out: &mut String, plan: &Plan) -> Result<(), Fail> {
+    let rebased = plan.rebased(alloc)?;
+    put_commits(alloc, out, rebased.new())
+}
+
+fn put_commits(alloc: Global, out: &mut String, commits: &[Arc<Commit>]) -> Result<(), Fail> {
+    write!(out, "{} ", commits.len())?;
+    match commits.last() {
+        Some(last) => Ok(out.push_str(last.id().to_hex(alloc)?.as_str())?),
+        None => Ok(()),
     }
 }
 
-fn tell_plan(alloc: Global, plan: &Plan) -> Result<String, Fail> {
-    let rebased = plan.rebased(alloc)?;
-    let last = rebased.new().last().ok_or("a changeset")?;
-    let id = last.id().to_hex(alloc)?;
-    Ok(format!(in alloc; "{} {}", rebased.new().len(), id.as_str())?)
+// What a plan made again after this act tells.
+fn told_again(
+    alloc: Global,
+    run: &mut Run,
+    draft: Id,
+    lands: bool,
+    id: Option<Id>,
+) -> Result<String, Fail> {
+    let again = plan_twice(alloc, &mut run.machine, &run.main, draft, lands, id)?;
+    tell(alloc, again)
 }
 
-fn id_in(run: &Run, number: &str) -> Result<Id, Fail> {
-    Ok(id_at(run, number)?.ok_or("a changeset")?)
+// What a plan made anew tells.
+fn told_anew(alloc: Global, run: &Run, draft: Id) -> Result<String, Fail> {
+    tell(alloc, run.machine.plan(alloc, &run.main, draft))
 }
 
-// The plan made again by these words, and the one that is made anew then.
+// What is told by the plan made again by these words, and by the one that is made anew then.
 fn told(alloc: Global, run: &mut Run, words: &str) -> Result<(String, String), Fail> {
     let (draft, rest) = words.split_once(" ").ok_or("a draft")?;
-    let (act, id) = rest.split_once(" ").ok_or("an act")?;
-    let (draft, id) = (id_in(run, draft)?, id_at(run, id)?);
-    let again = plan_twice(alloc, &mut run.machine, &run.main, draft, act == "land", id)?;
-    let anew = run.machine.plan(alloc, &run.main, draft);
-    Ok((tell(alloc, again)?, tell(alloc, anew)?))
+    let (act, id) = rest.split_once(" ").unwrap_or((rest, "-"));
+    let draft = id_in(run, draft)?;
+    let id = id_at(run, id)?;
+    let again = told_again(alloc, run, draft, act == "land", id)?;
+    Ok((again, told_anew(alloc, run, draft)?))
 }
 
 fn run_row(rt: &impl Abort, alloc: Global, row: &str) -> Result<(), Fail> {

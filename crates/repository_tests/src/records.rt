@@ -1,5 +1,7 @@
 //! The record of a landing of several changesets. It is that of an independent computation.
-use crate::steps::{Run, id_at, new_run, run_lines};
+use crate::steps::{Run, id_in, new_run, run_lines};
+use object_id::Id;
+use repo_machine::Judged;
 use std::alloc::Global;
 use std::test::Fail;
 
@@ -28,11 +30,16 @@ cd1ab1b3c47bf68a84ee3a3be6a6c1d75e17ce583352319bc673319935d4c1e0\
 43010166018dae6dcd26aa7f15f755f702edd69b683e14a7531d0ba9293f9127fda14f000161000000000000000000000000000000000000000100017a00\
 00";
 
+fn judged(alloc: Global, run: &mut Run, draft: Id) -> Result<Judged, Fail> {
+    match run.machine.judge_landing(alloc, 1, &run.main, draft) {
+        Ok(judged) => Ok(judged),
+        Err(_) => Err(Fail::from("a landing")),
+    }
+}
+
 fn record_of(alloc: Global, run: &mut Run, draft: &str) -> Result<Vec<u8>, Fail> {
-    let draft = id_at(run, draft)?.ok_or("a draft")?;
-    let Ok(judged) = run.machine.judge_landing(alloc, 1, &run.main, draft) else {
-        return Err(Fail::from("a landing"));
-    };
+    let draft = id_in(run, draft)?;
+    let judged = judged(alloc, run, draft)?;
     let record = judged.frame().ok_or("a record")?;
     Ok(Vec::from_slice(alloc, record)?)
 }

@@ -66,10 +66,11 @@ fn enter_all(rt: &impl Abort, alloc: Global, machine: &mut Machine, rows: &str) 
     Ok(())
 }
 
-// The counts and the log.
+// The log and the counts.
 fn state(alloc: Global, machine: &Machine) -> Result<String, Fail> {
-    let log = log_text(alloc, machine)?;
-    Ok(format!(in alloc; "{:?} {}", machine.counts(), log.as_str())?)
+    let mut state = log_text(alloc, machine)?;
+    write!(state, " {:?}", machine.counts())?;
+    Ok(state)
 }
 
 fn entered(rt: &impl Abort, alloc: Global) -> Result<String, Fail> {

@@ -1,11 +1,13 @@
 //! Stacks on another head, and the paths that they touch.
 use crate::examples::{Example, first, id, path};
+use crate::rows::same;
 use bonsai::Commit;
 use object_id::Id;
 use path_conflict::{Clash, is_rising, least_clash_uncounted};
 use rebase_stack::{rebase, touched};
 use repo_path::RepoPath;
 use std::alloc::Global;
+use std::process::Abort;
 use std::sync::Arc;
 use std::test::Fail;
 
@@ -85,42 +87,69 @@ fn touched_paths_rise(rt: HostRuntime) -> Result<(), Fail> {
     Ok(())
 }
 
-fn paths(alloc: Global, texts: &[&str]) -> Result<Vec<RepoPath>, Fail> {
-    let mut paths = Vec::with_capacity(alloc, texts.len())?;
-    for text in texts {
-        paths.push(path(alloc, text)?)?;
+// The paths of a text, which a blank parts.
+fn paths(alloc: Global, text: &str) -> Result<Vec<RepoPath>, Fail> {
+    let mut paths = Vec::new(alloc);
+    for text in text.split(' ') {
+        if !text.is_empty() {
+            paths.push(path(alloc, text)?)?;
+        }
     }
     Ok(paths)
 }
 
+fn borrowed<'a>(alloc: Global, paths: &'a [RepoPath]) -> Result<Vec<&'a RepoPath>, Fail> {
+    Ok(paths.iter().collect(alloc)?)
+}
+
 // The places of the least clash.
-fn places(alloc: Global, left: &[&str], right: &[&str]) -> Result<Option<(usize, usize)>, Fail> {
-    let left = paths(alloc, left)?;
-    let right = paths(alloc, right)?;
-    let lefts: Vec<&RepoPath> = left.iter().collect(alloc)?;
-    let rights: Vec<&RepoPath> = right.iter().collect(alloc)?;
-    if !is_rising(lefts.as_slice()) || !is_rising(rights.as_slice()) {
+fn places(left: &[&RepoPath], right: &[&RepoPath]) -> Result<Option<Clash>, Fail> {
+    if !is_rising(left) || !is_rising(right) {
         return Err(Fail::from("rising paths"));
     }
-    let found = least_clash_uncounted(lefts.as_slice(), rights.as_slice());
-    Ok(found.map(|Clash { left, right }| (left, right)))
+    Ok(least_clash_uncounted(left, right))
+}
+
+// Paths on the left and on the right, and the places of the least clash.
+const CLASHES: &str = "\
+a/b c | a a/a c/d = 0 0
+b | a a/b b/x b/y = 0 2
+a.b | a a/b = -
+ | a = -
+a |  = -
+lib/x | lib = 0 0
+y | y = 0 0
+a/b a/c | a/d = -";
+
+fn put_places(out: &mut String, found: Option<Clash>) -> Result<(), Fail> {
+    match found {
+        Some(Clash { left, right }) => Ok(write!(out, "{left} {right}")?),
+        None => Ok(out.push('-')?),
+    }
+}
+
+fn told(alloc: Global, left: &str, right: &str) -> Result<String, Fail> {
+    let left = paths(alloc, left)?;
+    let right = paths(alloc, right)?;
+    let left = borrowed(alloc, left.as_slice())?;
+    let right = borrowed(alloc, right.as_slice())?;
+    let mut out = String::new(alloc);
+    put_places(&mut out, places(left.as_slice(), right.as_slice())?)?;
+    Ok(out)
+}
+
+fn check_clash(rt: &impl Abort, alloc: Global, row: &str) -> Result<(), Fail> {
+    let (words, wanted) = row.split_once(" = ").ok_or("a row")?;
+    let (left, right) = words.split_once(" | ").ok_or("two sides")?;
+    let told = told(alloc, left, right)?;
+    same(rt, told.as_str(), wanted, row);
+    Ok(())
 }
 
 #[test]
 fn least_clashes(rt: HostRuntime) -> Result<(), Fail> {
-    let table: [(&[&str], &[&str], Option<(usize, usize)>); 8] = [
-        (&["a/b", "c"], &["a", "a/a", "c/d"], Some((0, 0))),
-        (&["b"], &["a", "a/b", "b/x", "b/y"], Some((0, 2))),
-        (&["a.b"], &["a", "a/b"], None),
-        (&[], &["a"], None),
-        (&["a"], &[], None),
-        (&["lib/x"], &["lib"], Some((0, 0))),
-        (&["y"], &["y"], Some((0, 0))),
-        (&["a/b", "a/c"], &["a/d"], None),
-    ];
-    for (left, right, wanted) in table {
-        let found = places(rt.alloc(), left, right)?;
-        assert_eq!(rt; found, wanted, "{left:?} {right:?}");
+    for row in CLASHES.lines() {
+        check_clash(&rt, rt.alloc(), row)?;
     }
     Ok(())
 }

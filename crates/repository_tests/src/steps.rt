@@ -159,6 +159,11 @@ pub(crate) fn id_at(run: &Run, number: &str) -> Result<Option<Id>, Fail> {
     Ok(Some(run.ids.get(number).copied().ok_or("a changeset")?))
 }
 
+/// The id of the changeset of this number.
+pub(crate) fn id_in(run: &Run, number: &str) -> Result<Id, Fail> {
+    Ok(id_at(run, number)?.ok_or("a changeset")?)
+}
+
 fn put_change(alloc: Global, run: &mut Run, out: &mut String, words: &str) -> Result<(), Fail> {
     let (on, edits) = cut(words);
     let parent = id_at(run, on)?;
@@ -200,8 +205,19 @@ fn put_example(
 fn put_line(alloc: Global, run: &mut Run, out: &mut String, words: &str) -> Result<(), Fail> {
     let (on, rest) = cut(words);
     let (count, message) = cut(rest);
-    let (count, message) = (count.parse::<usize>()?, message.parse::<usize>()?);
-    let mut parent = id_at(run, on)?;
+    let parent = id_at(run, on)?;
+    put_line_upon(alloc, run, out, parent, count.parse()?, message.parse()?)
+}
+
+fn put_line_upon(
+    alloc: Global,
+    run: &mut Run,
+    out: &mut String,
+    parent: Option<Id>,
+    count: usize,
+    message: usize,
+) -> Result<(), Fail> {
+    let mut parent = parent;
     for _ in 0..count {
         put_upon(alloc, run, out, parent, message, "")?;
         parent = run.ids.last().copied();
@@ -219,7 +235,7 @@ fn move_main(alloc: Global, run: &mut Run, out: &mut String, to: &str) -> Result
 }
 
 fn land(alloc: Global, run: &mut Run, out: &mut String, draft: &str) -> Result<(), Fail> {
-    let draft = id_at(run, draft)?.ok_or("a draft")?;
+    let draft = id_in(run, draft)?;
     let old = run.machine.head(&run.main);
     match run.machine.land(alloc, 1, &run.main, draft) {
         Ok(landed) => tell_landed(run, out, &landed, old, draft),

@@ -1,7 +1,7 @@
 //! A store of a line `a`, `b`, `c`, of `d` on `b`, and of `e` without a parent.
 use crate::examples::{Example, first};
 use crate::rows::same;
-use bonsai::Changeset;
+use bonsai::{Changeset, Commit};
 use changeset_store::ChangesetStore;
 use object_id::Id;
 use ports::ZeroBytes;
@@ -13,19 +13,24 @@ use std::test::Fail;
 
 // Adds the changeset of an author.
 fn add(alloc: Global, store: &mut ChangesetStore, author: u8, parents: &[Id]) -> Result<Id, Fail> {
-    let commit = Example {
+    let example = Example {
         author,
         parents,
         ..first()
-    }
-    .commit(alloc)?;
+    };
+    let commit = Arc::new(alloc, example.commit(alloc)?)?;
     let id = commit.id();
+    add_commit(store, commit)?;
+    Ok(id)
+}
+
+fn add_commit(store: &mut ChangesetStore, commit: Arc<Commit>) -> Result<(), Fail> {
     store.reserve(1)?;
-    if store.is_known(&id) || store.unknown_parent(&commit).is_some() {
+    if store.is_known(&commit.id()) || store.unknown_parent(&commit).is_some() {
         return Err(Fail::from("a new changeset of known parents"));
     }
-    store.add(Arc::new(alloc, commit)?);
-    Ok(id)
+    store.add(commit);
+    Ok(())
 }
 
 // A store, and the ids of what it has.
@@ -35,9 +40,15 @@ struct Filled {
     ids: Vec<Id>,
 }
 
+impl Filled {
+    fn id_at(&self, number: usize) -> Result<Id, Fail> {
+        Ok(*self.ids.get(number).ok_or("a changeset")?)
+    }
+}
+
 // Adds the changeset of an author on the one with this number.
 fn put_on(alloc: Global, filled: &mut Filled, author: u8, parent: usize) -> Result<(), Fail> {
-    let parent = *filled.ids.get(parent).ok_or("a parent")?;
+    let parent = filled.id_at(parent)?;
     let id = add(alloc, &mut filled.store, author, &[parent])?;
     Ok(filled.ids.push(id)?)
 }
@@ -109,21 +120,21 @@ fn put_parted(
     put_letters(alloc, ids, out, store.range(alloc, &fork)?.as_slice())
 }
 
+fn told(alloc: Global, filled: &Filled, head: &str, draft: &str) -> Result<String, Fail> {
+    let ids = filled.ids.as_slice();
+    let head = id_of(ids, head)?;
+    let draft = id_of(ids, draft)?;
+    let mut out = String::new(alloc);
+    put_parted(alloc, &filled.store, ids, &mut out, &head, &draft)?;
+    Ok(out)
+}
+
 fn check_parted(rt: &impl Abort, alloc: Global, filled: &Filled, row: &str) -> Result<(), Fail> {
     let (names, wanted) = row.split_once(" = ").ok_or("a row")?;
     let (head, draft) = names.split_once(" ").ok_or("two names")?;
-    let head = id_of(filled.ids.as_slice(), head)?;
-    let draft = id_of(filled.ids.as_slice(), draft)?;
-    let mut out = String::new(alloc);
-    put_parted(
-        alloc,
-        &filled.store,
-        filled.ids.as_slice(),
-        &mut out,
-        &head,
-        &draft,
-    )?;
-    same(rt, out.as_str(), wanted.trim_end_matches("-"), row);
+    let told = told(alloc, filled, head, draft)?;
+    let wanted = wanted.strip_suffix("-").unwrap_or(wanted);
+    same(rt, told.as_str(), wanted, row);
     Ok(())
 }
 

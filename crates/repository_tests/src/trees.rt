@@ -1,7 +1,7 @@
 //! Trees of chains of changesets.
 use crate::examples::{Example, first, path};
 use crate::rows::same;
-use bonsai::{FileKind, decode};
+use bonsai::FileKind;
 use object_id::Id;
 use repo_path::RepoPath;
 use std::alloc::Global;
@@ -40,15 +40,14 @@ fn put_size(out: &mut String, file: Option<File>) -> Result<(), Fail> {
 
 // Applies a changeset of these edits.
 fn apply(alloc: Global, tree: &mut Tree, edits: &str) -> Result<(), Fail> {
-    let bytes = Example { edits, ..first() }.bytes(alloc)?;
-    let change = decode(alloc, bytes.as_slice())?;
-    Ok(tree.apply(alloc, &change)?)
+    let commit = Example { edits, ..first() }.commit(alloc)?;
+    Ok(tree.apply(alloc, commit.changeset())?)
 }
 
-// A tree that takes one changeset for each of these edits, which commas part.
+// A tree that takes one changeset for each of these edits, which semicolons part.
 fn tree_of(alloc: Global, chain: &str) -> Result<Tree, Fail> {
     let mut tree = Tree::new(alloc);
-    for edits in chain.split(", ") {
+    for edits in chain.split(';') {
         if !edits.is_empty() {
             apply(alloc, &mut tree, edits)?;
         }
@@ -83,15 +82,15 @@ fn sizes_after(alloc: Global, chain: &str) -> Result<String, Fail> {
 
 const CHAINS: &str = "\
 a/b:1 = - 1 - - -
-a/b:1, a:22 = 2 - - - -
-a/b:1, a:22, a/b:333 = - 3 - - -
-a/b:1, a/b:333 = - 3 - - -
-a:22, -a a/b:333 = - 3 - - -
-a/b/c:1 a/d:22 a.b:333, a:22 = 2 - - - 3
-a:22, a/b/c:1 a/d:22 a.b:333 = - - 1 2 3
-a/b/c:1 a/d:22 a.b:333, a/b:1 = - 1 - 2 3
-a/b/c:1 a/d:22 a.b:333, -a -c = - - 1 2 3
-a:22, -a -c = - - - - -
+a/b:1;a:22 = 2 - - - -
+a/b:1;a:22;a/b:333 = - 3 - - -
+a/b:1;a/b:333 = - 3 - - -
+a:22;-a a/b:333 = - 3 - - -
+a/b/c:1 a/d:22 a.b:333;a:22 = 2 - - - 3
+a:22;a/b/c:1 a/d:22 a.b:333 = - - 1 2 3
+a/b/c:1 a/d:22 a.b:333;a/b:1 = - 1 - 2 3
+a/b/c:1 a/d:22 a.b:333;-a -c = - - 1 2 3
+a:22;-a -c = - - - - -
  = - - - - -";
 
 fn check_chain(rt: &impl Abort, alloc: Global, line: &str) -> Result<(), Fail> {
@@ -140,7 +139,7 @@ fn check_listed(rt: &impl Abort, alloc: Global, tree: &Tree, line: &str) -> Resu
 
 #[test]
 fn directories(rt: HostRuntime) -> Result<(), Fail> {
-    let tree = tree_of(rt.alloc(), "b:1 c/d/e:1 c/f:1, a/x:1 a/y/z:1 a.b:1")?;
+    let tree = tree_of(rt.alloc(), "b:1 c/d/e:1 c/f:1;a/x:1 a/y/z:1 a.b:1")?;
     for line in DIRECTORIES.lines() {
         check_listed(&rt, rt.alloc(), &tree, line)?;
     }
