@@ -3,7 +3,7 @@
 ghost use mathlib.Core.List.{IsPrefix};
 ghost use Rattle.repo_machine.specs.Plans.{WasPlanned};
 
-use crate::repository::{id, make_changes, new_repository};
+use crate::repository::{id, make_changes, new_repository, store};
 use blob_disk::MemDisk;
 use object_id::Id;
 use repo_calls::Ask;
@@ -50,10 +50,7 @@ fn move_main(
         from: id(from),
         to: id(to),
     };
-    match state.store(alloc, 2, &ask) {
-        Ok(_) => Ok(()),
-        Err(_) => Err(Fail::from("a move")),
-    }
+    store(alloc, state, &ask)
 }
 
 // Enters for seat 1 what was planned, if `main` has the planned head.

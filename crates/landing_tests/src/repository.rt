@@ -1,25 +1,48 @@
 //! A repository over memory, with changes that are told by texts.
-use blob_disk::MemDisk;
+ghost use mathlib.Core.List.{IsPrefix};
+
+use blob_disk::{Disk, MemDisk};
 use object_id::Id;
 use ports::ZeroBytes;
 use recovery::{Opened, open};
-use repo_calls::Ask;
+use repo_calls::{Ask, Granted};
 use repo_journal::init;
 use repo_path::BookName;
 use repo_state::RepoState;
+use seat_calls::ChangeFault;
 use std::alloc::Global;
 use std::hash::RandomState;
 use std::test::Fail;
 
-/// A new repository of 65,536 bytes at most.
-pub(crate) fn new_repository(alloc: Global) -> Result<RepoState<MemDisk>, Fail> {
-    let mut disk = MemDisk::new(alloc, 65_536, Vec::new(alloc))?;
-    if init(&mut disk, 65_536).is_err() {
-        return Err(Fail::from("a new file"));
+// An empty disk with room for 65,536 bytes.
+fn new_disk(alloc: Global) -> Result<MemDisk, Fail> {
+    Ok(MemDisk::new(alloc, 65_536, Vec::new(alloc))?)
+}
+
+// Makes the file of a new repository.
+fn make_file<D: Disk>(disk: &mut D) -> Result<(), Fail> {
+    match init(disk, 65_536) {
+        Ok(()) => Ok(()),
+        Err(_) => Err(Fail::from("a new file")),
     }
-    let keys = RandomState::new(&ZeroBytes)?;
+}
+
+fn keys() -> Result<RandomState, Fail> {
+    Ok(RandomState::new(&ZeroBytes)?)
+}
+
+// The repository in a file.
+fn open_file<D: Disk>(alloc: Global, keys: RandomState, disk: D) -> Result<RepoState<D>, Fail> {
+    let mut disk = disk;
     let Opened { machine, journal } = open(alloc, keys, &mut disk)?;
     Ok(RepoState::new(alloc, machine, journal, disk))
+}
+
+/// A new repository of 65,536 bytes at most.
+pub(crate) fn new_repository(alloc: Global) -> Result<RepoState<MemDisk>, Fail> {
+    let mut disk = new_disk(alloc)?;
+    make_file(&mut disk)?;
+    open_file(alloc, keys()?, disk)
 }
 
 /// The id of these digits, and none where there are none.
@@ -66,9 +89,16 @@ fn make_change(
     }
 }
 
-fn store(alloc: Global, state: &mut RepoState<MemDisk>, ask: &Ask) -> Result<(), Fail> {
-    match state.store(alloc, 2, ask) {
+fn done(answer: Result<Granted, ChangeFault>) -> Result<(), Fail> {
+    match answer {
         Ok(_) => Ok(()),
         Err(_) => Err(Fail::from("a change")),
     }
+}
+
+/// Makes a change of seat 2.
+pub(crate) fn store(alloc: Global, state: &mut RepoState<MemDisk>, ask: &Ask) -> Result<(), Fail>
+    ensures { IsPrefix state.old.history state.new.history }
+{
+    done(state.store(alloc, 2, ask))
 }

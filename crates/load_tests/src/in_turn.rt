@@ -7,6 +7,7 @@ use object_id::Id;
 use ports::{NoGate, ZeroBytes};
 use repo_calls::Ask;
 use repo_path::BookName;
+use repo_state::RepoState;
 use run_gen::begin::begin;
 use run_gen::{LoadFault, client};
 use seat_calls::{Question, Seat, Seen};
@@ -47,16 +48,22 @@ fn land_in_turn<R: Wait, D: Disk>(
     Ok(())
 }
 
+// The head of `main`.
+fn head<S: Seat>(alloc: Global, seat: &mut S) -> Result<Id, Fail> {
+    let main = BookName::parse(alloc, "main")?;
+    match seat.look(alloc, &Question::Head(&main))? {
+        Seen::Head(Some(head)) => Ok(head),
+        _ => Err(Fail::from("a head")),
+    }
+}
+
 // The id of the root fsnode at the head of `main`.
 fn root<S: Seat>(alloc: Global, seat: &mut S) -> Result<Id, Fail> {
-    let main = BookName::parse(alloc, "main")?;
-    let Seen::Head(Some(head)) = seat.look(alloc, &Question::Head(&main))? else {
-        return Err(Fail::from("a head"));
-    };
-    let Seen::Bytes(node) = seat.look(alloc, &Question::Fsnode(head, None))? else {
-        return Err(Fail::from("a node"));
-    };
-    Ok(Id::of(node.as_slice()))
+    let head = head(alloc, seat)?;
+    match seat.look(alloc, &Question::Fsnode(head, None))? {
+        Seen::Bytes(node) => Ok(Id::of(node.as_slice())),
+        _ => Err(Fail::from("a node")),
+    }
 }
 
 // How many entries the log has.
@@ -67,31 +74,71 @@ fn total<S: Seat>(alloc: Global, seat: &mut S) -> Result<u64, Fail> {
     }
 }
 
+fn keys() -> Result<RandomState, Fail> {
+    Ok(RandomState::new(&ZeroBytes)?)
+}
+
+// What the lead reads: how many entries there are, and the root.
+fn read_at<R: Wait, D: Disk>(
+    rt: &R,
+    alloc: Global,
+    repo: &Repo<D>,
+    lead: RepoSeat,
+) -> Result<(u64, Id), Fail>
+    requires place { lead.lock ≡ repo.now }
+{
+    let mut seat = Served::new(rt, repo, lead, &NoGate);
+    Ok((total(alloc, &mut seat)?, root(alloc, &mut seat)?))
+}
+
+// What 3 clients leave in a repository.
+fn left_in<R: Wait, D: Disk>(rt: &R, alloc: Global, state: RepoState<D>) -> Result<(u64, Id), Fail>
+    requires quiet { IsQuiet state.opening }
+{
+    let (repo, mut lead) = Repo::new(alloc, state)?;
+    land_in_turn(rt, alloc, &repo, &mut lead, 3)?;
+    read_at(rt, alloc, &repo, lead)
+}
+
 // What 3 clients leave.
 fn left<R: Wait>(rt: &R, alloc: Global) -> Result<(u64, Id), Fail> {
-    let (repo, mut lead) = Repo::new(alloc, begin(alloc, RandomState::new(&ZeroBytes)?)?)?;
-    land_in_turn(rt, alloc, &repo, &mut lead, 3)?;
-    let mut seat = Served::new(rt, &repo, lead, &NoGate);
-    Ok((total(alloc, &mut seat)?, root(alloc, &mut seat)?))
+    let keys = keys()?;
+    left_in(rt, alloc, begin(alloc, keys)?)
+}
+
+fn land<S: Seat>(alloc: Global, seat: &mut S) -> Result<(), Fail> {
+    let name = &BookName::parse(alloc, "main")?;
+    let draft = Id::from_hex(BLOCKING_ID)?;
+    seat.change(alloc, &Ask::Land { name, draft })?;
+    Ok(())
 }
 
 // Lands the file `client0`.
 fn land_blocking<S: Seat>(alloc: Global, seat: &mut S) -> Result<(), Fail> {
     let encoding = hex::decode(alloc, BLOCKING)?;
-    let name = &BookName::parse(alloc, "main")?;
-    let draft = Id::from_hex(BLOCKING_ID)?;
     seat.change(alloc, &Ask::PutContent(b"abc"))?;
     seat.change(alloc, &Ask::PutChangeset(encoding.as_slice()))?;
-    seat.change(alloc, &Ask::Land { name, draft })?;
-    Ok(())
+    land(alloc, seat)
 }
 
-// What becomes of client 0 where another seat has landed the file `client0`.
-fn blocked<R: Wait>(rt: &R, alloc: Global) -> Result<Result<(), LoadFault>, Fail> {
-    let (repo, mut lead) = Repo::new(alloc, begin(alloc, RandomState::new(&ZeroBytes)?)?)?;
+// What becomes of client 0 in a repository where another seat has landed the file `client0`.
+fn blocked_in<R: Wait, D: Disk>(
+    rt: &R,
+    alloc: Global,
+    state: RepoState<D>,
+) -> Result<Result<(), LoadFault>, Fail>
+    requires quiet { IsQuiet state.opening }
+{
+    let (repo, mut lead) = Repo::new(alloc, state)?;
     let mut other = Served::new(rt, &repo, repo.split(&mut lead), &NoGate);
     land_blocking(alloc, &mut other)?;
     Ok(land_in_turn(rt, alloc, &repo, &mut lead, 1))
+}
+
+// What becomes of it in a new one.
+fn blocked<R: Wait>(rt: &R, alloc: Global) -> Result<Result<(), LoadFault>, Fail> {
+    let keys = keys()?;
+    blocked_in(rt, alloc, begin(alloc, keys)?)
 }
 
 #[test]

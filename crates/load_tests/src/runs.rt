@@ -2,108 +2,194 @@
 use blob_disk::MemDisk;
 use command_line::{Ran, run};
 use file_commands::Status;
-use ports::{Accept, MemAccept, MemLink, MemOpener, NoGate, ZeroBytes};
-use std::alloc::Global;
+use ports::{Accept, Link, MemAccept, MemLink, MemOpener, NoGate, ZeroBytes};
+use std::alloc::{AllocError, Global};
 use std::hash::RandomState;
+use std::process::Abort;
 use std::sync::Wait;
 use std::test::Fail;
 use std::thread::Threads;
 
-/// Words, which write of the link fails, the status and what was written.
-type Load = (&'static str, Option<u64>, Status, &'static str);
+/// Words, and the line that they come to. The second row is the first again, in whatever order its clients land.
+const LOADS: &str = "\
+hg_cli gen 7 5 3 = landed 15 entries 74 root 20e3a14309461bb6ca5ad46b5f02970b97c8eab91ae9e164b6eb2a3c065ac077
+hg_cli gen 7 5 3 = landed 15 entries 74 root 20e3a14309461bb6ca5ad46b5f02970b97c8eab91ae9e164b6eb2a3c065ac077
+hg_cli gen 1 3 2 = landed 6 entries 33 root 5964080163d40d98ac123d5fce895ec2fc03974543c1c6aade6679cd67c21c70
+hg_cli gen 0 1 1 = landed 1 entries 9 root 9ccfeae5de7691df025660857a73c9aade47eb00b1beb2424614a0b23131e9ec";
 
-const FIFTEEN: &str =
-    "landed 15 entries 74 root 20e3a14309461bb6ca5ad46b5f02970b97c8eab91ae9e164b6eb2a3c065ac077\n";
+const MISUSED: &str = "\
+hg_cli gen 7 401 1
+hg_cli gen 7 0 1
+hg_cli gen 7 1 9
+hg_cli gen 7 1 0
+hg_cli gen 4294967296 1 1
+hg_cli gen 7 1";
 
-const LOADS: [Load; 5] = [
-    ("hg_cli gen 7 5 3", None, Status::Done, FIFTEEN),
-    // the same again, in whatever order its clients land
-    ("hg_cli gen 7 5 3", None, Status::Done, FIFTEEN),
-    (
-        "hg_cli gen 1 3 2",
-        None,
-        Status::Done,
-        "landed 6 entries 33 root 5964080163d40d98ac123d5fce895ec2fc03974543c1c6aade6679cd67c21c70\n",
-    ),
-    (
-        "hg_cli gen 0 1 1",
-        None,
-        Status::Done,
-        "landed 1 entries 9 root 9ccfeae5de7691df025660857a73c9aade47eb00b1beb2424614a0b23131e9ec\n",
-    ),
-    // the line can't be written to its end
-    ("hg_cli gen 0 1 1", Some(2), Status::StreamFault, "landed 1"),
-];
+// The words of a line, which a blank parts.
+fn words(alloc: Global, line: &str) -> Result<Vec<String>, AllocError> {
+    let mut words = Vec::new(alloc);
+    for word in line.split(' ') {
+        words.push(String::from_str(alloc, word)?)?;
+    }
+    Ok(words)
+}
 
-// What a run of these words came to, with a connection that is there to be taken, and what it wrote.
+// The call that fails, where one does.
+fn calls(alloc: Global, lost: Option<u64>) -> Result<Vec<u64>, AllocError> {
+    let mut calls = Vec::new(alloc);
+    if let Some(call) = lost {
+        calls.push(call)?;
+    }
+    Ok(calls)
+}
+
+// A link with room for 4,096 bytes, of which this write fails.
+fn link_of(alloc: Global, lost: Option<u64>) -> Result<MemLink, AllocError> {
+    let writes = calls(alloc, lost)?;
+    let bytes = Vec::from_slice(alloc, b"GET")?;
+    MemLink::new(alloc, bytes, 4_096, 4_096, Vec::new(alloc), writes)
+}
+
+// A connection that is there to be taken.
+fn accept_of(alloc: Global) -> Result<MemAccept<MemLink>, AllocError> {
+    let mut links = Vec::new(alloc);
+    links.push(link_of(alloc, None)?)?;
+    Ok(MemAccept::new(links, Vec::new(alloc)))
+}
+
+fn keys() -> Result<RandomState, Fail> {
+    Ok(RandomState::new(&ZeroBytes)?)
+}
+
+// A run on these words, without files.
+fn run_over<R, L, A, K>(
+    rt: &R,
+    alloc: Global,
+    words: &[String],
+    link: &mut L,
+    accept: A,
+) -> Result<Ran<MemDisk, A, K>, Fail>
+where
+    R: Threads + Wait + Sync,
+    L: Link,
+    A: Accept<K> + Send,
+    K: Link + Send,
+{
+    let keys = keys()?;
+    let mut opener = MemOpener::new(Vec::new(alloc), Vec::new(alloc), Vec::new(alloc));
+    Ok(run(rt, alloc, keys, words, link, &mut opener, accept, &NoGate))
+}
+
+fn run_line<R: Threads + Wait + Sync, L: Link>(
+    rt: &R,
+    alloc: Global,
+    line: &str,
+    link: &mut L,
+) -> Result<Ran<MemDisk, MemAccept<MemLink>, MemLink>, Fail> {
+    let words = words(alloc, line)?;
+    run_over(rt, alloc, words.as_slice(), link, accept_of(alloc)?)
+}
+
+// What a run of these words came to, with a connection that is there to be taken, and the link on which it wrote. This write
+// of the link fails.
 fn ran<R: Threads + Wait + Sync>(
     rt: &R,
     alloc: Global,
     line: &str,
     lost: Option<u64>,
-) -> Result<(Ran<MemDisk, MemAccept<MemLink>, MemLink>, Vec<u8>), Fail> {
-    let mut words = Vec::new(alloc);
-    for word in line.split(' ') {
-        words.push(String::from_str(alloc, word)?)?;
-    }
-    let mut links = Vec::new(alloc);
-    links.push(link_of(alloc, None)?)?;
+) -> Result<(Ran<MemDisk, MemAccept<MemLink>, MemLink>, MemLink), Fail> {
     let mut link = link_of(alloc, lost)?;
-    let mut opener = MemOpener::new(Vec::new(alloc), Vec::new(alloc), Vec::new(alloc));
-    let ran = run(
-        rt,
-        alloc,
-        RandomState::new(&ZeroBytes)?,
-        words.as_slice(),
-        &mut link,
-        &mut opener,
-        MemAccept::new(links, Vec::new(alloc)),
-        &NoGate,
-    );
-    Ok((ran, Vec::from_slice(alloc, link.written())?))
+    let ran = run_line(rt, alloc, line, &mut link)?;
+    Ok((ran, link))
 }
 
-// A link with room for 4,096 bytes, of which this write fails.
-fn link_of(alloc: Global, lost: Option<u64>) -> Result<MemLink, Fail> {
-    let mut writes = Vec::new(alloc);
-    if let Some(call) = lost {
-        writes.push(call)?;
-    }
-    let bytes = Vec::from_slice(alloc, b"GET")?;
-    Ok(MemLink::new(alloc, bytes, 4_096, 4_096, Vec::new(alloc), writes)?)
+fn check_ended<A, K: Drop>(
+    rt: &impl Abort,
+    ran: &Ran<MemDisk, A, K>,
+    line: &str,
+    status: Status,
+    is_loaded: bool,
+) {
+    assert_eq!(rt; ran.status, status, "{line}");
+    assert!(rt; ran.disk.is_none(), "{line}");
+    assert_eq!(rt; ran.load.is_some(), is_loaded, "{line}");
+}
+
+fn check_load<R: Abort + Threads + Wait + Sync>(
+    rt: &R,
+    alloc: Global,
+    line: &str,
+    lost: Option<u64>,
+    status: Status,
+    wanted: &str,
+) -> Result<(), Fail> {
+    let (ran, link) = ran(rt, alloc, line, lost)?;
+    check_ended(rt, &ran, line, status, true);
+    assert_eq!(rt; link.written(), wanted.as_bytes(), "{line}");
+    Ok(())
+}
+
+fn check_row<R: Abort + Threads + Wait + Sync>(
+    rt: &R,
+    alloc: Global,
+    row: &str,
+) -> Result<(), Fail> {
+    let (line, wanted) = row.split_once(" = ").ok_or("a row")?;
+    let wanted = format!(in alloc; "{wanted}\n")?;
+    check_load(rt, alloc, line, None, Status::Done, wanted.as_str())
 }
 
 #[test]
 fn a_load_writes_its_line_at_each_run(rt: HostRuntime) -> Result<(), Fail> {
-    for (line, lost, status, wanted) in LOADS {
-        let (ran, written) = ran(&rt, rt.alloc(), line, lost)?;
-        assert_eq!(rt; ran.status, status, "{line}");
-        assert_eq!(rt; written.as_slice(), wanted.as_bytes(), "{line}");
-        assert!(rt; ran.disk.is_none() && ran.load.is_some(), "{line}");
+    let alloc = rt.alloc();
+    for row in LOADS.lines() {
+        check_row(&rt, alloc, row)?;
     }
+    // the line can't be written to its end
+    check_load(
+        &rt,
+        alloc,
+        "hg_cli gen 0 1 1",
+        Some(2),
+        Status::StreamFault,
+        "landed 1",
+    )
+}
+
+fn gives<L: Drop, A: Accept<L>>(accept: &mut A) -> bool {
+    matches!(accept.next(), Ok(Some(_)))
+}
+
+// The connection is still there.
+fn check_unserved<A: Accept<K>, K: Drop>(
+    rt: &impl Abort,
+    ran: &mut Ran<MemDisk, A, K>,
+    line: &str,
+) {
+    assert_eq!(rt; ran.served.count(), 0, "{line}");
+    assert!(rt; gives(&mut ran.accept), "{line}");
+}
+
+fn check_misused<R: Abort + Threads + Wait + Sync>(
+    rt: &R,
+    alloc: Global,
+    line: &str,
+) -> Result<(), Fail> {
+    let (mut ran, link) = ran(rt, alloc, line, None)?;
+    check_ended(rt, &ran, line, Status::Usage, false);
+    check_unserved(rt, &mut ran, line);
+    assert!(rt;
+        link.written()
+            .starts_with(b"usage: hg_cli init FILE CAP | "),
+        "{line}"
+    );
     Ok(())
 }
 
 #[test]
 fn a_load_out_of_its_ranges_is_none(rt: HostRuntime) -> Result<(), Fail> {
-    for line in [
-        "hg_cli gen 7 401 1",
-        "hg_cli gen 7 0 1",
-        "hg_cli gen 7 1 9",
-        "hg_cli gen 7 1 0",
-        "hg_cli gen 4294967296 1 1",
-        "hg_cli gen 7 1",
-    ] {
-        let (mut ran, written) = ran(&rt, rt.alloc(), line, None)?;
-        assert_eq!(rt; ran.status, Status::Usage, "{line}");
-        assert!(rt;
-            written.starts_with(b"usage: hg_cli init FILE CAP | "),
-            "{line}"
-        );
-        assert!(rt; ran.disk.is_none() && ran.load.is_none(), "{line}");
-        // the connection is still there
-        assert_eq!(rt; ran.served.count(), 0, "{line}");
-        assert!(rt; matches!(ran.accept.next(), Ok(Some(_))), "{line}");
+    for line in MISUSED.lines() {
+        check_misused(&rt, rt.alloc(), line)?;
     }
     Ok(())
 }

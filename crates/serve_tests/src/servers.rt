@@ -1,15 +1,17 @@
 //! Servers over memory, by tables: from the words, the file and the connections to the status, the line and the file left.
 ghost use Rattle.std.specs.Prelude.{◌≡◌};
 
-use crate::given::{link_of, opener_of, words};
-use command_line::run;
+use crate::given::{calls, empty_opener, link_of, opener_of, words};
+use blob_disk::{Disk, MemDisk};
+use command_line::{Ran, run};
 use file_commands::Status;
 use net_ports::TcpAccept;
-use ports::{Accept, Failed, Link, MemAccept, MemLink, NoGate, ZeroBytes};
+use ports::{Accept, Failed, Link, MemAccept, MemLink, MemOpener, NoGate, Opener, ZeroBytes};
 use std::alloc::Global;
 use std::hash::RandomState;
 use std::io::{Read, Write};
-use std::net::{Shutdown, TcpStream};
+use std::net::{Net, Shutdown, TcpListener, TcpStream};
+use std::process::Abort;
 use std::sync::atomic::{AtomicU64, Ordering};
 use std::sync::{Arc, Wait};
 use std::test::Fail;
@@ -82,7 +84,7 @@ const TWO: Server = Server {
     sent: 2 * ANSWER,
 };
 
-const SERVERS: [Server; 9] = [
+const SERVERS: &[Server] = &[
     TWO,
     // a connection that can't be written to ends alone
     Server {
@@ -146,57 +148,135 @@ const SERVERS: [Server; 9] = [
     },
 ];
 
+// Links with the request, the first of which has number 0. This one can't be written to.
+fn links_of(
+    alloc: Global,
+    count: u64,
+    deaf: Option<u64>,
+    sent: &Arc<AtomicU64>,
+) -> Result<Vec<SeenLink>, Fail> {
+    let mut links = Vec::new(alloc);
+    for number in 0..count {
+        let lost = if deaf == Some(number) { Some(0) } else { None };
+        links.push(seen_link(alloc, lost, sent)?)?;
+    }
+    Ok(links)
+}
+
+// A link with the request, of which this write fails.
+fn seen_link(alloc: Global, lost: Option<u64>, sent: &Arc<AtomicU64>) -> Result<SeenLink, Fail> {
+    let sent = sent.clone()?;
+    let link = link_of(alloc, REQUEST, lost)?;
+    Ok(SeenLink { link, sent })
+}
+
 // The connections that come, and the calls of the accept that fail.
 fn accept_of(
     alloc: Global,
     server: &Server,
     sent: &Arc<AtomicU64>,
 ) -> Result<MemAccept<SeenLink>, Fail> {
-    let mut links = Vec::new(alloc);
-    for number in 0..server.links {
-        let lost = if server.deaf == Some(number) {
-            Some(0)
-        } else {
-            None
-        };
-        links.push(SeenLink {
-            link: link_of(alloc, REQUEST, lost)?,
-            sent: sent.clone()?,
-        })?;
-    }
-    let mut failing = Vec::new(alloc);
-    if let Some(call) = server.lost {
-        failing.push(call)?;
-    }
+    let failing = calls(alloc, server.lost)?;
+    let links = links_of(alloc, server.links, server.deaf, sent)?;
     Ok(MemAccept::new(links, failing))
+}
+
+fn keys() -> Result<RandomState, Fail> {
+    Ok(RandomState::new(&ZeroBytes)?)
+}
+
+// A run on these words and this opener, which serves the connections of the accept.
+fn run_over<R, D, O, L, A, K>(
+    rt: &R,
+    alloc: Global,
+    words: &[String],
+    link: &mut L,
+    opener: &mut O,
+    accept: A,
+) -> Result<Ran<D, A, K>, Fail>
+where
+    R: Threads + Wait + Sync,
+    D: Disk + Send,
+    O: Opener<D>,
+    L: Link,
+    A: Accept<K> + Send,
+    K: Link + Send,
+{
+    let keys = keys()?;
+    Ok(run(rt, alloc, keys, words, link, opener, accept, &NoGate))
+}
+
+// A run on this line.
+fn run_line<R, L, A, K>(
+    rt: &R,
+    alloc: Global,
+    line: &str,
+    link: &mut L,
+    opener: MemOpener<MemDisk>,
+    accept: A,
+) -> Result<Ran<MemDisk, A, K>, Fail>
+where
+    R: Threads + Wait + Sync,
+    L: Link,
+    A: Accept<K> + Send,
+    K: Link + Send,
+{
+    let mut opener = opener;
+    let words = words(alloc, line)?;
+    run_over(rt, alloc, words.as_slice(), link, &mut opener, accept)
+}
+
+// What a run on this line came to, and a link with this input on which it wrote.
+fn ran<R, A, K>(
+    rt: &R,
+    alloc: Global,
+    line: &str,
+    input: &[u8],
+    opener: MemOpener<MemDisk>,
+    accept: A,
+) -> Result<(Ran<MemDisk, A, K>, MemLink), Fail>
+where
+    R: Threads + Wait + Sync,
+    A: Accept<K> + Send,
+    K: Link + Send,
+{
+    let mut link = link_of(alloc, input, None)?;
+    let ran = run_line(rt, alloc, line, &mut link, opener, accept)?;
+    Ok((ran, link))
+}
+
+fn has_left(disk: &Option<MemDisk>, left: Option<&[u8]>) -> bool {
+    match (disk, left) {
+        (Some(disk), Some(left)) => disk.bytes() == left,
+        (disk, _) => disk.is_some(),
+    }
+}
+
+// A run of this server, and the link on which it wrote.
+fn served<R: Threads + Wait + Sync>(
+    rt: &R,
+    alloc: Global,
+    server: &Server,
+    sent: &Arc<AtomicU64>,
+) -> Result<(Ran<MemDisk, MemAccept<SeenLink>, SeenLink>, MemLink), Fail> {
+    let accept = accept_of(alloc, server, sent)?;
+    let opener = opener_of(alloc, server.file, server.unsynced)?;
+    ran(rt, alloc, server.line, b"GET", opener, accept)
+}
+
+fn is_end<A, K: Drop>(ran: &Ran<MemDisk, A, K>, said: &[u8], sent: u64, server: &Server) -> bool {
+    has_left(&ran.disk, server.left)
+        && ran.status == server.status
+        && said == server.said.as_bytes()
+        && sent == server.sent
 }
 
 // Whether the server ends so.
 fn ends_so<R: Threads + Wait + Sync>(rt: &R, alloc: Global, server: &Server) -> Result<bool, Fail> {
-    let words = words(alloc, server.line)?;
-    let mut opener = opener_of(alloc, Some(server.file), server.unsynced)?;
     let sent = Arc::new(alloc, AtomicU64::new(0))?;
-    let accept = accept_of(alloc, server, &sent)?;
-    let mut link = link_of(alloc, b"GET", None)?;
-    let ran = run(
-        rt,
-        alloc,
-        RandomState::new(&ZeroBytes)?,
-        words.as_slice(),
-        &mut link,
-        &mut opener,
-        accept,
-        &NoGate,
-    );
-    let left = match (&ran.disk, server.left) {
-        (Some(disk), Some(left)) => disk.bytes() == left,
-        (disk, _) => disk.is_some(),
-    };
-    Ok(
-        left && ran.status == server.status
-            && link.written() == server.said.as_bytes()
-            && sent.load(Ordering::SeqCst) == server.sent,
-    )
+    let (ran, link) = served(rt, alloc, server, &sent)?;
+    let sent = sent.load(Ordering::SeqCst);
+    Ok(is_end(&ran, link.written(), sent, server))
 }
 
 #[test]
@@ -207,68 +287,102 @@ fn a_server_serves_each_connection_and_reports(rt: HostRuntime) -> Result<(), Fa
     Ok(())
 }
 
+// An accept with two links.
+fn two_links(alloc: Global) -> Result<MemAccept<SeenLink>, Fail> {
+    let sent = Arc::new(alloc, AtomicU64::new(0))?;
+    accept_of(alloc, &TWO, &sent)
+}
+
+fn gives<L: Drop, A: Accept<L>>(accept: &mut A) -> bool {
+    matches!(accept.next(), Ok(Some(_)))
+}
+
+// The run ended so, and served none of the two links.
+fn check_unserved<R: Abort, A: Accept<K>, K: Drop>(
+    rt: &R,
+    ran: &mut Ran<MemDisk, A, K>,
+    line: &str,
+    status: Status,
+) {
+    assert_eq!(rt; ran.status, status, "{line}");
+    assert_eq!(rt; ran.served.count(), 0, "{line}");
+    // both connections are still there
+    assert!(rt; gives(&mut ran.accept), "{line}");
+    assert!(rt; gives(&mut ran.accept), "{line}");
+}
+
+// A run on this line, where there is no file, ends so, and no link is served.
+fn check_refused<R: Abort + Threads + Wait + Sync>(
+    rt: &R,
+    alloc: Global,
+    line: &str,
+    status: Status,
+) -> Result<(), Fail> {
+    let accept = two_links(alloc)?;
+    let (mut ran, _) = ran(rt, alloc, line, b"", empty_opener(alloc), accept)?;
+    check_unserved(rt, &mut ran, line, status);
+    Ok(())
+}
+
+const MISUSED: &str = "\
+hg_cli serve repository A 0 0 1
+hg_cli serve repository A 17 0 1
+hg_cli serve repository A 1 9 1
+hg_cli serve repository A 1 0 0
+hg_cli serve repository A 1 0 1000001
+hg_cli serve repository A 1 0";
+
 #[test]
 fn a_server_takes_nothing_where_its_words_or_its_file_are_wrong(
     rt: HostRuntime,
 ) -> Result<(), Fail> {
     let alloc = rt.alloc();
-    for (line, status) in [
-        ("hg_cli serve repository A 1 0 1", Status::DiskFault),
-        ("hg_cli serve repository A 0 0 1", Status::Usage),
-        ("hg_cli serve repository A 17 0 1", Status::Usage),
-        ("hg_cli serve repository A 1 9 1", Status::Usage),
-        ("hg_cli serve repository A 1 0 0", Status::Usage),
-        ("hg_cli serve repository A 1 0 1000001", Status::Usage),
-        ("hg_cli serve repository A 1 0", Status::Usage),
-    ] {
-        let words = words(alloc, line)?;
-        let mut opener = opener_of(alloc, None, None)?;
-        let sent = Arc::new(alloc, AtomicU64::new(0))?;
-        let accept = accept_of(alloc, &TWO, &sent)?;
-        let mut link = link_of(alloc, b"", None)?;
-        let mut ran = run(
-            &rt,
-            alloc,
-            RandomState::new(&ZeroBytes)?,
-            words.as_slice(),
-            &mut link,
-            &mut opener,
-            accept,
-            &NoGate,
-        );
-        assert_eq!(rt; ran.status, status, "{line}");
-        assert_eq!(rt; ran.served.count(), 0, "{line}");
-        // both connections are still there
-        assert!(rt; matches!(ran.accept.next(), Ok(Some(_))), "{line}");
-        assert!(rt; matches!(ran.accept.next(), Ok(Some(_))), "{line}");
+    let line = "hg_cli serve repository A 1 0 1";
+    check_refused(&rt, alloc, line, Status::DiskFault)?;
+    for line in MISUSED.lines() {
+        check_refused(&rt, alloc, line, Status::Usage)?;
     }
     Ok(())
+}
+
+// A client that has sent the request to the accept.
+fn client_of<R: Net<Listener = TcpListener, Stream = TcpStream>>(
+    net: &R,
+    accept: &TcpAccept,
+) -> Result<TcpStream, Fail> {
+    let mut client = TcpStream::connect(net, accept.local_addr()?)?;
+    client.write_all(REQUEST)?;
+    client.shutdown(Shutdown::Write)?;
+    Ok(client)
+}
+
+fn length_left(alloc: Global, input: &mut impl Read) -> Result<u64, Fail> {
+    let mut bytes = Vec::new(alloc);
+    input.read_to_end(&mut bytes)?;
+    Ok(bytes.len() as u64)
+}
+
+// The status of a server of one connection on a new repository, and the link on which it wrote.
+fn ended<R, A, K>(rt: &R, alloc: Global, accept: A) -> Result<(Status, MemLink), Fail>
+where
+    R: Threads + Wait + Sync,
+    A: Accept<K> + Send,
+    K: Link + Send,
+{
+    let opener = opener_of(alloc, NEW, None)?;
+    let line = "hg_cli serve repository 127.0.0.1:0 1 0 1";
+    let (ran, link) = ran(rt, alloc, line, b"", opener, accept)?;
+    Ok((ran.status, link))
 }
 
 #[test]
 fn a_server_answers_over_a_socket(rt: HostRuntime) -> Result<(), Fail> {
     let alloc = rt.alloc();
     let accept = TcpAccept::bind(&rt, "127.0.0.1:0")?;
-    let mut client = TcpStream::connect(&rt, accept.local_addr()?)?;
-    client.write_all(REQUEST)?;
-    client.shutdown(Shutdown::Write)?;
-    let words = words(alloc, "hg_cli serve repository 127.0.0.1:0 1 0 1")?;
-    let mut opener = opener_of(alloc, Some(NEW), None)?;
-    let mut link = link_of(alloc, b"", None)?;
-    let ran = run(
-        &rt,
-        alloc,
-        RandomState::new(&ZeroBytes)?,
-        words.as_slice(),
-        &mut link,
-        &mut opener,
-        accept,
-        &NoGate,
-    );
-    assert_eq!(rt; ran.status, Status::Done);
+    let mut client = client_of(&rt, &accept)?;
+    let (status, link) = ended(&rt, alloc, accept)?;
+    assert_eq!(rt; status, Status::Done);
     assert_eq!(rt; link.written(), b"served 1 entries 1\n".as_slice());
-    let mut answer = Vec::new(alloc);
-    client.read_to_end(&mut answer)?;
-    assert_eq!(rt; answer.len() as u64, ANSWER);
+    assert_eq!(rt; length_left(alloc, &mut client)?, ANSWER);
     Ok(())
 }
