@@ -5,6 +5,7 @@ use bonsai::{Change, Changeset, Commit, DecodeFault, FileKind, decode, encode};
 use object_id::Id;
 use repo_path::RepoPath;
 use std::alloc::{AllocError, Global};
+use std::process::Abort;
 use std::test::Fail;
 
 /// The first 22 bytes of a changeset without parents, by `a`, at second 0, with no message. The change count follows.
@@ -19,8 +20,13 @@ fn changeset_bytes(alloc: Global, count: u8, changes: &[u8]) -> Result<Vec<u8>, 
     Ok(bytes)
 }
 
+fn byte_of(length: usize) -> u8 {
+    length.min(255) as u8
+}
+
 fn put_path(out: &mut Vec<u8>, path: &str) -> Result<(), AllocError> {
-    out.extend_from_slice(&[0, path.len().min(255) as u8])?;
+    out.push(0)?;
+    out.push(byte_of(path.len()))?;
     out.extend_from_slice(path.as_bytes())
 }
 
@@ -41,7 +47,7 @@ fn edits_bytes(alloc: Global, edits: &[(&str, bool)]) -> Result<Vec<u8>, AllocEr
             changes.push(0)?;
         }
     }
-    changeset_bytes(alloc, edits.len().min(255) as u8, changes.as_slice())
+    changeset_bytes(alloc, byte_of(edits.len()), changes.as_slice())
 }
 
 // What comes of the bytes of a changeset.
@@ -53,10 +59,15 @@ enum Outcome {
     Other,
 }
 
+fn read(alloc: Global, bytes: &[u8]) -> Result<Changeset, DecodeFault> {
+    decode(alloc, bytes)
+}
+
 fn outcome_of_bytes(alloc: Global, bytes: &[u8]) -> Outcome {
-    match decode(alloc, bytes) {
+    let read = read(alloc, bytes);
+    match &read {
         Ok(_) => Outcome::Read,
-        Err(DecodeFault::BadEncoding { at }) => Outcome::Bad { at },
+        Err(DecodeFault::BadEncoding { at }) => Outcome::Bad { at: *at },
         Err(DecodeFault::SelfConflict { short: _, long: _ }) => Outcome::Conflict,
         Err(DecodeFault::TooLong { length: _ } | DecodeFault::Memory) => Outcome::Other,
     }
@@ -73,7 +84,8 @@ fn conflicts(alloc: Global, edits: &[(&str, bool)], above: &str, under: &str) ->
     let Ok(bytes) = edits_bytes(alloc, edits) else {
         return false;
     };
-    match decode(alloc, &bytes) {
+    let read = read(alloc, &bytes);
+    match &read {
         Err(DecodeFault::SelfConflict { short, long }) => {
             short.as_str() == above && long.as_str() == under
         }
@@ -83,7 +95,7 @@ fn conflicts(alloc: Global, edits: &[(&str, bool)], above: &str, under: &str) ->
 
 // The changeset that sets `p` to `abc`.
 fn sets_p(alloc: Global) -> Option<Changeset> {
-    decode(alloc, &of_hex(alloc, SETS_P)).ok()
+    read(alloc, &of_hex(alloc, SETS_P)).ok()
 }
 
 fn has_id(alloc: Global, changeset: &Changeset, wanted: &str) -> bool {
@@ -94,8 +106,12 @@ fn is_spelled(alloc: Global, changeset: &Changeset, wanted: &str) -> bool {
     encode(alloc, changeset).is_ok_and(|bytes| bytes == of_hex(alloc, wanted))
 }
 
-fn change(alloc: Global, changeset: &Changeset, path: &str) -> Option<Change> {
-    let path = RepoPath::parse(alloc, path).ok()?;
+fn path(alloc: Global, text: &str) -> Option<RepoPath> {
+    RepoPath::parse(alloc, text).ok()
+}
+
+fn change(alloc: Global, changeset: &Changeset, text: &str) -> Option<Change> {
+    let path = path(alloc, text)?;
     changeset.change_at(&path).copied()
 }
 
@@ -106,8 +122,12 @@ fn touches(alloc: Global, changeset: &Changeset, wanted: &str) -> bool {
     }
 }
 
+fn moved(alloc: Global, changeset: &Changeset, parent: &str) -> Option<Changeset> {
+    changeset.with_parent(alloc, id_of_hex(parent)).ok()
+}
+
 fn commit_on(alloc: Global, changeset: &Changeset, parent: &str) -> Option<Commit> {
-    let moved = changeset.with_parent(alloc, id_of_hex(parent)).ok()?;
+    let moved = moved(alloc, changeset, parent)?;
     Commit::of(alloc, moved).ok()
 }
 
@@ -117,23 +137,34 @@ fn is_commit(commit: &Commit, parents: usize, length: usize, id: &str) -> bool {
         && commit.id() == id_of_hex(id)
 }
 
+// Two paths that are deleted, and what comes of it.
+const DELETES: &str = "\
+b a = Bad { at: 32 }
+a a = Bad { at: 32 }
+a b = Read
+a/b a.b = Read
+a.b a/b = Bad { at: 34 }
+a a//b = Bad { at: 32 }";
+
+fn deletes(alloc: Global, paths: &str) -> Outcome {
+    let (first, second) = paths.split_once(' ').unwrap_or((paths, ""));
+    outcome_of_edits(alloc, &[(first, false), (second, false)])
+}
+
+fn check_deletes(rt: &impl Abort, alloc: Global, row: &str) -> Result<(), Fail> {
+    let (paths, wanted) = row.split_once(" = ").unwrap_or((row, ""));
+    let outcome = deletes(alloc, paths);
+    let told = format!(in alloc; "{outcome:?}")?;
+    assert_eq!(rt; told.as_str(), wanted, "{paths}");
+    Ok(())
+}
+
 #[test]
-fn deletes_in_order_and_out_of_order(rt: HostRuntime) {
-    for (first, second, want) in [
-        ("b", "a", Outcome::Bad { at: 32 }),
-        ("a", "a", Outcome::Bad { at: 32 }),
-        ("a", "b", Outcome::Read),
-        ("a/b", "a.b", Outcome::Read),
-        ("a.b", "a/b", Outcome::Bad { at: 34 }),
-        ("a", "a//b", Outcome::Bad { at: 32 }),
-    ] {
-        let edits = [(first, false), (second, false)];
-        assert_eq!(rt;
-            outcome_of_edits(rt.alloc(), &edits),
-            want,
-            "{first} {second}"
-        );
+fn deletes_in_order_and_out_of_order(rt: HostRuntime) -> Result<(), Fail> {
+    for row in DELETES.lines() {
+        check_deletes(&rt, rt.alloc(), row)?;
     }
+    Ok(())
 }
 
 #[test]

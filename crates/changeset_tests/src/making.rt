@@ -5,10 +5,15 @@ use bonsai::{Change, Changeset, Commit, Edit, Fields, FieldsFault, FileKind, dec
 use object_id::Id;
 use repo_path::RepoPath;
 use std::alloc::Global;
+use std::process::Abort;
 use std::test::Fail;
 
-fn set(alloc: Global, path: &str, kind: FileKind, size: u64) -> Option<Edit> {
-    let path = RepoPath::parse(alloc, path).ok()?;
+fn path(alloc: Global, text: &str) -> Option<RepoPath> {
+    RepoPath::parse(alloc, text).ok()
+}
+
+fn set(alloc: Global, text: &str, kind: FileKind, size: u64) -> Option<Edit> {
+    let path = path(alloc, text)?;
     let content = Id::of(b"abc");
     let change = Change::Set {
         content,
@@ -18,19 +23,21 @@ fn set(alloc: Global, path: &str, kind: FileKind, size: u64) -> Option<Edit> {
     Some(Edit { path, change })
 }
 
-fn delete(alloc: Global, path: &str) -> Option<Edit> {
-    let path = RepoPath::parse(alloc, path).ok()?;
+fn delete(alloc: Global, text: &str) -> Option<Edit> {
+    let path = path(alloc, text)?;
     let change = Change::Delete;
     Some(Edit { path, change })
 }
 
+fn put(edits: &mut Vec<Edit>, edit: Option<Edit>) -> Option<()> {
+    edits.push(edit?).ok()
+}
+
 fn rich_edits(alloc: Global) -> Option<Vec<Edit>> {
     let mut edits = Vec::new(alloc);
-    edits.push(delete(alloc, "a/b")?).ok()?;
-    edits
-        .push(set(alloc, "a.b", FileKind::Executable, 3)?)
-        .ok()?;
-    edits.push(delete(alloc, "a.b/c")?).ok()?;
+    put(&mut edits, delete(alloc, "a/b"))?;
+    put(&mut edits, set(alloc, "a.b", FileKind::Executable, 3))?;
+    put(&mut edits, delete(alloc, "a.b/c"))?;
     Some(edits)
 }
 
@@ -38,13 +45,20 @@ fn text(alloc: Global, text: &str) -> Option<String> {
     String::from_str(alloc, text).ok()
 }
 
+fn ids(alloc: Global, parents: &[Id]) -> Option<Vec<Id>> {
+    Vec::from_slice(alloc, parents).ok()
+}
+
 fn fields(alloc: Global, parents: &[Id], author: &str, edits: Vec<Edit>) -> Option<Fields> {
+    let parents = ids(alloc, parents)?;
+    let author = text(alloc, author)?;
+    let message = text(alloc, "two\nlines")?;
     Some(Fields {
-        parents: Vec::from_slice(alloc, parents).ok()?,
-        author: text(alloc, author)?,
+        parents,
+        author,
         seconds: -1,
         offset: -3600,
-        message: text(alloc, "two\nlines")?,
+        message,
         edits,
     })
 }
@@ -54,21 +68,27 @@ fn rich(alloc: Global) -> Option<Fields> {
     fields(alloc, &parents, "\u{e9} x", rich_edits(alloc)?)
 }
 
+fn name_of(fault: &FieldsFault) -> &'static str {
+    match fault {
+        FieldsFault::BadParents => "parents",
+        FieldsFault::BadAuthor => "author",
+        FieldsFault::BadMessage => "message",
+        FieldsFault::TooManyEdits => "many",
+        FieldsFault::TooLarge => "large",
+        FieldsFault::Unordered => "unordered",
+        FieldsFault::SelfConflict { short: _, long: _ } => "conflict",
+        FieldsFault::Memory => "memory",
+    }
+}
+
 // Why fields make no changeset.
 fn fault(alloc: Global, fields: Option<Fields>) -> &'static str {
     let Some(fields) = fields else {
         return "memory";
     };
-    match Changeset::from_fields(alloc, fields) {
+    match changeset(alloc, fields) {
         Ok(_) => "none",
-        Err(FieldsFault::BadParents) => "parents",
-        Err(FieldsFault::BadAuthor) => "author",
-        Err(FieldsFault::BadMessage) => "message",
-        Err(FieldsFault::TooManyEdits) => "many",
-        Err(FieldsFault::TooLarge) => "large",
-        Err(FieldsFault::Unordered) => "unordered",
-        Err(FieldsFault::SelfConflict { short: _, long: _ }) => "conflict",
-        Err(FieldsFault::Memory) => "memory",
+        Err(fault) => name_of(&fault),
     }
 }
 
@@ -86,27 +106,37 @@ fn of_parents(alloc: Global, first: &str, second: &str) -> Option<Fields> {
 }
 
 fn of_message(alloc: Global, length: usize) -> Option<Fields> {
+    let message = letters(alloc, length).ok()?;
     let mut fields = rich(alloc)?;
-    fields.message = letters(alloc, length).ok()?;
+    fields.message = message;
     Some(fields)
 }
 
 // Two sets, the second of a file of so many bytes.
 fn of_sets(alloc: Global, first: &str, second: &str, size: u64) -> Option<Fields> {
     let mut edits = Vec::new(alloc);
-    edits.push(set(alloc, first, FileKind::Regular, 3)?).ok()?;
-    edits
-        .push(set(alloc, second, FileKind::Symlink, size)?)
-        .ok()?;
+    put(&mut edits, set(alloc, first, FileKind::Regular, 3))?;
+    put(&mut edits, set(alloc, second, FileKind::Symlink, size))?;
     fields(alloc, &[], "a", edits)
 }
 
+fn changeset(alloc: Global, fields: Fields) -> Result<Changeset, FieldsFault> {
+    Changeset::from_fields(alloc, fields)
+}
+
 fn made(alloc: Global) -> Option<Changeset> {
-    Changeset::from_fields(alloc, rich(alloc)?).ok()
+    changeset(alloc, rich(alloc)?).ok()
+}
+
+fn read_rich(alloc: Global) -> Option<Changeset> {
+    decode(alloc, &of_hex(alloc, RICH)).ok()
 }
 
 fn is_as_read(alloc: Global, changeset: &Changeset) -> bool {
-    decode(alloc, &of_hex(alloc, RICH)).is_ok_and(|read| read == *changeset)
+    match read_rich(alloc) {
+        Some(read) => read == *changeset,
+        None => false,
+    }
 }
 
 fn differs_on_other_parent(alloc: Global, changeset: &Changeset) -> bool {
@@ -154,17 +184,33 @@ fn parents_and_messages(rt: HostRuntime) {
     assert_eq!(rt; fault(alloc, of_message(alloc, 1_048_577)), "message");
 }
 
+// Two paths that are set, the bytes of the second file, and why that makes no changeset.
+const EDITS: &str = "\
+a b 1048576 none
+a b 1048577 large
+b a 3 unordered
+a a 3 unordered
+a.b a/b 3 unordered
+a a/b 3 conflict";
+
+fn cut(row: &str) -> (&str, &str) {
+    row.split_once(' ').unwrap_or((row, ""))
+}
+
+fn check_edits(rt: &impl Abort, alloc: Global, row: &str) -> Result<(), Fail> {
+    let (first, rest) = cut(row);
+    let (second, rest) = cut(rest);
+    let (size, wanted) = cut(rest);
+    let size = size.parse()?;
+    let fields = of_sets(alloc, first, second, size);
+    assert_eq!(rt; fault(alloc, fields), wanted, "{row}");
+    Ok(())
+}
+
 #[test]
-fn edits(rt: HostRuntime) {
-    for (first, second, size, want) in [
-        ("a", "b", 1_048_576, "none"),
-        ("a", "b", 1_048_577, "large"),
-        ("b", "a", 3, "unordered"),
-        ("a", "a", 3, "unordered"),
-        ("a.b", "a/b", 3, "unordered"),
-        ("a", "a/b", 3, "conflict"),
-    ] {
-        let fields = of_sets(rt.alloc(), first, second, size);
-        assert_eq!(rt; fault(rt.alloc(), fields), want, "{first} {second}");
+fn edits(rt: HostRuntime) -> Result<(), Fail> {
+    for row in EDITS.lines() {
+        check_edits(&rt, rt.alloc(), row)?;
     }
+    Ok(())
 }

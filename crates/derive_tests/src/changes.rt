@@ -1,26 +1,26 @@
-//! Changesets of a few edits.
+//! Changesets of a few edits. An edit is told as `a/b=22`, which sets the file `a/b` to `22`, or as `a/b`, which deletes it.
 use bonsai::{Change, Changeset, Commit, Edit, Fields};
 use file_kind::FileKind;
 use object_id::Id;
 use repo_path::RepoPath;
-use std::alloc::Global;
+use std::alloc::{AllocError, Global};
 use std::test::Fail;
-
-/// A path, and the content that is set there, or `None` for a delete.
-pub(crate) type Given<'a> = (&'a str, Option<&'a [u8]>);
 
 /// A path that is spelled so.
 pub(crate) fn path(alloc: Global, text: &str) -> Result<RepoPath, Fail> {
-    Ok(RepoPath::parse(alloc, text).ok().ok_or("a path")?)
+    match RepoPath::parse(alloc, text) {
+        Ok(path) => Ok(path),
+        Err(_) => Err(Fail::from("a path")),
+    }
 }
 
-/// The edit that sets a file, or deletes it.
-pub(crate) fn edit(alloc: Global, given: Given) -> Result<Edit, Fail> {
-    let path = path(alloc, given.0)?;
-    let change = match given.1 {
-        Some(content) => set(content),
-        None => Change::Delete,
+// The edit that is told so.
+fn edit(alloc: Global, told: &str) -> Result<Edit, Fail> {
+    let (name, change) = match told.split_once('=') {
+        Some((name, content)) => (name, set(content.as_bytes())),
+        None => (told, Change::Delete),
     };
+    let path = path(alloc, name)?;
     Ok(Edit { path, change })
 }
 
@@ -33,39 +33,63 @@ pub(crate) fn set(content: &[u8]) -> Change {
     }
 }
 
+fn parents(alloc: Global, parent: Option<Id>) -> Result<Vec<Id>, AllocError> {
+    let mut parents = Vec::new(alloc);
+    if let Some(parent) = parent {
+        parents.push(parent)?;
+    }
+    Ok(parents)
+}
+
+fn fields(alloc: Global, parent: Option<Id>, edits: Vec<Edit>) -> Result<Fields, AllocError> {
+    let parents = parents(alloc, parent)?;
+    let author = String::from_str(alloc, "a")?;
+    Ok(Fields {
+        parents,
+        author,
+        seconds: 0,
+        offset: 0,
+        message: String::new(alloc),
+        edits,
+    })
+}
+
+fn changeset(alloc: Global, fields: Fields) -> Option<Changeset> {
+    Changeset::from_fields(alloc, fields).ok()
+}
+
 /// The changeset of these edits on a parent, if they make one.
 pub(crate) fn commit(
     alloc: Global,
     parent: Option<Id>,
     edits: Vec<Edit>,
 ) -> Result<Option<Commit>, Fail> {
-    let mut parents = Vec::new(alloc);
-    if let Some(parent) = parent {
-        parents.push(parent)?;
+    let fields = fields(alloc, parent, edits)?;
+    match changeset(alloc, fields) {
+        Some(changeset) => Ok(Some(Commit::of(alloc, changeset)?)),
+        None => Ok(None),
     }
-    let fields = Fields {
-        parents,
-        author: String::from_str(alloc, "a")?,
-        seconds: 0,
-        offset: 0,
-        message: String::new(alloc),
-        edits,
-    };
-    let Ok(changeset) = Changeset::from_fields(alloc, fields) else {
-        return Ok(None);
-    };
-    Ok(Some(Commit::of(alloc, changeset)?))
 }
 
-/// The changeset that these edits make on a parent.
+/// The changeset that edits make on a parent.
 pub(crate) fn commit_of(
     alloc: Global,
     parent: Option<Id>,
-    given: &[Given],
+    edits: Vec<Edit>,
 ) -> Result<Commit, Fail> {
-    let mut edits = Vec::new(alloc);
-    for one in given {
-        edits.push(edit(alloc, *one)?)?;
+    match commit(alloc, parent, edits)? {
+        Some(commit) => Ok(commit),
+        None => Err(Fail::from("a changeset")),
     }
-    Ok(commit(alloc, parent, edits)?.ok_or("a changeset")?)
+}
+
+/// The edits that are told, with spaces between.
+pub(crate) fn edits(alloc: Global, told: &str) -> Result<Vec<Edit>, Fail> {
+    let mut edits = Vec::new(alloc);
+    for one in told.split(' ') {
+        if !one.is_empty() {
+            edits.push(edit(alloc, one)?)?;
+        }
+    }
+    Ok(edits)
 }

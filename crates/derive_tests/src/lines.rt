@@ -1,11 +1,12 @@
 //! Lines of changesets by a random number generator with a fixed seed.
-use crate::changes::{commit, path, set};
+use crate::changes::{commit, commit_of, path, set};
 use crate::store::{Derived, Store};
-use bonsai::{Change, Edit};
+use bonsai::{Change, Commit, Edit};
 use repo_path::RepoPath;
 use std::alloc::Global;
+use std::process::Abort;
 use std::test::Fail;
-use tree_fold::Tree;
+use tree_fold::{File, Tree};
 
 // How many changesets a line tries to have.
 const STEPS: usize = 40;
@@ -26,20 +27,49 @@ impl Numbers {
     }
 }
 
+const NAMES: [&str; 3] = ["a", "b", "c"];
+
+fn put_path(paths: &mut Vec<RepoPath>, alloc: Global, text: &str) -> Result<(), Fail> {
+    let path = path(alloc, text)?;
+    Ok(paths.push(path)?)
+}
+
+// A name in a directory.
+fn joined(alloc: Global, dir: &str, name: &str) -> Result<String, Fail> {
+    Ok(format!(in alloc; "{dir}/{name}")?)
+}
+
+// A directory, and what each name is in it.
+fn put_dir(paths: &mut Vec<RepoPath>, alloc: Global, dir: &str) -> Result<(), Fail> {
+    put_path(paths, alloc, dir)?;
+    for name in NAMES {
+        let text = joined(alloc, dir, name)?;
+        put_path(paths, alloc, text.as_str())?;
+    }
+    Ok(())
+}
+
 // All paths of one to three of the names `a`, `b` and `c`, rising.
 fn all_paths(alloc: Global) -> Result<Vec<RepoPath>, Fail> {
-    let names = ["a", "b", "c"];
     let mut paths = Vec::new(alloc);
-    for one in names {
-        paths.push(path(alloc, one)?)?;
-        for two in names {
-            paths.push(path(alloc, format!(in alloc; "{one}/{two}")?.as_str())?)?;
-            for three in names {
-                paths.push(path(alloc, format!(in alloc; "{one}/{two}/{three}")?.as_str())?)?;
-            }
+    for one in NAMES {
+        put_path(&mut paths, alloc, one)?;
+        for two in NAMES {
+            let text = joined(alloc, one, two)?;
+            put_dir(&mut paths, alloc, text.as_str())?;
         }
     }
     Ok(paths)
+}
+
+fn put_edit(
+    edits: &mut Vec<Edit>,
+    alloc: Global,
+    path: &RepoPath,
+    change: Change,
+) -> Result<(), Fail> {
+    let path = path.copy(alloc)?;
+    Ok(edits.push(Edit { path, change })?)
 }
 
 // Sets and deletes at some of the paths.
@@ -52,12 +82,17 @@ fn some_edits(alloc: Global, paths: &[RepoPath], numbers: &mut Numbers) -> Resul
             2 | 3 => Change::Delete,
             _ => continue,
         };
-        edits.push(Edit {
-            path: path.copy(alloc)?,
-            change,
-        })?;
+        put_edit(&mut edits, alloc, path, change)?;
     }
     Ok(edits)
+}
+
+fn set_of(file: &File) -> Change {
+    Change::Set {
+        content: file.content,
+        kind: file.kind,
+        size: file.size,
+    }
 }
 
 // A set of each file of a tree.
@@ -65,17 +100,46 @@ fn all_files(alloc: Global, paths: &[RepoPath], tree: &Tree) -> Result<Vec<Edit>
     let mut edits = Vec::new(alloc);
     for path in paths {
         if let Some(file) = tree.at(path) {
-            edits.push(Edit {
-                path: path.copy(alloc)?,
-                change: Change::Set {
-                    content: file.content,
-                    kind: file.kind,
-                    size: file.size,
-                },
-            })?;
+            put_edit(&mut edits, alloc, path, set_of(file))?;
         }
     }
     Ok(edits)
+}
+
+// Derives one changeset that sets all files of the tree.
+fn derive_whole(
+    alloc: Global,
+    store: &mut Store,
+    paths: &[RepoPath],
+    tree: &Tree,
+) -> Result<Derived, Fail> {
+    let files = all_files(alloc, paths, tree)?;
+    let whole = commit_of(alloc, None, files)?;
+    store.derive(whole, None)
+}
+
+// The changeset of some edits on the last one, if they make one.
+fn next(alloc: Global, last: Option<&Derived>, edits: Vec<Edit>) -> Result<Option<Commit>, Fail> {
+    let parent = match last {
+        Some(last) => Some(last.id),
+        None => None,
+    };
+    commit(alloc, parent, edits)
+}
+
+// Derives a changeset on the last one, and the tree as one changeset. The root is the same.
+fn check_next(
+    rt: &(impl Abort + Alloc<A = Global>),
+    store: &mut Store,
+    tree: &Tree,
+    last: Option<&Derived>,
+    next: Commit,
+    paths: &[RepoPath],
+) -> Result<Derived, Fail> {
+    let step = store.derive(next, last)?;
+    let whole = derive_whole(rt.alloc(), store, paths, tree)?;
+    assert_eq!(rt; step.roots.fsnode, whole.roots.fsnode);
+    Ok(step)
 }
 
 #[test]
@@ -89,15 +153,11 @@ fn a_line_and_the_whole_tree_give_one_fsnode(rt: HostRuntime) -> Result<(), Fail
     let mut count = 0u32;
     for _ in 0..STEPS {
         let edits = some_edits(alloc, &paths, &mut numbers)?;
-        let Some(next) = commit(alloc, last.map(|l| l.id), edits)? else {
+        let Some(next) = next(alloc, last.as_ref(), edits)? else {
             continue;
         };
         tree.apply(alloc, next.changeset())?;
-        let step = store.derive(next, last.as_ref())?;
-        let files = all_files(alloc, &paths, &tree)?;
-        let whole = commit(alloc, None, files)?.ok_or("a changeset")?;
-        let plain = store.derive(whole, None)?;
-        assert_eq!(rt; step.roots.fsnode, plain.roots.fsnode);
+        let step = check_next(&rt, &mut store, &tree, last.as_ref(), next, &paths)?;
         last = Some(step);
         count = count.saturating_add(1);
     }

@@ -1,38 +1,48 @@
 //! The nodes of small trees.
-use crate::changes::{Given, commit_of};
+use crate::changes::{commit_of, edits};
 use crate::store::{Derived, Store};
+use object_id::Id;
 use std::alloc::Global;
+use std::process::Abort;
 use std::test::Fail;
-use unode::decode_file;
+use unode::{FileUnode, decode_file};
 
+// Derives a changeset of edits that are told on another.
 fn derived(
     alloc: Global,
     store: &mut Store,
     before: Option<&Derived>,
-    given: &[Given],
+    told: &str,
 ) -> Result<Derived, Fail> {
     let parent = match before {
         Some(before) => Some(before.id),
         None => None,
     };
-    let commit = commit_of(alloc, parent, given)?;
+    let edits = edits(alloc, told)?;
+    let commit = commit_of(alloc, parent, edits)?;
     store.derive(commit, before)
+}
+
+fn length(store: &Store, id: &Id) -> Result<usize, Fail> {
+    Ok(store.bytes(id)?.len())
+}
+
+// The numbers of the summary of a directory.
+fn numbers(store: &Store, id: &Id) -> Result<[u64; 5], Fail> {
+    Ok(store.fsnode(id)?.summary.numbers())
 }
 
 #[test]
 fn two_files(rt: HostRuntime) -> Result<(), Fail> {
     let alloc = rt.alloc();
     let mut store = Store::new(alloc);
-    let tree: &[Given] = &[("a/x", Some(b"abc")), ("b", Some(b""))];
-    let root = derived(alloc, &mut store, None, tree)?;
+    let root = derived(alloc, &mut store, None, "a/x=abc b=")?;
     assert_eq!(rt; root.new, 6);
-    assert_eq!(rt; store.bytes(&root.roots.fsnode)?.len(), 165);
-    let summary = store.fsnode(&root.roots.fsnode)?.summary;
-    assert_eq!(rt; summary.numbers(), [1, 0, 1, 2, 3]);
+    assert_eq!(rt; length(&store, &root.roots.fsnode)?, 165);
+    assert_eq!(rt; numbers(&store, &root.roots.fsnode)?, [1, 0, 1, 2, 3]);
     let a = store.dir_in(root.roots, "a")?;
-    assert_eq!(rt; store.bytes(&a.fsnode)?.len(), 90);
-    let summary = store.fsnode(&a.fsnode)?.summary;
-    assert_eq!(rt; summary.numbers(), [1, 3, 0, 1, 3]);
+    assert_eq!(rt; length(&store, &a.fsnode)?, 90);
+    assert_eq!(rt; numbers(&store, &a.fsnode)?, [1, 3, 0, 1, 3]);
     Ok(())
 }
 
@@ -40,128 +50,98 @@ fn two_files(rt: HostRuntime) -> Result<(), Fail> {
 fn no_file(rt: HostRuntime) -> Result<(), Fail> {
     let alloc = rt.alloc();
     let mut store = Store::new(alloc);
-    let root = derived(alloc, &mut store, None, &[])?;
+    let root = derived(alloc, &mut store, None, "")?;
     assert_eq!(rt; root.new, 2);
-    assert_eq!(rt; store.bytes(&root.roots.fsnode)?.len(), 46);
-    let summary = store.fsnode(&root.roots.fsnode)?.summary;
-    assert_eq!(rt; summary.numbers(), [0; 5]);
+    assert_eq!(rt; length(&store, &root.roots.fsnode)?, 46);
+    assert_eq!(rt; numbers(&store, &root.roots.fsnode)?, [0; 5]);
     Ok(())
+}
+
+fn file_unode(store: &Store, id: &Id) -> Result<FileUnode, Fail> {
+    Ok(decode_file(store.bytes(id)?).ok_or("a file's unode")?)
 }
 
 #[test]
 fn a_file_that_was_away_has_no_parent(rt: HostRuntime) -> Result<(), Fail> {
     let alloc = rt.alloc();
     let mut store = Store::new(alloc);
-    let set: &[Given] = &[("p", Some(b"abc"))];
-    let first = derived(alloc, &mut store, None, set)?;
-    let away = derived(alloc, &mut store, Some(&first), &[("p", None)])?;
-    let last = derived(alloc, &mut store, Some(&away), set)?;
+    let first = derived(alloc, &mut store, None, "p=abc")?;
+    let away = derived(alloc, &mut store, Some(&first), "p")?;
+    let last = derived(alloc, &mut store, Some(&away), "p=abc")?;
     let id = store.file_in(last.roots, "p")?;
-    let bytes = store.bytes(&id)?;
-    assert_eq!(rt; bytes.len(), 100);
-    let file = decode_file(bytes).ok_or("a file's unode")?;
+    assert_eq!(rt; length(&store, &id)?, 100);
+    let file = file_unode(&store, &id)?;
     assert_eq!(rt; file.parent, None);
     assert_eq!(rt; file.linknode, last.id);
     Ok(())
+}
+
+// A set of each of a thousand files.
+fn thousand(alloc: Global) -> Result<String, Fail> {
+    let mut told = String::new(alloc);
+    for i in 0..1_000u64 {
+        write!(&mut told, " z/{i:04}=1")?;
+    }
+    Ok(told)
 }
 
 #[test]
 fn one_file_beside_a_thousand(rt: HostRuntime) -> Result<(), Fail> {
     let alloc = rt.alloc();
     let mut store = Store::new(alloc);
-    let mut names = Vec::new(alloc);
-    for i in 0..1_000u64 {
-        names.push(format!(in alloc; "z/{i:04}")?)?;
-    }
-    let mut given: Vec<Given> = Vec::new(alloc);
-    for name in &names {
-        given.push((name.as_str(), Some(b"1")))?;
-    }
-    let first = derived(alloc, &mut store, None, &given)?;
+    let told = thousand(alloc)?;
+    let first = derived(alloc, &mut store, None, told.as_str())?;
     assert_eq!(rt; first.new, 1_004);
-    let next = derived(alloc, &mut store, Some(&first), &[("a/b/c", Some(b"22"))])?;
+    let next = derived(alloc, &mut store, Some(&first), "a/b/c=22")?;
     assert_eq!(rt; next.new, 7);
     Ok(())
 }
 
 // A changeset, one on it, the files that are then there, and how many nodes the second gives.
-const STEPS: [(&[Given], &[Given], &[Given], usize); 10] = [
-    (
-        &[("a", Some(b"1"))],
-        &[("a/b", Some(b"22"))],
-        &[("a/b", Some(b"22"))],
-        5,
-    ),
-    (
-        &[("a/b", Some(b"1")), ("a/c/d", Some(b"22"))],
-        &[("a", Some(b"333"))],
-        &[("a", Some(b"333"))],
-        3,
-    ),
-    (
-        &[("a/b", Some(b"1")), ("a/c/d", Some(b"22"))],
-        &[("a", Some(b"333")), ("a/b", None)],
-        &[("a", Some(b"333"))],
-        3,
-    ),
-    (
-        &[("a/b", Some(b"1")), ("a/c/d", Some(b"22"))],
-        &[("a/b", None)],
-        &[("a/c/d", Some(b"22"))],
-        4,
-    ),
-    (
-        &[("a/c/d", Some(b"22")), ("b", Some(b"1"))],
-        &[("a/c/d", None)],
-        &[("b", Some(b"1"))],
-        2,
-    ),
-    (
-        &[("a", Some(b"1"))],
-        &[("a/x", None)],
-        &[("a", Some(b"1"))],
-        2,
-    ),
-    (
-        &[("a/b", Some(b"1"))],
-        &[("c/d", None)],
-        &[("a/b", Some(b"1"))],
-        2,
-    ),
-    (
-        &[("a/b", Some(b"1"))],
-        &[("a/z/y", None)],
-        &[("a/b", Some(b"1"))],
-        4,
-    ),
-    (
-        &[("a", Some(b"1"))],
-        &[("a", None), ("a/b", Some(b"22"))],
-        &[("a/b", Some(b"22"))],
-        5,
-    ),
-    (
-        &[("a/b", Some(b"22")), ("a.b", Some(b"1"))],
-        &[("a/c", Some(b"333"))],
-        &[
-            ("a/b", Some(b"22")),
-            ("a/c", Some(b"333")),
-            ("a.b", Some(b"1")),
-        ],
-        5,
-    ),
-];
+const STEPS: &str = "\
+a=1 | a/b=22 | a/b=22 | 5
+a/b=1 a/c/d=22 | a=333 | a=333 | 3
+a/b=1 a/c/d=22 | a=333 a/b | a=333 | 3
+a/b=1 a/c/d=22 | a/b | a/c/d=22 | 4
+a/c/d=22 b=1 | a/c/d | b=1 | 2
+a=1 | a/x | a=1 | 2
+a/b=1 | c/d | a/b=1 | 2
+a/b=1 | a/z/y | a/b=1 | 4
+a=1 | a a/b=22 | a/b=22 | 5
+a/b=22 a.b=1 | a/c=333 | a/b=22 a/c=333 a.b=1 | 5";
+
+fn cut(row: &str) -> (&str, &str) {
+    row.split_once(" | ").unwrap_or((row, ""))
+}
+
+// What the second of two changesets gives, and what one changeset gives that sets all files.
+fn both_ways(
+    alloc: Global,
+    first: &str,
+    second: &str,
+    all: &str,
+) -> Result<(Derived, Derived), Fail> {
+    let mut store = Store::new(alloc);
+    let before = derived(alloc, &mut store, None, first)?;
+    let after = derived(alloc, &mut store, Some(&before), second)?;
+    let whole = derived(alloc, &mut store, None, all)?;
+    Ok((after, whole))
+}
+
+fn check(rt: &impl Abort, alloc: Global, row: &str) -> Result<(), Fail> {
+    let (first, rest) = cut(row);
+    let (second, rest) = cut(rest);
+    let (all, new) = cut(rest);
+    let (after, whole) = both_ways(alloc, first, second, all)?;
+    assert_eq!(rt; after.roots.fsnode, whole.roots.fsnode, "{row}");
+    assert_eq!(rt; after.new, new.parse()?, "{row}");
+    Ok(())
+}
 
 #[test]
 fn after_a_changeset(rt: HostRuntime) -> Result<(), Fail> {
-    let alloc = rt.alloc();
-    for (first, second, all, new) in STEPS {
-        let mut store = Store::new(alloc);
-        let before = derived(alloc, &mut store, None, first)?;
-        let after = derived(alloc, &mut store, Some(&before), second)?;
-        let whole = derived(alloc, &mut store, None, all)?;
-        assert_eq!(rt; after.roots.fsnode, whole.roots.fsnode);
-        assert_eq!(rt; after.new, new);
+    for row in STEPS.lines() {
+        check(&rt, rt.alloc(), row)?;
     }
     Ok(())
 }

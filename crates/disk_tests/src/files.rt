@@ -1,38 +1,69 @@
 //! A real file, written, opened again and read.
+ghost use Rattle.std.specs.Prelude.{◌+◌};
+ghost use Rattle.disk_model.specs.Meaning.{IsLong};
+
 use blob_disk::Disk;
-use file_disk::FileOpener;
+use file_disk::{FileDisk, FileOpener};
 use ports::Opener;
 use std::fs;
+use std::process::Abort;
 use std::test::Fail;
 
 const NAME: &str = "disk_tests.bin";
+
+// What is called goes through the bounds.
+fn opened<O: Opener<FileDisk>>(opener: &mut O, create: bool) -> Option<FileDisk> {
+    opener.open(NAME, create).ok()
+}
+
+fn size<D: Disk>(disk: &mut D) -> Option<u64> {
+    disk.size().ok()
+}
+
+fn write<D: Disk>(rt: &impl Abort, disk: &mut D, at: u64, bytes: &[u8])
+    requires { IsLong (D.meaning disk.old).reads at }
+{
+    assert_eq!(rt; disk.write_at(at, bytes), Ok(()));
+    assert_eq!(rt; disk.sync(), Ok(()));
+}
+
+fn read<D: Disk>(disk: &mut D, at: u64) -> Option<[u8; 4]>
+    requires { IsLong (D.meaning disk.old).reads (at + 4) }
+{
+    let mut buf = [0; 4];
+    match disk.read_at(at, &mut buf) {
+        Ok(()) => Some(buf),
+        Err(_) => None,
+    }
+}
+
+// A new file gets five bytes.
+fn write_parts(rt: &impl Abort, mut disk: FileDisk) {
+    assert_eq!(rt; size(&mut disk), Some(0));
+    write(rt, &mut disk, 0, b"abc");
+    write(rt, &mut disk, 2, b"XYZ");
+    assert_eq!(rt; disk.faults(), 0);
+    assert_eq!(rt; disk.moment(), 0);
+}
+
+// They are there. Past the end there is nothing to read, and that counts.
+fn read_parts(rt: &impl Abort, mut disk: FileDisk) {
+    assert_eq!(rt; size(&mut disk), Some(5));
+    assert_eq!(rt; read(&mut disk, 1), Some(*b"bXYZ"));
+    assert_eq!(rt; read(&mut disk, 3), None);
+    assert_eq!(rt; disk.faults(), 1);
+}
 
 #[test]
 fn a_file_keeps_what_was_written(rt: HostRuntime) -> Result<(), Fail> {
     let _ = fs::remove_file(&rt, NAME);
     let mut opener = FileOpener::new(rt.clone()?);
-    assert!(rt; opener.open(NAME, false).is_err(), "there is no such file");
-
-    let mut disk = opener.open(NAME, true)?;
-    assert_eq!(rt; disk.size(), Ok(0));
-    assert_eq!(rt; disk.write_at(0, b"abc"), Ok(()));
-    assert_eq!(rt; disk.sync(), Ok(()));
-    assert_eq!(rt; disk.write_at(2, b"XYZ"), Ok(()));
-    assert_eq!(rt; disk.sync(), Ok(()));
-    assert_eq!(rt; disk.faults(), 0);
-    assert_eq!(rt; disk.moment(), 0);
-    drop(disk);
-
-    let mut again = opener.open(NAME, false)?;
-    assert_eq!(rt; again.size(), Ok(5));
-    let mut buf = [0; 4];
-    assert_eq!(rt; again.read_at(1, &mut buf), Ok(()));
-    assert_eq!(rt; buf, *b"bXYZ");
-
-    // past the end there is nothing to read, and that counts
-    assert!(rt; again.read_at(3, &mut buf).is_err());
-    assert_eq!(rt; again.faults(), 1);
-    drop(again);
+    assert!(rt;
+        opened(&mut opener, false).is_none(),
+        "there is no such file"
+    );
+    write_parts(&rt, opened(&mut opener, true).ok_or("a new file")?);
+    read_parts(&rt, opened(&mut opener, false).ok_or("the file")?);
     fs::remove_file(&rt, NAME)?;
     Ok(())
 }

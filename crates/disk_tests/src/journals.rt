@@ -1,5 +1,7 @@
 //! The bytes of a journal, an append that a crash stops, and disks that fail.
-ghost use Rattle.std.specs.Prelude.{◌<◌, ◌^◌, length, IfOk};
+ghost use Rattle.std.specs.Prelude.{◌≡◌, ◌<◌, ◌^◌, false, length, IfOk, IsTrue};
+ghost use Rattle.disk_model.specs.Meaning.{IsLong};
+ghost use Rattle.history_model.specs.Journal.{is_header};
 ghost use Rattle.repo_journal.specs.Sealing.{IsFramed};
 
 use crate::rows::same;
@@ -53,22 +55,50 @@ fn failing(
     Ok(calls)
 }
 
+fn fresh_disk(alloc: Global, failing: Vec<(CallKind, u64)>) -> Result<MemDisk, AllocError> {
+    MemDisk::holding(alloc, FRESH, 64, failing)
+}
+
 // A new repository of capacity 65,536, one of whose calls may be to fail.
 fn new_repository(alloc: Global, fails: Option<(CallKind, u64)>) -> Result<Repository, AllocError> {
-    Ok(Repository {
-        disk: MemDisk::holding(alloc, FRESH, 64, failing(alloc, fails)?)?,
-        journal: Journal::new(65_536, 17, AT_START),
-    })
+    let failing = failing(alloc, fails)?;
+    let disk = fresh_disk(alloc, failing)?;
+    let journal = Journal::new(65_536, 17, AT_START);
+    Ok(Repository { disk, journal })
+}
+
+fn empty_disk(alloc: Global, room: u64) -> Result<MemDisk, AllocError> {
+    MemDisk::new(alloc, room, Vec::new(alloc))
+}
+
+fn make_file<D: Disk>(disk: &mut D, capacity: u64) -> Result<(), Fail>
+    requires { IsTrue (is_header (record { capacity = capacity })) }
+{
+    Ok(init(disk, capacity)?)
 }
 
 // The least capacity, 4,096 bytes.
 fn small(alloc: Global) -> Result<Repository, Fail> {
-    let mut disk = MemDisk::new(alloc, 8_192, Vec::new(alloc))?;
-    init(&mut disk, 4_096)?;
-    Ok(Repository {
-        disk,
-        journal: Journal::new(4_096, 17, AT_START),
-    })
+    let mut disk = empty_disk(alloc, 8_192)?;
+    make_file(&mut disk, 4_096)?;
+    let journal = Journal::new(4_096, 17, AT_START);
+    Ok(Repository { disk, journal })
+}
+
+fn append_to<D: Disk>(disk: &mut D, journal: &mut Journal, frame: &[u8]) -> Result<(), AppendFault>
+    requires framed { IsFramed frame.now }
+    requires whole { journal.old.broken ≡ false }
+    requires long { IsLong (D.meaning disk.old).reads journal.old.size }
+{
+    journal.append(disk, frame)
+}
+
+fn append_frame(rt: &impl Abort, repo: &mut Repository, frame: &[u8]) -> Result<(), AppendFault>
+    requires { IsFramed frame.now }
+{
+    assert!(rt; repo.disk.bytes().len() as u64 >= repo.journal.size());
+    assert!(rt; !repo.journal.is_broken());
+    append_to(&mut repo.disk, &mut repo.journal, frame)
 }
 
 fn append(
@@ -78,9 +108,7 @@ fn append(
 ) -> Result<Result<(), AppendFault>, AllocError> {
     assert!(rt; payload.len() < 5_000);
     let frame = frame_of(rt.alloc(), payload)?;
-    assert!(rt; repo.disk.bytes().len() as u64 >= repo.journal.size());
-    assert!(rt; !repo.journal.is_broken());
-    Ok(repo.journal.append(&mut repo.disk, &frame))
+    Ok(append_frame(rt, repo, &frame))
 }
 
 // The bytes at a place.
@@ -135,8 +163,8 @@ fn mark_of(disk: &MemDisk) -> char {
 }
 
 fn init_in(alloc: Global) -> Result<MemDisk, Fail> {
-    let mut disk = MemDisk::new(alloc, 64, Vec::new(alloc))?;
-    init(&mut disk, 65_536)?;
+    let mut disk = empty_disk(alloc, 64)?;
+    make_file(&mut disk, 65_536)?;
     Ok(disk)
 }
 
@@ -196,9 +224,15 @@ fn appended(
     Ok(format!(in rt.alloc(); "{answer:?} {size} {length}")?)
 }
 
-// How many writes and syncs there were.
-fn calls_made(disk: &MemDisk) -> (u64, u64) {
-    (disk.calls(CallKind::Write), disk.calls(CallKind::Sync))
+fn check_disk(rt: &impl Abort, disk: &MemDisk) {
+    assert_eq!(rt; disk.bytes(), WITH_ABC);
+    assert_eq!(rt; disk.calls(CallKind::Write), 2);
+    assert_eq!(rt; disk.calls(CallKind::Sync), 2);
+}
+
+fn check_journal(rt: &impl Abort, journal: &Journal) {
+    assert_eq!(rt; journal.capacity(), 65_536);
+    assert_eq!(rt; journal.opening(), AT_START);
 }
 
 #[test]
@@ -206,12 +240,8 @@ fn an_append_makes_four_calls(rt: HostRuntime) -> Result<(), Fail> {
     let mut repo = new_repository(rt.alloc(), None)?;
     let told = appended(&rt, &mut repo, b"Babc")?;
     same(&rt, told.as_str(), "Ok(()) 26 26", "an append");
-    assert_eq!(rt; repo.disk.bytes(), WITH_ABC);
-    assert_eq!(rt; calls_made(&repo.disk), (2, 2));
-    assert_eq!(rt;
-        (repo.journal.capacity(), repo.journal.opening()),
-        (65_536, AT_START)
-    );
+    check_disk(&rt, &repo.disk);
+    check_journal(&rt, &repo.journal);
     assert_eq!(rt; read(&rt, &mut repo, 22), Some(*b"abc"));
     Ok(())
 }
@@ -227,12 +257,21 @@ fn records(rt: &(impl Abort + Alloc<A = Global>), repo: &mut Repository) -> Resu
     Ok(told)
 }
 
+fn append_all(
+    rt: &(impl Abort + Alloc<A = Global>),
+    repo: &mut Repository,
+) -> Result<(), AllocError> {
+    for payload in ["Babc", "B", "Bde"] {
+        let answer = append(rt, repo, payload.as_bytes())?;
+        assert!(rt; answer.is_ok());
+    }
+    Ok(())
+}
+
 #[test]
 fn records_are_listed_in_order(rt: HostRuntime) -> Result<(), Fail> {
     let mut repo = new_repository(rt.alloc(), None)?;
-    for payload in ["Babc", "B", "Bde"] {
-        assert!(rt; append(&rt, &mut repo, payload.as_bytes())?.is_ok());
-    }
+    append_all(&rt, &mut repo)?;
     let told = records(&rt, &mut repo)?;
     same(&rt, told.as_str(), " 21 4 30 1 36 3", "places and lengths");
     Ok(())
@@ -246,10 +285,14 @@ fn broken(
     let mut repo = new_repository(rt.alloc(), Some(fails))?;
     let told = appended(rt, &mut repo, b"Babc")?;
     assert!(rt; told.as_str().starts_with("Err(DiskFault) 17 "));
-    assert!(rt; repo.journal.is_broken());
-    assert_eq!(rt; repo.disk.faults(), 1);
+    check_broken(rt, &repo);
     assert_eq!(rt; read(rt, &mut repo, 0), Some(*b"BONSAI\x00\x01"));
     Ok(repo)
+}
+
+fn check_broken(rt: &impl Abort, repo: &Repository) {
+    assert!(rt; repo.journal.is_broken());
+    assert_eq!(rt; repo.disk.faults(), 1);
 }
 
 // Whether the file has the record, by fills, where this call of an append of `abc` fails.

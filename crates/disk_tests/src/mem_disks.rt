@@ -82,14 +82,19 @@ fn put_disk(out: &mut String, disk: &MemDisk) -> Result<(), Fail> {
     Ok(write!(out, " {} {writes} {syncs}", disk.faults())?)
 }
 
-// What the acts tell, the disk then, and what a crash leaves where the bytes that were written hold a dot.
+// What the acts tell, the disk then, and what a crash leaves.
 fn told(alloc: Global, mut disk: MemDisk, acts: &str) -> Result<String, Fail> {
     let mut out = String::new(alloc);
     put_acts(&mut out, &mut disk, acts)?;
     put_disk(&mut out, &disk)?;
-    let left = disk.crash(b'.');
-    put_disk(&mut out, &left)?;
+    put_left(&mut out, disk)?;
     Ok(out)
+}
+
+// What a crash leaves where the bytes that were written hold a dot.
+fn put_left(out: &mut String, disk: MemDisk) -> Result<(), Fail> {
+    let left = disk.crash(b'.');
+    put_disk(out, &left)
 }
 
 fn kind_of(word: &str) -> CallKind {
@@ -153,11 +158,14 @@ fn calls_and_crashes(rt: HostRuntime) -> Result<(), Fail> {
 // Five written bytes are too many, and so is a fourth turn.
 const RECORDED: &str = "0:abc moment 3:de moment 3:d moment sync moment sync moment";
 
+fn recording(alloc: Global) -> Result<MemDisk, AllocError> {
+    MemDisk::recording(alloc, 16, 3, 4, Vec::new(alloc))
+}
+
 #[test]
 fn a_record_has_its_room(rt: HostRuntime) -> Result<(), Fail> {
-    let alloc = rt.alloc();
-    let mut disk = MemDisk::recording(alloc, 16, 3, 4, Vec::new(alloc))?;
-    let mut out = String::new(alloc);
+    let mut disk = recording(rt.alloc())?;
+    let mut out = String::new(rt.alloc());
     put_acts(&mut out, &mut disk, RECORDED)?;
     put_disk(&mut out, &disk)?;
     same(&rt, out.as_str(), "+1-1+2+3-3 abcd 2 3 2", RECORDED);

@@ -30,15 +30,25 @@ struct Scan {
     scanner: Scanner,
 }
 
+fn disk_of(alloc: Global, file: &[u8]) -> Result<MemDisk, AllocError> {
+    MemDisk::holding(alloc, file, file.len() as u64, Vec::new(alloc))
+}
+
+fn scanner_of(alloc: Global, file: &[u8]) -> Result<Scanner, AllocError> {
+    Scanner::new(alloc, file.len() as u64)
+}
+
+fn scan_file(alloc: Global, file: &[u8]) -> Result<Scan, AllocError> {
+    let disk = disk_of(alloc, file)?;
+    let scanner = scanner_of(alloc, file)?;
+    Ok(Scan { disk, scanner })
+}
+
 // A scan of a file of this header and these bytes.
-fn scan_of(alloc: Global, bytes: &[u8]) -> Result<Scan, Fail> {
+fn scan_of(alloc: Global, bytes: &[u8]) -> Result<Scan, AllocError> {
     let mut file = Vec::from_slice(alloc, HEADER)?;
     file.extend_from_slice(bytes)?;
-    let size = file.len() as u64;
-    Ok(Scan {
-        disk: MemDisk::holding(alloc, &file, size, Vec::new(alloc))?,
-        scanner: Scanner::new(alloc, size)?,
-    })
+    scan_file(alloc, &file)
 }
 
 fn next(rt: &impl Abort, scan: &mut Scan) -> Option<Step> {
@@ -121,8 +131,8 @@ fn records(alloc: Global, count: u32, len: usize) -> Result<Vec<u8>, AllocError>
     Ok(bytes)
 }
 
-// How many records there are, and how many reads it took to go over their payloads.
-fn count_of(rt: &impl Abort, scan: &mut Scan, mark: u8) -> (u32, u64) {
+// How many records there are whose payloads begin so.
+fn count_of(rt: &impl Abort, scan: &mut Scan, mark: u8) -> u32 {
     let mut count = 0u32;
     for _ in 0..100_000 {
         let Some(Step::Record(span)) = next(rt, scan) else {
@@ -132,22 +142,30 @@ fn count_of(rt: &impl Abort, scan: &mut Scan, mark: u8) -> (u32, u64) {
             count = count.wrapping_add(1);
         }
     }
-    (count, scan.disk.calls(CallKind::Read))
+    count
+}
+
+// So many records are read in so many reads.
+fn check_count(
+    rt: &impl Abort,
+    alloc: Global,
+    count: u32,
+    len: usize,
+    reads: u64,
+) -> Result<(), Fail> {
+    let bytes = records(alloc, count, len)?;
+    let mut scan = scan_of(alloc, &bytes)?;
+    assert_eq!(rt; count_of(rt, &mut scan, b'B'), count);
+    assert_eq!(rt; scan.disk.calls(CallKind::Read), reads);
+    Ok(())
 }
 
 #[test]
 fn many_records_are_read_at_once(rt: HostRuntime) -> Result<(), Fail> {
-    for (count, len, reads) in [
-        // 9,000 bytes
-        (1_000, 4, 1),
-        // 225,000 bytes, in blocks of 65,536
-        (25_000, 4, 4),
-        // one payload past a block, and the gate behind it
-        (1, 70_000, 3),
-    ] {
-        let bytes = records(rt.alloc(), count, len)?;
-        let mut scan = scan_of(rt.alloc(), &bytes)?;
-        assert_eq!(rt; count_of(&rt, &mut scan, b'B'), (count, reads));
-    }
-    Ok(())
+    // 9,000 bytes
+    check_count(&rt, rt.alloc(), 1_000, 4, 1)?;
+    // 225,000 bytes, in blocks of 65,536
+    check_count(&rt, rt.alloc(), 25_000, 4, 4)?;
+    // one payload past a block, and the gate behind it
+    check_count(&rt, rt.alloc(), 1, 70_000, 3)
 }

@@ -2,6 +2,7 @@
 use crate::rows::{cut, numbers, same};
 use ports::{Link, MemLink, MemSink, MemSource, Pair};
 use std::alloc::{AllocError, Global};
+use std::process::Abort;
 use std::test::Fail;
 
 // How many bytes a read gives at most, the reads that fail, the room, the writes that fail, what is written, and what each
@@ -32,14 +33,22 @@ fn row_of(line: &str) -> Result<Row, Fail> {
     let (room, rest) = cut(rest);
     let (writes, rest) = cut(rest);
     let (written, told) = cut(rest);
+    let (piece, room) = (count(piece)?.max(1), count(room)?);
     Ok(Row {
-        piece: piece.parse::<usize>()?.max(1),
+        piece,
         reads,
-        room: room.parse()?,
+        room,
         writes,
         written,
         told,
     })
+}
+
+fn count(digits: &str) -> Result<usize, Fail> {
+    match digits.parse() {
+        Ok(count) => Ok(count),
+        Err(_) => Err(Fail::from("a number")),
+    }
 }
 
 fn put_read(out: &mut String, bytes: &[u8]) -> Result<(), AllocError> {
@@ -80,24 +89,29 @@ fn input(alloc: Global) -> Result<Vec<u8>, AllocError> {
 fn link_of(alloc: Global, row: &Row) -> Result<MemLink, AllocError> {
     let reads = numbers(alloc, row.reads)?;
     let writes = numbers(alloc, row.writes)?;
-    MemLink::new(
-        alloc,
-        input(alloc)?,
-        row.piece.max(1),
-        row.room,
-        reads,
-        writes,
-    )
+    let input = input(alloc)?;
+    let piece = row.piece.max(1);
+    MemLink::new(alloc, input, piece, row.room, reads, writes)
+}
+
+fn check_written(rt: &impl Abort, link: &MemLink, row: &Row, line: &str) -> Result<(), Fail> {
+    let written = str::from_utf8(link.written())?;
+    same(rt, written, row.written, line);
+    Ok(())
+}
+
+fn check_link(rt: &impl Abort, alloc: Global, line: &str) -> Result<(), Fail> {
+    let row = row_of(line)?;
+    let mut link = link_of(alloc, &row)?;
+    let told = rounds(alloc, &mut link)?;
+    same(rt, told.as_str(), row.told, line);
+    check_written(rt, &link, &row, line)
 }
 
 #[test]
 fn links_tell_what_they_hold_and_fail_as_told(rt: HostRuntime) -> Result<(), Fail> {
     for line in ROWS.lines() {
-        let row = row_of(line)?;
-        let mut link = link_of(rt.alloc(), &row)?;
-        let told = rounds(rt.alloc(), &mut link)?;
-        same(&rt, told.as_str(), row.told, line);
-        same(&rt, str::from_utf8(link.written())?, row.written, line);
+        check_link(&rt, rt.alloc(), line)?;
     }
     Ok(())
 }
@@ -111,14 +125,24 @@ fn sink_of(alloc: Global, row: &Row) -> Result<MemSink, AllocError> {
     MemSink::new(alloc, row.room, numbers(alloc, row.writes)?)
 }
 
+fn pair_of(alloc: Global, row: &Row) -> Result<Pair<MemSource, MemSink>, AllocError> {
+    let source = source_of(alloc, row)?;
+    let sink = sink_of(alloc, row)?;
+    Ok(Pair::new(source, sink))
+}
+
+fn check_pair(rt: &impl Abort, alloc: Global, line: &str) -> Result<(), Fail> {
+    let row = row_of(line)?;
+    let mut link = pair_of(alloc, &row)?;
+    let told = rounds(alloc, &mut link)?;
+    same(rt, told.as_str(), row.told, line);
+    Ok(())
+}
+
 #[test]
 fn a_source_and_a_sink_are_a_link(rt: HostRuntime) -> Result<(), Fail> {
     for line in ROWS.lines() {
-        let row = row_of(line)?;
-        let source = source_of(rt.alloc(), &row)?;
-        let mut link = Pair::new(source, sink_of(rt.alloc(), &row)?);
-        let told = rounds(rt.alloc(), &mut link)?;
-        same(&rt, told.as_str(), row.told, line);
+        check_pair(&rt, rt.alloc(), line)?;
     }
     Ok(())
 }

@@ -1,8 +1,12 @@
 //! Runs of threads, which end by themselves.
 ghost use Rattle.turn_history.specs.Opening.{unopened};
 
-use lock_clients::{Disk, Upload, all_at_once, two_at_once};
+use lock_clients::{Disk, Upload, Uploads, all_at_once, two_at_once};
+use std::alloc::{AllocError, Global};
+use std::process::Abort;
+use std::sync::Wait;
 use std::test::Fail;
+use std::thread::Threads;
 
 #[derive(Drop)]
 struct Written {
@@ -29,24 +33,39 @@ fn made_by(uploads: &[Upload], who: u64) -> (u64, u64) {
     (count, bytes)
 }
 
+fn check(rt: &impl Abort, uploads: &Uploads<Written>, who: u64, made: (u64, u64)) {
+    assert_eq!(rt; made_by(uploads.made(), who), made, "seat {who}");
+}
+
+fn by_two<R: Threads + Wait + Sync>(rt: &R, alloc: Global) -> Result<Uploads<Written>, AllocError> {
+    two_at_once(rt, alloc, Written { bytes: 0 }, 3, 5, 40)
+}
+
 #[test]
 fn two_threads_upload(rt: HostRuntime) -> Result<(), Fail> {
-    let uploads = two_at_once(&rt, rt.alloc(), Written { bytes: 0 }, 3, 5, 40)?;
+    let uploads = by_two(&rt, rt.alloc())?;
     assert_eq!(rt; uploads.made().len(), 80);
-    assert_eq!(rt; made_by(uploads.made(), 1), (40, 120));
-    assert_eq!(rt; made_by(uploads.made(), 2), (40, 200));
+    check(&rt, &uploads, 1, (40, 120));
+    check(&rt, &uploads, 2, (40, 200));
     Ok(())
+}
+
+fn by_eight<R: Threads + Wait + Sync>(
+    rt: &R,
+    alloc: Global,
+) -> Result<Uploads<Written>, AllocError> {
+    let sizes = [10, 20, 30, 40, 50, 60, 70, 80];
+    all_at_once(rt, alloc, Written { bytes: 0 }, &sizes, 25)
 }
 
 #[test]
 fn eight_threads_upload(rt: HostRuntime) -> Result<(), Fail> {
-    let sizes = [10, 20, 30, 40, 50, 60, 70, 80];
-    let uploads = all_at_once(&rt, rt.alloc(), Written { bytes: 0 }, &sizes, 25)?;
+    let uploads = by_eight(&rt, rt.alloc())?;
     assert_eq!(rt; uploads.made().len(), 200);
     for who in 1..=8 {
-        assert_eq!(rt; made_by(uploads.made(), who), (25, who * 250), "seat {who}");
+        check(&rt, &uploads, who, (25, who * 250));
     }
-    assert_eq!(rt; made_by(uploads.made(), 0), (0, 0));
-    assert_eq!(rt; made_by(uploads.made(), 9), (0, 0));
+    check(&rt, &uploads, 0, (0, 0));
+    check(&rt, &uploads, 9, (0, 0));
     Ok(())
 }
