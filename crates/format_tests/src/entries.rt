@@ -1,31 +1,44 @@
 //! Entries of a history, both ways.
+ghost use Rattle.std.specs.Prelude.{◌≤◌, ◌<◌, ◌^◌, length};
+ghost use Rattle.history_model.specs.History.{changesets_in};
+ghost use Rattle.history_model.specs.Journal.{IsPayload};
+ghost use Rattle.repo_events.specs.Entries.{body_of};
+
 use crate::bytes::{id_of_hex, of_hex};
 use crate::samples::{ABC, CHANGESET, CONTENT, DELETED, LANDING, MADE, MOVED, NEW, NO_HEADS, OLD};
 use object_id::Id;
-use repo_events::{Body, FRAME, decode_payload, encode_entry};
+use repo_events::{Body, FRAME, Landing, decode_payload, encode_entry};
 use std::alloc::Global;
 
+// The entry that a payload stands for.
+fn read(alloc: Global, payload: &str) -> Option<Body> {
+    decode_payload(alloc, &of_hex(alloc, payload)).ok()
+}
+
 fn is_content(alloc: Global, payload: &str, wanted: Id, wanted_length: u64) -> bool {
-    match &decode_payload(alloc, &of_hex(alloc, payload)) {
-        Ok(Body::Content { id, length }) => *id == wanted && *length == wanted_length,
-        Ok(_) | Err(_) => false,
+    let body = read(alloc, payload);
+    match &body {
+        Some(Body::Content { id, length }) => *id == wanted && *length == wanted_length,
+        Some(_) | None => false,
     }
 }
 
 fn is_changeset(alloc: Global, payload: &str, wanted: &str) -> bool {
-    match decode_payload(alloc, &of_hex(alloc, payload)) {
-        Ok(Body::Change(commit)) => commit.id() == id_of_hex(wanted),
-        Ok(_) | Err(_) => false,
+    let body = read(alloc, payload);
+    match &body {
+        Some(Body::Change(commit)) => commit.id() == id_of_hex(wanted),
+        Some(_) | None => false,
     }
 }
 
 // Whether it moves `main` between heads, of which an empty text is none.
 fn is_move(alloc: Global, payload: &str, from: &str, to: &str) -> bool {
-    match decode_payload(alloc, &of_hex(alloc, payload)) {
-        Ok(Body::Book(book)) => {
+    let body = read(alloc, payload);
+    match &body {
+        Some(Body::Book(book)) => {
             book.name.as_str() == "main" && book.from == head(from) && book.to == head(to)
         }
-        Ok(_) | Err(_) => false,
+        Some(_) | None => false,
     }
 }
 
@@ -33,17 +46,33 @@ fn head(text: &str) -> Option<Id> {
     Id::from_hex(text).ok()
 }
 
+fn lands(landing: &Landing, old: Id, new: Id) -> bool {
+    landing.name.as_str() == "main"
+        && landing.old == old
+        && landing.draft == new
+        && landing.new.len() == 1
+        && landing.new.iter().all(|commit| commit.id() == new)
+}
+
 fn is_landing(alloc: Global, payload: &str, old: Id, new: Id) -> bool {
-    match decode_payload(alloc, &of_hex(alloc, payload)) {
-        Ok(Body::Land(landing)) => {
-            landing.name.as_str() == "main"
-                && landing.old == old
-                && landing.draft == new
-                && landing.new.len() == 1
-                && landing.new.iter().all(|commit| commit.id() == new)
-        }
-        Ok(_) | Err(_) => false,
+    let body = read(alloc, payload);
+    match &body {
+        Some(Body::Land(landing)) => lands(landing, old, new),
+        Some(_) | None => false,
     }
+}
+
+// The frame of an entry that has this payload.
+fn frame_of(alloc: Global, body: &Body, bytes: &[u8]) -> Option<Vec<u8>>
+    requires short { length bytes.now ≤ 1_000_000 }
+    requires spelled { IsPayload (body_of body.now) bytes.now }
+    requires counted { length (changesets_in (body_of body.now)) < 2 ^ 16 }
+{
+    let content = match body {
+        Body::Content { id: _, length: _ } => bytes.get(1..)?,
+        Body::Change(_) | Body::Book(_) | Body::Land(_) => b"",
+    };
+    encode_entry(alloc, body, content).ok()
 }
 
 // The frame of the entry that a payload stands for.
@@ -52,11 +81,7 @@ fn frame(alloc: Global, bytes: &[u8]) -> Option<Vec<u8>> {
         return None;
     }
     let body = decode_payload(alloc, bytes).ok()?;
-    let content = match &body {
-        Body::Content { id: _, length: _ } => bytes.get(1..)?,
-        Body::Change(_) | Body::Book(_) | Body::Land(_) => b"",
-    };
-    encode_entry(alloc, &body, content).ok()
+    frame_of(alloc, &body, bytes)
 }
 
 // Whether a frame of an entry has its length in front, the payload and a closed gate.

@@ -54,8 +54,12 @@ fn wrong_front(alloc: Global, text: &str, starts: &[usize]) -> Option<usize> {
     None
 }
 
+fn changed_hex(alloc: Global, text: &str, at: usize, byte: u8) -> Option<Vec<u8>> {
+    changed(alloc, &of_hex(alloc, text), at, byte).ok()
+}
+
 fn place_in_changed(alloc: Global, text: &str, at: usize, byte: u8) -> Option<u64> {
-    let bytes = changed(alloc, &of_hex(alloc, text), at, byte).ok()?;
+    let bytes = changed_hex(alloc, text, at, byte)?;
     place(alloc, &bytes)
 }
 

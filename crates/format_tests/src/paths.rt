@@ -3,6 +3,7 @@ use crate::bytes::letters;
 use repo_path::{BookName, NameFault, PathFault, RepoPath, is_element};
 use std::alloc::{AllocError, Global};
 use std::cmp::Ordering;
+use std::process::Abort;
 
 fn place_in_path(alloc: Global, text: &str) -> Option<usize> {
     match RepoPath::parse(alloc, text) {
@@ -36,10 +37,18 @@ fn is_name(alloc: Global, text: &str) -> bool {
     }
 }
 
+fn path(alloc: Global, text: &str) -> Option<RepoPath> {
+    RepoPath::parse(alloc, text).ok()
+}
+
+fn name(alloc: Global, text: &str) -> Option<BookName> {
+    BookName::parse(alloc, text).ok()
+}
+
 // Their order, whether they are comparable, and whether the left one lies above.
 fn relation(alloc: Global, left: &str, right: &str) -> Option<(Ordering, bool, bool)> {
-    let left = RepoPath::parse(alloc, left).ok()?;
-    let right = RepoPath::parse(alloc, right).ok()?;
+    let left = path(alloc, left)?;
+    let right = path(alloc, right)?;
     Some((
         left.cmp(&right),
         left.comparable(&right),
@@ -48,8 +57,8 @@ fn relation(alloc: Global, left: &str, right: &str) -> Option<(Ordering, bool, b
 }
 
 fn order_of_names(alloc: Global, left: &str, right: &str) -> Option<Ordering> {
-    let left = BookName::parse(alloc, left).ok()?;
-    let right = BookName::parse(alloc, right).ok()?;
+    let left = name(alloc, left)?;
+    let right = name(alloc, right)?;
     Some(left.cmp(&right))
 }
 
@@ -97,33 +106,44 @@ fn faults_of_names(rt: HostRuntime) {
     }
 }
 
-#[test]
-fn longest_paths_and_names(rt: HostRuntime) -> Result<(), AllocError> {
-    let alloc = rt.alloc();
+fn is_name_of_letters(alloc: Global, count: usize) -> Result<bool, AllocError> {
+    let text = letters(alloc, count)?;
+    Ok(is_name(alloc, text.as_str()))
+}
+
+fn check_longest_path(rt: &impl Abort, alloc: Global) -> Result<(), AllocError> {
     let longest = longest_path(alloc)?;
     assert_eq!(rt; longest.len(), 4095);
     assert!(rt; is_path(alloc, longest.as_str()));
+    Ok(())
+}
+
+#[test]
+fn longest_paths_and_names(rt: HostRuntime) -> Result<(), AllocError> {
+    let alloc = rt.alloc();
+    check_longest_path(&rt, alloc)?;
     assert!(rt; is_path(alloc, "a"));
-    assert!(rt; is_name(alloc, letters(alloc, 128)?.as_str()));
+    assert!(rt; is_name_of_letters(alloc, 128)?);
     assert!(rt; is_name(alloc, "Z_9.-"));
     Ok(())
+}
+
+fn place_in_letters(alloc: Global, count: usize) -> Result<Option<usize>, AllocError> {
+    let text = letters(alloc, count)?;
+    Ok(place_in_path(alloc, text.as_str()))
+}
+
+fn place_in_name_of_letters(alloc: Global, count: usize) -> Result<Option<usize>, AllocError> {
+    let text = letters(alloc, count)?;
+    Ok(place_in_name(alloc, text.as_str()))
 }
 
 #[test]
 fn paths_and_names_that_are_too_long(rt: HostRuntime) -> Result<(), AllocError> {
     let alloc = rt.alloc();
-    assert_eq!(rt;
-        place_in_path(alloc, letters(alloc, 256)?.as_str()),
-        Some(0)
-    );
-    assert_eq!(rt;
-        place_in_path(alloc, letters(alloc, 4097)?.as_str()),
-        Some(4096)
-    );
-    assert_eq!(rt;
-        place_in_name(alloc, letters(alloc, 129)?.as_str()),
-        Some(128)
-    );
+    assert_eq!(rt; place_in_letters(alloc, 256)?, Some(0));
+    assert_eq!(rt; place_in_letters(alloc, 4097)?, Some(4096));
+    assert_eq!(rt; place_in_name_of_letters(alloc, 129)?, Some(128));
     Ok(())
 }
 

@@ -31,11 +31,16 @@ fn end_of(request: &Request) -> &'static str {
     }
 }
 
+fn put_request_line(out: &mut String, request: &Request) -> Result<(), Fail> {
+    let (method, target) = (request.method.as_str(), request.target.as_str());
+    Ok(write!(out, "{method} {target} ")?)
+}
+
 fn put_request(out: &mut String, request: &Request) -> Result<(), Fail> {
+    put_request_line(out, request)?;
     let (version, end) = (version_of(request), end_of(request));
     let body = str::from_utf8(request.body.as_slice())?;
-    let (method, target) = (request.method.as_str(), request.target.as_str());
-    Ok(writeln!(out, "{method} {target} {version} {end} {body}")?)
+    Ok(writeln!(out, "{version} {end} {body}")?)
 }
 
 fn put_refusal(out: &mut String, status: u16, code: HeadRefusal) -> Result<(), Fail> {
@@ -45,9 +50,13 @@ fn put_refusal(out: &mut String, status: u16, code: HeadRefusal) -> Result<(), F
     Ok(writeln!(out, "{status} {}", code.code())?)
 }
 
+fn next(alloc: Global, cutter: &mut Cutter) -> Next {
+    cutter.next(alloc)
+}
+
 // Adds a line of what stands first, if something does.
 fn put_next(alloc: Global, cutter: &mut Cutter, out: &mut String) -> Result<First, Fail> {
-    match cutter.next(alloc) {
+    match next(alloc, cutter) {
         Next::Message(request) => {
             put_request(out, &request)?;
             Ok(First::Request)
@@ -137,12 +146,16 @@ fn cut(line: &str) -> (&str, &str) {
     line.split_once(" | ").unwrap_or((line, ""))
 }
 
+fn check_line(rt: &impl Abort, alloc: Global, line: &str) -> Result<(), Fail> {
+    let (stream, wanted) = cut(line);
+    let stream = marked(alloc, stream)?;
+    let wanted = marked(alloc, wanted)?;
+    check(rt, alloc, stream.as_bytes(), wanted.as_str())
+}
+
 fn check_all(rt: &impl Abort, alloc: Global, rows: &str) -> Result<(), Fail> {
     for line in rows.lines() {
-        let (stream, wanted) = cut(line);
-        let stream = marked(alloc, stream)?;
-        let wanted = marked(alloc, wanted)?;
-        check(rt, alloc, stream.as_bytes(), wanted.as_str())?;
+        check_line(rt, alloc, line)?;
     }
     Ok(())
 }
@@ -236,13 +249,29 @@ fn put_repeated(
     put_marked(out, back)
 }
 
+fn count(digits: &str) -> Result<usize, Fail> {
+    Ok(digits.parse()?)
+}
+
+// A part so many times behind a front.
+fn repeated(
+    alloc: Global,
+    front: &str,
+    part: &str,
+    times: usize,
+    back: &str,
+) -> Result<String, AllocError> {
+    let mut stream = String::new(alloc);
+    put_repeated(&mut stream, front, part, times, back)?;
+    Ok(stream)
+}
+
 fn check_bound(rt: &impl Abort, alloc: Global, line: &str) -> Result<(), Fail> {
     let (front, rest) = cut(line);
     let (part, rest) = cut(rest);
     let (times, rest) = cut(rest);
     let (back, wanted) = cut(rest);
-    let mut stream = String::new(alloc);
-    put_repeated(&mut stream, front, part, times.parse()?, back)?;
+    let stream = repeated(alloc, front, part, count(times)?, back)?;
     let wanted = marked(alloc, wanted)?;
     check(rt, alloc, stream.as_bytes(), wanted.as_str())
 }
@@ -255,20 +284,27 @@ fn bounds(rt: HostRuntime) -> Result<(), Fail> {
     Ok(())
 }
 
+fn check_whole(rt: &impl Abort, alloc: Global, stream: &[u8]) -> Result<(), Fail> {
+    let lines = told(rt, alloc, stream, 65_536)?;
+    assert_eq!(rt; lines.len(), 1_048_605);
+    assert!(rt; lines.as_str().ends_with("cdef\n3 left"));
+    Ok(())
+}
+
+// The same without its last four bytes: the request is cut.
+fn check_cut(rt: &impl Abort, alloc: Global, stream: &[u8]) -> Result<(), Fail> {
+    let cut = stream.get(..1_048_622).ok_or("short")?;
+    let lines = told(rt, alloc, cut, 65_536)?;
+    assert_eq!(rt; lines.as_str(), "1048622 left");
+    Ok(())
+}
+
 #[test]
 fn longest_body(rt: HostRuntime) -> Result<(), Fail> {
     let front = "PUT /content HTTP/1.1^Content-Length: 1048576^^";
-    let mut stream = String::new(rt.alloc());
-    put_repeated(&mut stream, front, "0123456789abcdef", 65_536, "GET")?;
-    let lines = told(&rt, rt.alloc(), stream.as_bytes(), 65_536)?;
-    assert_eq!(rt; lines.len(), 1_048_605);
-    assert!(rt; lines.as_str().ends_with("cdef\n3 left"));
-
-    // The same without its last four bytes: the request is cut.
-    let cut = stream.as_bytes().get(..1_048_622).ok_or("short")?;
-    let lines = told(&rt, rt.alloc(), cut, 65_536)?;
-    assert_eq!(rt; lines.as_str(), "1048622 left");
-    Ok(())
+    let stream = repeated(rt.alloc(), front, "0123456789abcdef", 65_536, "GET")?;
+    check_whole(&rt, rt.alloc(), stream.as_bytes())?;
+    check_cut(&rt, rt.alloc(), stream.as_bytes())
 }
 
 #[test]

@@ -61,7 +61,22 @@ fn enter(alloc: Global, state: &mut RepoState<MemDisk>, rebased: Rebased) -> Res
     Ok(state.exchange(1, rebased))
 }
 
-// Plans to land the draft, has `main` moved to the root and from there to this head, and enters what was planned.
+// Moves `main` to the root and from there to this head, and enters what was planned.
+fn enter_after_moves(
+    alloc: Global,
+    state: &mut RepoState<MemDisk>,
+    main: &BookName,
+    last: &str,
+    rebased: Rebased,
+) -> Result<Exchanged, Fail>
+    requires { WasPlanned state.old.history rebased }
+{
+    move_main(alloc, state, main, HEAD, ROOT)?;
+    move_main(alloc, state, main, ROOT, last)?;
+    enter(alloc, state, rebased)
+}
+
+// Plans to land the draft, has `main` moved, and enters what was planned.
 fn land_between(
     alloc: Global,
     state: &mut RepoState<MemDisk>,
@@ -73,9 +88,7 @@ fn land_between(
         return Err(Fail::from("a plan"));
     };
     let rebased = plan.rebased(alloc)?;
-    move_main(alloc, state, main, HEAD, ROOT)?;
-    move_main(alloc, state, main, ROOT, last)?;
-    enter(alloc, state, rebased)
+    enter_after_moves(alloc, state, main, last, rebased)
 }
 
 // How many entries there are, and what was told.
@@ -89,13 +102,26 @@ fn told(alloc: Global, entries: u64, exchanged: &Exchanged) -> Result<String, Fa
     Ok(format!(in alloc; "{entries} {word} {id}")?)
 }
 
-fn attempt(alloc: Global, last: &str) -> Result<String, Fail> {
-    let main = BookName::parse(alloc, "main").ok().ok_or("a name")?;
-    let mut state = new_repository(alloc)?;
-    make_changes(alloc, &mut state, &main, CHANGES)?;
+fn main_name(alloc: Global) -> Result<BookName, Fail> {
+    Ok(BookName::parse(alloc, "main")?)
+}
+
+fn attempt_in(
+    alloc: Global,
+    state: &mut RepoState<MemDisk>,
+    main: &BookName,
+    last: &str,
+) -> Result<String, Fail> {
+    make_changes(alloc, state, main, CHANGES)?;
     let draft = id(DRAFT).ok_or("a draft")?;
-    let exchanged = land_between(alloc, &mut state, &main, draft, last)?;
+    let exchanged = land_between(alloc, state, main, draft, last)?;
     told(alloc, state.history_length(), &exchanged)
+}
+
+fn attempt(alloc: Global, last: &str) -> Result<String, Fail> {
+    let main = main_name(alloc)?;
+    let mut state = new_repository(alloc)?;
+    attempt_in(alloc, &mut state, &main, last)
 }
 
 fn check(rt: &(impl Abort + Alloc<A = Global>), last: &str, wanted: &str) -> Result<(), Fail> {

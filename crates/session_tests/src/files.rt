@@ -1,12 +1,13 @@
 //! Files of repositories, byte by byte, and what is reported of a file.
 use crate::program::{
-    Came, disk_of, link_of, made, run_line, run_on, run_without_file, same, status_of,
+    Came, INIT, disk_of, link_of, link_with_room, made, opener_of_none, run_line, run_on,
+    run_opener, status_of,
 };
-use crate::session::{bytes_of, cut, script_of};
+use crate::session::{asking, bytes_of, cut, played};
+use crate::stops::check_counted;
 use blob_disk::MemDisk;
 use file_commands::Status;
-use ports::MemLink;
-use std::alloc::Global;
+use std::alloc::{AllocError, Global};
 use std::process::Abort;
 use std::sync::Wait;
 use std::test::Fail;
@@ -46,57 +47,37 @@ GET /bookmark/main |  | 200 OK | {"code":"bookmark","head":"e8795b6f358309976a85
 fn served<R: Abort + Threads + Wait + Sync>(
     rt: &R,
     alloc: Global,
-    disk: Option<MemDisk>,
+    disk: MemDisk,
     lines: &str,
     size: usize,
-) -> Result<Option<MemDisk>, Fail> {
-    let script = script_of(alloc, lines)?;
-    let came = run_line(
-        rt,
-        alloc,
-        "hg_cli session repository",
-        script.link(alloc)?,
-        disk,
-    )?;
-    let wanted = (Status::Done, script.wanted.as_slice());
-    same(rt, (came.status, came.written.as_slice()), wanted, lines);
+) -> Result<MemDisk, Fail> {
+    let came = played(rt, alloc, disk, lines, Status::Done)?;
     assert_eq!(rt; came.file().len(), size);
-    Ok(came.disk)
+    came.left()
 }
 
-fn check_counted<R: Abort + Threads + Wait + Sync>(
+fn grown<R: Abort + Threads + Wait + Sync>(
     rt: &R,
     alloc: Global,
-    disk: Option<MemDisk>,
-    wanted: &[u8],
-) -> Result<(), Fail> {
-    let came = run_line(
-        rt,
-        alloc,
-        "hg_cli fsck repository",
-        link_of(alloc, b"")?,
-        disk,
-    )?;
-    let found = (came.status, came.written.as_slice());
-    same(rt, found, (Status::Done, wanted), "what is counted");
-    Ok(())
+    disk: MemDisk,
+) -> Result<MemDisk, Fail> {
+    let disk = served(rt, alloc, disk, FIRST, 26)?;
+    let disk = served(rt, alloc, disk, SECOND, 26)?;
+    let disk = served(rt, alloc, disk, THIRD, 57)?;
+    served(rt, alloc, disk, FOURTH, 394)
 }
 
 #[test]
 fn a_file_grows_by_its_records(rt: HostRuntime) -> Result<(), Fail> {
-    let alloc = rt.alloc();
-    let disk = made(&rt, alloc, 65_536)?;
-    let disk = served(&rt, alloc, disk, FIRST, 26)?;
-    let disk = served(&rt, alloc, disk, SECOND, 26)?;
-    let disk = served(&rt, alloc, disk, THIRD, 57)?;
-    let disk = served(&rt, alloc, disk, FOURTH, 394)?;
-    let counted = b"entries 5 contents 1 changesets 2 bookmarks 1 size 394\n";
-    check_counted(&rt, alloc, disk, counted)
+    let disk = made(&rt, rt.alloc(), INIT)?;
+    let disk = grown(&rt, rt.alloc(), disk)?;
+    let counted = "entries 5 contents 1 changesets 2 bookmarks 1 size 394\n";
+    check_counted(&rt, rt.alloc(), disk.bytes(), counted)
 }
 
 #[test]
 fn a_new_file_has_its_header_and_a_closed_gate(rt: HostRuntime) -> Result<(), Fail> {
-    let disk = made(&rt, rt.alloc(), 65_536)?.ok_or("a file")?;
+    let disk = made(&rt, rt.alloc(), INIT)?;
     let wanted = bytes_of(rt.alloc(), NEW)?;
     assert_eq!(rt; disk.bytes(), wanted.as_slice());
     Ok(())
@@ -128,7 +109,19 @@ fn line_of(command: &str) -> &'static str {
     }
 }
 
-// The command ends and writes so. The file stays, but where a repository is made in it.
+// A status and the line after it.
+fn ending(rest: &str) -> (&str, &str) {
+    let (status, line) = rest.split_once(" |").unwrap_or((rest, ""));
+    (status, line.strip_prefix(" ").unwrap_or(line))
+}
+
+// The command ends and writes so.
+fn check_came(rt: &impl Abort, came: &Came, status: Status, line: &str, row: &str) {
+    assert_eq!(rt; came.status, status, "{row}");
+    assert!(rt; is_line(came.written.as_slice(), line), "{row}");
+}
+
+// So does the command of a row. The file stays, but where a repository is made in it.
 fn check_reported<R: Abort + Threads + Wait + Sync>(
     rt: &R,
     alloc: Global,
@@ -136,14 +129,10 @@ fn check_reported<R: Abort + Threads + Wait + Sync>(
 ) -> Result<(), Fail> {
     let (command, rest) = cut(row);
     let (file, rest) = cut(rest);
-    let (status, line) = rest.split_once(" |").ok_or("a row")?;
+    let (status, line) = ending(rest);
     let file = bytes_of(alloc, file)?;
     let came = run_on(rt, alloc, line_of(command), file.as_slice())?;
-    assert_eq!(rt; came.status, status_of(status), "{row}");
-    assert!(rt;
-        is_line(came.written.as_slice(), line.trim_start()),
-        "{row}"
-    );
+    check_came(rt, &came, status_of(status), line, row);
     let made = command == "init" && status == "done";
     assert!(rt; made || came.file() == file.as_slice(), "{row}");
     Ok(())
@@ -171,9 +160,9 @@ fn came_without<R: Threads + Wait + Sync>(
     alloc: Global,
     command: &str,
 ) -> Result<Came, Fail> {
-    let room = MemDisk::new(alloc, 65_536, Vec::new(alloc))?;
     let link = link_of(alloc, b"GET / HTTP/1.1\r\n\r\n")?;
-    run_without_file(rt, alloc, line_of(command), link, room)
+    let opener = opener_of_none(alloc, disk_of(alloc, &[], None)?)?;
+    run_opener(rt, alloc, line_of(command), link, opener)
 }
 
 fn check_without<R: Abort + Threads + Wait + Sync>(
@@ -184,8 +173,7 @@ fn check_without<R: Abort + Threads + Wait + Sync>(
     text: &str,
 ) -> Result<(), Fail> {
     let came = came_without(rt, alloc, command)?;
-    let found = (came.status, came.written.as_slice());
-    same(rt, found, (status, text.as_bytes()), command);
+    came.check(rt, status, text.as_bytes(), command);
     assert_eq!(rt; came.disk.is_some(), status == Status::Done, "{command}");
     Ok(())
 }
@@ -201,37 +189,35 @@ fn a_file_that_is_not_there_is_made_by_init_alone(rt: HostRuntime) -> Result<(),
 // Counts a file where ten bytes can be written.
 fn cut_off<R: Threads + Wait + Sync>(rt: &R, alloc: Global, file: &str) -> Result<Came, Fail> {
     let file = bytes_of(alloc, file)?;
-    let none = Vec::new(alloc);
-    let link = MemLink::new(alloc, none, 1, 10, Vec::new(alloc), Vec::new(alloc))?;
-    let disk = disk_of(alloc, file.as_slice(), Vec::new(alloc))?;
-    run_line(rt, alloc, "hg_cli fsck repository", link, Some(disk))
+    let disk = disk_of(alloc, file.as_slice(), None)?;
+    let link = link_with_room(alloc, b"", 10)?;
+    run_line(rt, alloc, line_of("fsck"), link, Some(disk))
 }
 
 #[test]
 fn a_line_that_is_cut_off_is_a_stream_fault(rt: HostRuntime) -> Result<(), Fail> {
     let came = cut_off(&rt, rt.alloc(), WITH_CONTENT)?;
-    let found = (came.status, came.written.as_slice());
-    same(&rt, found, (Status::StreamFault, b"entries 1"), "a count");
+    came.check(&rt, Status::StreamFault, b"entries 1", "a count");
     let came = cut_off(&rt, rt.alloc(), "0x")?;
-    let found = (came.status, came.written.as_slice());
-    same(&rt, found, (Status::BadFile, b""), "no repository");
+    came.check(&rt, Status::BadFile, b"", "no repository");
     Ok(())
 }
 
-// Stores a content of so many bytes `a` in a repository of 4,096 bytes.
+// A request that stores a content of so many bytes `a`.
+fn upload(alloc: Global, length: usize) -> Result<Vec<u8>, AllocError> {
+    let content = vec![in alloc; b'a'; length]?;
+    let head = asking(alloc, "PUT /content", length)?;
+    let mut input = Vec::from_slice(alloc, head.as_bytes())?;
+    input.extend_from_slice(content.as_slice())?;
+    Ok(input)
+}
+
+// Stores it in a repository of 4,096 bytes.
 fn stored<R: Threads + Wait + Sync>(rt: &R, alloc: Global, length: usize) -> Result<Came, Fail> {
-    let mut input = Vec::new(alloc);
-    let head = format!(in alloc; "PUT /content HTTP/1.1\r\nContent-Length: {length}\r\n\r\n")?;
-    input.extend_from_slice(head.as_bytes())?;
-    input.extend_from_slice(vec![in alloc; b'a'; length]?.as_slice())?;
+    let input = upload(alloc, length)?;
     let link = link_of(alloc, input.as_slice())?;
-    run_line(
-        rt,
-        alloc,
-        "hg_cli session repository",
-        link,
-        made(rt, alloc, 4_096)?,
-    )
+    let disk = made(rt, alloc, line_of("init"))?;
+    run_line(rt, alloc, line_of("session"), link, Some(disk))
 }
 
 fn check_stored<R: Abort + Threads + Wait + Sync>(
@@ -245,7 +231,11 @@ fn check_stored<R: Abort + Threads + Wait + Sync>(
     let came = stored(rt, alloc, length)?;
     assert_eq!(rt; came.status, Status::Done);
     assert_eq!(rt; came.file().len(), size);
-    let text = str::from_utf8(came.written.as_slice())?;
+    check_text(rt, came.written.as_slice(), begins, ends)
+}
+
+fn check_text(rt: &impl Abort, written: &[u8], begins: &str, ends: &str) -> Result<(), Fail> {
+    let text = str::from_utf8(written)?;
     assert!(rt; text.starts_with(begins) && text.ends_with(ends), "{text}");
     Ok(())
 }
@@ -253,21 +243,9 @@ fn check_stored<R: Abort + Threads + Wait + Sync>(
 #[test]
 fn a_content_fits_to_the_last_byte(rt: HostRuntime) -> Result<(), Fail> {
     let alloc = rt.alloc();
-    check_stored(
-        &rt,
-        alloc,
-        4_073,
-        4_096,
-        "HTTP/1.1 200 OK\r\n",
-        ",\"size\":4073}",
-    )?;
+    let ok = "HTTP/1.1 200 OK\r\n";
+    check_stored(&rt, alloc, 4_073, 4_096, ok, ",\"size\":4073}")?;
+    let status = "HTTP/1.1 507 Insufficient Storage\r\n";
     let full = "{\"code\":\"full\",\"length\":4075,\"size\":17}";
-    check_stored(
-        &rt,
-        alloc,
-        4_074,
-        17,
-        "HTTP/1.1 507 Insufficient Storage\r\n",
-        full,
-    )
+    check_stored(&rt, alloc, 4_074, 17, status, full)
 }

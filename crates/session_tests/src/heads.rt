@@ -1,6 +1,6 @@
 //! Streams of requests: what is taken from them, what refuses a head, where it ends, and whether the session ends after
 //! it. Each line has a stream, how its session ends, and its responses.
-use crate::program::{same, status_of};
+use crate::program::{size, status_of};
 use crate::session::{cut, put_responses, put_stream, session};
 use std::alloc::Global;
 use std::process::Abort;
@@ -76,8 +76,7 @@ fn check<R: Abort + Threads + Wait + Sync>(
     let came = session(rt, alloc, stream, piece, &[], &[])?;
     let mut wanted = Vec::new(alloc);
     put_responses(alloc, &mut wanted, responses)?;
-    let found = (came.status, came.written.as_slice());
-    same(rt, found, (status_of(end), wanted.as_slice()), responses);
+    came.check(rt, status_of(end), wanted.as_slice(), responses);
     Ok(())
 }
 
@@ -140,7 +139,7 @@ fn check_bound<R: Abort + Threads + Wait + Sync>(
     let (times, rest) = cut(rest);
     let (back, rest) = cut(rest);
     let (end, responses) = cut(rest);
-    let stream = repeated(alloc, front, part, times.parse()?, back)?;
+    let stream = repeated(alloc, front, part, size(times)?, back)?;
     check(rt, alloc, stream.as_slice(), end, responses, 65_536)
 }
 

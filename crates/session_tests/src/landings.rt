@@ -1,8 +1,9 @@
 //! Sessions that land a stack, on a disk that fails: whole or not at all.
-use crate::program::{run_on, same};
+use crate::program::{Failing, INIT, made, number};
 use crate::session::cut;
 use crate::stops::{
-    Failing, calls_of_opening, check_opening, ended, failing_of, kind_of, left, new_file,
+    calls_of_opening, check_counted, check_opening, crashed, ended, failing_of, file_after,
+    fill_of, kind_of, left,
 };
 use blob_disk::{CallKind, MemDisk};
 use file_commands::Status;
@@ -121,10 +122,9 @@ fn check_entries<R: Abort + Threads + Wait + Sync>(
 ) -> Result<(), Fail> {
     let (counted, _reads) = cut(row_at(AFTER, entries));
     let line = format!(in alloc; "{counted}\n")?;
-    let came = run_on(rt, alloc, "hg_cli fsck repository", file)?;
-    let found = (came.status, came.written.as_slice());
-    same(rt, found, (Status::Done, line.as_bytes()), counted);
-    let _read = left(rt, alloc, file, reads_of(alloc, entries)?.as_str())?;
+    check_counted(rt, alloc, file, line.as_str())?;
+    let reads = reads_of(alloc, entries)?;
+    let _read = left(rt, alloc, file, reads.as_str())?;
     Ok(())
 }
 
@@ -165,7 +165,7 @@ fn land<R: Abort + Threads + Wait + Sync>(
 fn left_by(disk: MemDisk, way: &str) -> Result<MemDisk, Fail> {
     match way {
         "read" => Ok(disk),
-        fill => Ok(disk.crash(fill.parse()?)),
+        fill => Ok(disk.crash(fill_of(fill)?)),
     }
 }
 
@@ -184,10 +184,9 @@ fn check_stop<R: Abort + Threads + Wait + Sync>(
 
 #[test]
 fn a_landing_that_is_stopped_is_whole_or_not_there(rt: HostRuntime) -> Result<(), Fail> {
-    let alloc = rt.alloc();
-    let file = left(&rt, alloc, new_file(&rt, alloc)?.bytes(), BEFORE)?;
+    let file = file_after(&rt, rt.alloc(), BEFORE)?;
     for row in STOPS.lines() {
-        check_stop(&rt, alloc, file.bytes(), row)?;
+        check_stop(&rt, rt.alloc(), file.bytes(), row)?;
     }
     Ok(())
 }
@@ -208,23 +207,39 @@ fn answer_of(answer: &str, number: u64, failing: u64) -> &str {
     }
 }
 
+// The line of a change where the one with the number `failing` meets the fault.
+fn change(alloc: Global, row: &str, number: u64, failing: u64) -> Result<String, AllocError> {
+    let (request, rest) = cut(row);
+    let (body, answer) = cut(rest);
+    let answer = answer_of(answer, number, failing);
+    format!(in alloc; "{request} | {body} | {answer}\n")
+}
+
+fn put_story(alloc: Global, out: &mut String, rows: &str, failing: u64) -> Result<(), AllocError> {
+    let mut number = 0_u64;
+    for row in rows.lines() {
+        out.push_str(change(alloc, row, number, failing)?.as_str())?;
+        number = number.saturating_add(1);
+    }
+    Ok(())
+}
+
 // All changes where the one with this number meets the fault. Then reads.
 fn stopped_story(alloc: Global, failing: u64) -> Result<String, AllocError> {
     let mut lines = String::new(alloc);
-    let mut number = 0_u64;
-    for row in story(alloc)?.as_str().lines() {
-        let (request, rest) = cut(row);
-        let (body, answer) = cut(rest);
-        let answer = answer_of(answer, number, failing);
-        lines.push_str(format!(in alloc; "{request} | {body} | {answer}\n")?.as_str())?;
-        number = number.saturating_add(1);
-    }
+    put_story(alloc, &mut lines, story(alloc)?.as_str(), failing)?;
     lines.push_str(reads_of(alloc, failing)?.as_str())?;
     Ok(lines)
 }
 
-// Runs the story on a new file where this call fails, the nth of its kind after opening, and crashes. Two calls of a kind
-// are of one change, and the second is of its gate: the change is in the file where the crash writes 1 over that.
+// How many entries the file has after that, when it crashes and `fill` is where nothing is sure. Two calls of a kind are
+// of one change, and the second is of its gate: the change is in the file where the crash writes 1 over that.
+fn entries_of(nth: u64, fill: u8) -> u64 {
+    let opened = fill == 1 && nth % 2 == 1;
+    (nth / 2).saturating_add(u64::from(opened))
+}
+
+// Runs the story on a new file where this call fails, the nth of its kind after opening, and crashes.
 fn check_change<R: Abort + Threads + Wait + Sync>(
     rt: &R,
     alloc: Global,
@@ -235,10 +250,38 @@ fn check_change<R: Abort + Threads + Wait + Sync>(
 ) -> Result<(), Fail> {
     let lines = stopped_story(alloc, nth / 2)?;
     let lines = lines.as_str();
-    let disk = ended(rt, alloc, file, Some(call), lines, Status::DiskFault)?;
-    let opened = fill == 1 && nth % 2 == 1;
-    let entries = (nth / 2).saturating_add(u64::from(opened));
-    check_entries(rt, alloc, disk.crash(fill).bytes(), entries)
+    let disk = crashed(rt, alloc, file, Some(call), lines, Status::DiskFault, fill)?;
+    check_entries(rt, alloc, disk.bytes(), entries_of(nth, fill))
+}
+
+fn check_changes<R: Abort + Threads + Wait + Sync>(
+    rt: &R,
+    alloc: Global,
+    file: &[u8],
+    kind: CallKind,
+    opening: u64,
+    later: u64,
+) -> Result<(), Fail> {
+    for nth in 0..later {
+        let call = (kind, opening.saturating_add(nth));
+        check_change(rt, alloc, file, call, nth, 0)?;
+        check_change(rt, alloc, file, call, nth, 1)?;
+        check_change(rt, alloc, file, call, nth, 88)?;
+    }
+    Ok(())
+}
+
+// How many calls of a kind the whole story makes on a new file, with those of opening. All changes are in it then.
+fn calls_of_story<R: Abort + Threads + Wait + Sync>(
+    rt: &R,
+    alloc: Global,
+    file: &[u8],
+    kind: CallKind,
+) -> Result<u64, Fail> {
+    let lines = story(alloc)?;
+    let disk = ended(rt, alloc, file, None, lines.as_str(), Status::Done)?;
+    check_entries(rt, alloc, disk.bytes(), 8)?;
+    Ok(disk.calls(kind))
 }
 
 // The calls of a kind in the whole story, on a new file, are so many of opening and so many of changes.
@@ -250,39 +293,34 @@ fn check_calls<R: Abort + Threads + Wait + Sync>(
     opening: u64,
     later: u64,
 ) -> Result<(), Fail> {
-    assert_eq!(rt; calls_of_opening(rt, alloc, file, kind)?, opening);
-    let lines = story(alloc)?;
-    let disk = ended(rt, alloc, file, None, lines.as_str(), Status::Done)?;
-    assert_eq!(rt; disk.calls(kind), opening.saturating_add(later));
-    check_entries(rt, alloc, disk.bytes(), 8)
+    let found = calls_of_opening(rt, alloc, file, kind)?;
+    assert_eq!(rt; found, opening);
+    let found = calls_of_story(rt, alloc, file, kind)?;
+    assert_eq!(rt; found, opening.saturating_add(later));
+    Ok(())
 }
 
 fn check_kind<R: Abort + Threads + Wait + Sync>(
     rt: &R,
     alloc: Global,
+    file: &[u8],
     row: &str,
 ) -> Result<(), Fail> {
     let (word, rest) = cut(row);
     let (opening, later) = cut(rest);
-    let (kind, opening, later) = (kind_of(word)?, opening.parse()?, later.parse()?);
-    let file = new_file(rt, alloc)?;
-    check_calls(rt, alloc, file.bytes(), kind, opening, later)?;
+    let (kind, opening, later) = (kind_of(word)?, number(opening)?, number(later)?);
+    check_calls(rt, alloc, file, kind, opening, later)?;
     for number in 0..opening {
         check_opening(rt, alloc, (kind, number))?;
     }
-    for nth in 0..later {
-        let call = (kind, opening.saturating_add(nth));
-        for fill in [0, 1, 88] {
-            check_change(rt, alloc, file.bytes(), call, nth, fill)?;
-        }
-    }
-    Ok(())
+    check_changes(rt, alloc, file, kind, opening, later)
 }
 
 #[test]
 fn a_call_that_fails_ends_the_changes_and_keeps_those_before(rt: HostRuntime) -> Result<(), Fail> {
+    let file = made(&rt, rt.alloc(), INIT)?;
     for row in CALLS.lines() {
-        check_kind(&rt, rt.alloc(), row)?;
+        check_kind(&rt, rt.alloc(), file.bytes(), row)?;
     }
     Ok(())
 }

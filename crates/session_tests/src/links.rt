@@ -1,13 +1,11 @@
 //! Links: calls that fail, and an input that doesn't end.
 ghost use Rattle.std.specs.Prelude.{None};
 
-use crate::program::{made, no_links, opener_of, same, words};
+use crate::program::{Came, INIT, made, number, opener_of, size, status_with};
 use crate::session::{cut, script_of, session};
-use command_line::run;
 use file_commands::Status;
-use ports::{Failed, Link, NoGate, ZeroBytes};
+use ports::{Failed, Link};
 use std::alloc::Global;
-use std::hash::RandomState;
 use std::process::Abort;
 use std::sync::Wait;
 use std::test::Fail;
@@ -37,24 +35,43 @@ const FAILING: &str = "\
 // No call of the whole session has these numbers.
 const SPARED: &str = "40 | 6 | 2 | 268";
 
-// Where this read and this write fail, the session ends so, and so many bytes of the responses went out.
+// Runs the script where this read and this write fail.
+fn failing<R: Threads + Wait + Sync>(
+    rt: &R,
+    alloc: Global,
+    input: &[u8],
+    row: &str,
+) -> Result<Came, Fail> {
+    let (piece, rest) = cut(row);
+    let (read, rest) = cut(rest);
+    let (write, _length) = cut(rest);
+    let (reads, writes) = ([number(read)?], [number(write)?]);
+    session(rt, alloc, input, size(piece)?, &reads, &writes)
+}
+
+// Of the responses so many bytes went out as a row's last field says.
+fn check_front(
+    rt: &impl Abort,
+    came: &Came,
+    status: Status,
+    responses: &[u8],
+    row: &str,
+) -> Result<(), Fail> {
+    let (_calls, length) = row.rsplit_once(" | ").ok_or("a length")?;
+    let front = responses.get(..size(length)?).ok_or("a length")?;
+    came.check(rt, status, front, row);
+    Ok(())
+}
+
 fn check_failing<R: Abort + Threads + Wait + Sync>(
     rt: &R,
     alloc: Global,
     row: &str,
     status: Status,
 ) -> Result<(), Fail> {
-    let (piece, rest) = cut(row);
-    let (read, rest) = cut(rest);
-    let (write, length) = cut(rest);
-    let (reads, writes) = ([read.parse()?], [write.parse()?]);
     let script = script_of(alloc, SCRIPT)?;
-    let input = script.input.as_slice();
-    let came = session(rt, alloc, input, piece.parse()?, &reads, &writes)?;
-    let front = script.wanted.as_slice().get(..length.parse()?);
-    let wanted = (status, front.ok_or("a length")?);
-    same(rt, (came.status, came.written.as_slice()), wanted, row);
-    Ok(())
+    let came = failing(rt, alloc, script.input.as_slice(), row)?;
+    check_front(rt, &came, status, script.wanted.as_slice(), row)
 }
 
 #[test]
@@ -99,19 +116,8 @@ fn served<R: Threads + Wait + Sync>(
     alloc: Global,
     link: &mut LineEnds,
 ) -> Result<Status, Fail> {
-    let mut opener = opener_of(alloc, made(rt, alloc, 65_536)?)?;
-    let words = words(alloc, "hg_cli session repository")?;
-    let ran = run(
-        rt,
-        alloc,
-        RandomState::new(&ZeroBytes)?,
-        words.as_slice(),
-        link,
-        &mut opener,
-        no_links(alloc),
-        &NoGate,
-    );
-    Ok(ran.status)
+    let mut opener = opener_of(alloc, Some(made(rt, alloc, INIT)?))?;
+    status_with(rt, alloc, "hg_cli session repository", link, &mut opener)
 }
 
 #[test]

@@ -1,31 +1,19 @@
 //! Sessions over memory, as scripts have them.
-use crate::program::{link_of, made, run_line};
+use crate::program::{Came, INIT, link_of, made, run_line};
+use blob_disk::MemDisk;
 use file_commands::Status;
 use ports::MemLink;
-use std::alloc::Global;
+use std::alloc::{AllocError, Global};
+use std::process::Abort;
 use std::sync::Wait;
 use std::test::Fail;
 use std::thread::Threads;
-
-/// What a session came to and wrote.
-#[derive(Drop)]
-pub(crate) struct Outcome {
-    pub(crate) status: Status,
-    pub(crate) written: Vec<u8>,
-}
 
 /// What a session reads, and what it has to write.
 #[derive(Drop)]
 pub(crate) struct Script {
     pub(crate) input: Vec<u8>,
     pub(crate) wanted: Vec<u8>,
-}
-
-impl Script {
-    /// A link with the input.
-    pub(crate) fn link(&self, alloc: Global) -> Result<MemLink, Fail> {
-        link_of(alloc, self.input.as_slice())
-    }
 }
 
 /// The first field of a script's line, and those after it.
@@ -56,20 +44,21 @@ pub(crate) fn session<R: Threads + Wait + Sync>(
     piece: usize,
     reads: &[u64],
     writes: &[u64],
-) -> Result<Outcome, Fail> {
+) -> Result<Came, Fail> {
     let link = failing_link(alloc, input, piece, reads, writes)?;
-    let disk = made(rt, alloc, 65_536)?;
-    let came = run_line(rt, alloc, "hg_cli session repository", link, disk)?;
-    Ok(Outcome {
-        status: came.status,
-        written: came.written,
-    })
+    let disk = made(rt, alloc, INIT)?;
+    run_line(rt, alloc, "hg_cli session repository", link, Some(disk))
+}
+
+fn put_hex(alloc: Global, out: &mut Vec<u8>, digits: &str) -> Result<(), Fail> {
+    let bytes = hex::decode(alloc, digits)?;
+    Ok(out.extend_from_slice(bytes.as_slice())?)
 }
 
 /// Puts bytes: in hex after `0x`, or a text as it is.
 pub(crate) fn put_bytes(alloc: Global, out: &mut Vec<u8>, text: &str) -> Result<(), Fail> {
     match text.strip_prefix("0x") {
-        Some(digits) => Ok(out.extend_from_slice(hex::decode(alloc, digits)?.as_slice())?),
+        Some(digits) => put_hex(alloc, out, digits),
         None => Ok(out.extend_from_slice(text.as_bytes())?),
     }
 }
@@ -89,22 +78,19 @@ fn kind_of(text: &str) -> &'static str {
     }
 }
 
-// The head of a response, which has a header field more unless it is `-`.
-fn head_of(
-    alloc: Global,
-    status: &str,
-    kind: &str,
-    length: usize,
-    field: &str,
-) -> Result<String, Fail> {
-    if field == "-" || field.is_empty() {
-        return Ok(format!(in alloc;
-            "HTTP/1.1 {status}\r\nContent-Type: application/{kind}\r\nContent-Length: {length}\r\n\r\n"
-        )?);
+// The end of a head, which has this header field more unless it is `-`.
+fn put_field(out: &mut Vec<u8>, field: &str) -> Result<(), AllocError> {
+    if field != "-" && !field.is_empty() {
+        out.extend_from_slice(field.as_bytes())?;
+        out.extend_from_slice(b"\r\n")?;
     }
-    Ok(format!(in alloc;
-        "HTTP/1.1 {status}\r\nContent-Type: application/{kind}\r\nContent-Length: {length}\r\n{field}\r\n\r\n"
-    )?)
+    out.extend_from_slice(b"\r\n")
+}
+
+fn head_of(alloc: Global, status: &str, kind: &str, length: usize) -> Result<String, AllocError> {
+    format!(in alloc;
+        "HTTP/1.1 {status}\r\nContent-Type: application/{kind}\r\nContent-Length: {length}\r\n"
+    )
 }
 
 // A response with this body, or after `!` its head alone.
@@ -117,18 +103,23 @@ fn put_response(
 ) -> Result<(), Fail> {
     let text = answer.strip_prefix("!").unwrap_or(answer);
     let body = bytes_of(alloc, text)?;
-    let head = head_of(alloc, status, kind_of(text), body.len(), field)?;
+    let head = head_of(alloc, status, kind_of(text), body.len())?;
     out.extend_from_slice(head.as_bytes())?;
+    put_field(out, field)?;
     if !answer.starts_with("!") {
         out.extend_from_slice(body.as_slice())?;
     }
     Ok(())
 }
 
+/// The head of a request whose body has this length.
+pub(crate) fn asking(alloc: Global, request: &str, length: usize) -> Result<String, AllocError> {
+    format!(in alloc; "{request} HTTP/1.1\r\nContent-Length: {length}\r\n\r\n")
+}
+
 fn put_request(alloc: Global, out: &mut Vec<u8>, request: &str, text: &str) -> Result<(), Fail> {
     let body = bytes_of(alloc, text)?;
-    let length = body.len();
-    let head = format!(in alloc; "{request} HTTP/1.1\r\nContent-Length: {length}\r\n\r\n")?;
+    let head = asking(alloc, request, body.len())?;
     out.extend_from_slice(head.as_bytes())?;
     Ok(out.extend_from_slice(body.as_slice())?)
 }
@@ -155,18 +146,40 @@ pub(crate) fn script_of(alloc: Global, lines: &str) -> Result<Script, Fail> {
     Ok(script)
 }
 
+/// Runs a session of this script on the disk, which ends so and writes the responses.
+pub(crate) fn played<R: Abort + Threads + Wait + Sync>(
+    rt: &R,
+    alloc: Global,
+    disk: MemDisk,
+    lines: &str,
+    status: Status,
+) -> Result<Came, Fail> {
+    let script = script_of(alloc, lines)?;
+    let link = link_of(alloc, script.input.as_slice())?;
+    let came = run_line(rt, alloc, "hg_cli session repository", link, Some(disk))?;
+    came.check(rt, status, script.wanted.as_slice(), lines);
+    Ok(came)
+}
+
 /// The bytes of a stream as a script has it: `~` for CR LF, `^` for LF, `\`` for CR and `#` for a tab.
 pub(crate) fn put_stream(out: &mut Vec<u8>, text: &str) -> Result<(), Fail> {
     for byte in text.as_bytes() {
-        match *byte {
-            b'~' => out.extend_from_slice(b"\r\n")?,
-            b'^' => out.push(b'\n')?,
-            b'`' => out.push(b'\r')?,
-            b'#' => out.push(b'\t')?,
-            other => out.push(other)?,
+        if *byte == b'~' {
+            out.push(b'\r')?;
         }
+        out.push(spelled(*byte))?;
     }
     Ok(())
+}
+
+// The last byte that a stream's character stands for.
+fn spelled(byte: u8) -> u8 {
+    match byte {
+        b'~' | b'^' => b'\n',
+        b'`' => b'\r',
+        b'#' => b'\t',
+        other => other,
+    }
 }
 
 /// The responses that are fields of a script's line, three each.

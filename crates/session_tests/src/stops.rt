@@ -1,9 +1,9 @@
 //! Disks that fail, and crashes.
-use crate::program::{Came, disk_of, link_of, made, run_line, run_on, same};
-use crate::session::{cut, script_of};
+use crate::program::{Failing, INIT, disk_of, link_of, made, number, run_line, run_on, same_bytes};
+use crate::session::{cut, played};
 use blob_disk::{CallKind, MemDisk};
 use file_commands::Status;
-use std::alloc::{AllocError, Global};
+use std::alloc::Global;
 use std::process::Abort;
 use std::sync::Wait;
 use std::test::Fail;
@@ -27,17 +27,6 @@ const UNREAD: &str =
     r#"GET /content/ba7816bf8f01cfea414140de5dae2223b00361a396177a9cb410ff61f20015ad |  | 500 Internal Server Error | {"code":"read-fault"}
 GET /content/ba7816bf8f01cfea414140de5dae2223b00361a396177a9cb410ff61f20015ad |  | 200 OK | 0x616263"#;
 
-/// A call that is to fail: the kind and which one of it. No call fails for `None`.
-pub(crate) type Failing = Option<(CallKind, u64)>;
-
-fn failing_disk(alloc: Global, file: &[u8], failing: Failing) -> Result<MemDisk, AllocError> {
-    let mut calls = Vec::new(alloc);
-    if let Some(call) = failing {
-        calls.push(call)?;
-    }
-    disk_of(alloc, file, calls)
-}
-
 /// Runs a session of this script on a file of these bytes, and gives the disk as the session leaves it.
 pub(crate) fn ended<R: Abort + Threads + Wait + Sync>(
     rt: &R,
@@ -47,22 +36,12 @@ pub(crate) fn ended<R: Abort + Threads + Wait + Sync>(
     lines: &str,
     status: Status,
 ) -> Result<MemDisk, Fail> {
-    let script = script_of(alloc, lines)?;
-    let disk = failing_disk(alloc, file, failing)?;
-    let came = run_line(
-        rt,
-        alloc,
-        "hg_cli session repository",
-        script.link(alloc)?,
-        Some(disk),
-    )?;
-    let found = (came.status, came.written.as_slice());
-    same(rt, found, (status, script.wanted.as_slice()), lines);
-    Ok(came.disk.ok_or("a file")?)
+    let disk = disk_of(alloc, file, failing)?;
+    played(rt, alloc, disk, lines, status)?.left()
 }
 
-// The same, as a crash leaves the file that writes `fill` where nothing is sure.
-fn crashed<R: Abort + Threads + Wait + Sync>(
+/// The same, as a crash leaves the file that writes `fill` where nothing is sure.
+pub(crate) fn crashed<R: Abort + Threads + Wait + Sync>(
     rt: &R,
     alloc: Global,
     file: &[u8],
@@ -84,9 +63,26 @@ pub(crate) fn left<R: Abort + Threads + Wait + Sync>(
     crashed(rt, alloc, file, None, lines, Status::Done, 0)
 }
 
-/// The file of a new repository.
-pub(crate) fn new_file<R: Threads + Wait + Sync>(rt: &R, alloc: Global) -> Result<MemDisk, Fail> {
-    Ok(made(rt, alloc, 65_536)?.ok_or("a file")?)
+/// What a session of this script leaves of the file of a new repository.
+pub(crate) fn file_after<R: Abort + Threads + Wait + Sync>(
+    rt: &R,
+    alloc: Global,
+    lines: &str,
+) -> Result<MemDisk, Fail> {
+    let file = made(rt, alloc, INIT)?;
+    left(rt, alloc, file.bytes(), lines)
+}
+
+/// The file is counted, and this line is written of it.
+pub(crate) fn check_counted<R: Abort + Threads + Wait + Sync>(
+    rt: &R,
+    alloc: Global,
+    file: &[u8],
+    line: &str,
+) -> Result<(), Fail> {
+    let came = run_on(rt, alloc, "hg_cli fsck repository", file)?;
+    came.check(rt, Status::Done, line.as_bytes(), line);
+    Ok(())
 }
 
 /// The kind of call that a row's word stands for.
@@ -100,10 +96,15 @@ pub(crate) fn kind_of(word: &str) -> Result<CallKind, Fail> {
     }
 }
 
+/// The byte that a crash writes where nothing is sure.
+pub(crate) fn fill_of(text: &str) -> Result<u8, Fail> {
+    Ok(text.parse()?)
+}
+
 /// The call `KIND N`, or none for `-`.
 pub(crate) fn failing_of(text: &str) -> Result<Failing, Fail> {
     match text.split_once(" ") {
-        Some((word, number)) => Ok(Some((kind_of(word)?, number.parse()?))),
+        Some((word, text)) => Ok(Some((kind_of(word)?, number(text)?))),
         None => Ok(None),
     }
 }
@@ -127,19 +128,27 @@ const NEW: &str = "entries 1 contents 1 changesets 0 bookmarks 0 size 26\n";
 
 const FAILED: &str = r#"PUT /content | abc | 500 Internal Server Error | {"code":"disk-fault"}"#;
 
-// What an upload leaves of a new repository.
+// What an upload leaves of a new repository where this call fails.
 fn stopped<R: Abort + Threads + Wait + Sync>(
     rt: &R,
     alloc: Global,
-    failing: Failing,
+    failing: &str,
     fill: u8,
 ) -> Result<MemDisk, Fail> {
-    let file = new_file(rt, alloc)?;
+    let file = made(rt, alloc, INIT)?;
     let (lines, status) = match failing {
-        Some(_) => (FAILED, Status::DiskFault),
-        None => (PUT, Status::Done),
+        "-" => (PUT, Status::Done),
+        _ => (FAILED, Status::DiskFault),
     };
-    crashed(rt, alloc, file.bytes(), failing, lines, status, fill)
+    crashed(
+        rt,
+        alloc,
+        file.bytes(),
+        failing_of(failing)?,
+        lines,
+        status,
+        fill,
+    )
 }
 
 fn check_stop<R: Abort + Threads + Wait + Sync>(
@@ -149,12 +158,9 @@ fn check_stop<R: Abort + Threads + Wait + Sync>(
 ) -> Result<(), Fail> {
     let (failing, rest) = cut(row);
     let (fill, contents) = cut(rest);
-    let left = stopped(rt, alloc, failing_of(failing)?, fill.parse()?)?;
-    let counted = run_on(rt, alloc, "hg_cli fsck repository", left.bytes())?;
-    let wanted = if contents == "0" { OLD } else { NEW };
-    let found = (counted.status, counted.written.as_slice());
-    same(rt, found, (Status::Done, wanted.as_bytes()), row);
-    Ok(())
+    let left = stopped(rt, alloc, failing, fill_of(fill)?)?;
+    let counted = if contents == "0" { OLD } else { NEW };
+    check_counted(rt, alloc, left.bytes(), counted)
 }
 
 #[test]
@@ -173,11 +179,23 @@ pub(crate) fn calls_of_opening<R: Threads + Wait + Sync>(
     kind: CallKind,
 ) -> Result<u64, Fail> {
     let came = run_on(rt, alloc, "hg_cli fsck repository", file)?;
-    Ok(came.disk.ok_or("a file")?.calls(kind))
+    Ok(came.left()?.calls(kind))
 }
 
-// Runs the script on a file that a session of another one left, where the first call of this kind after opening fails.
-// Once the file is opened again, it takes changes.
+// Runs the script on a file where the first call of this kind after opening fails.
+fn faulted<R: Abort + Threads + Wait + Sync>(
+    rt: &R,
+    alloc: Global,
+    file: &[u8],
+    kind: CallKind,
+    lines: &str,
+    status: Status,
+) -> Result<MemDisk, Fail> {
+    let call = (kind, calls_of_opening(rt, alloc, file, kind)?);
+    crashed(rt, alloc, file, Some(call), lines, status, 0)
+}
+
+// The same on a file that a session of another script left. Once the file is opened again, it takes changes.
 fn check_fault<R: Abort + Threads + Wait + Sync>(
     rt: &R,
     alloc: Global,
@@ -186,58 +204,44 @@ fn check_fault<R: Abort + Threads + Wait + Sync>(
     lines: &str,
     status: Status,
 ) -> Result<(), Fail> {
-    let file = left(rt, alloc, new_file(rt, alloc)?.bytes(), before)?;
-    let number = calls_of_opening(rt, alloc, file.bytes(), kind)?;
-    let file = crashed(
-        rt,
-        alloc,
-        file.bytes(),
-        Some((kind, number)),
-        lines,
-        status,
-        0,
-    )?;
+    let file = file_after(rt, alloc, before)?;
+    let file = faulted(rt, alloc, file.bytes(), kind, lines, status)?;
     let _again = left(rt, alloc, file.bytes(), PUT)?;
     Ok(())
 }
 
 #[test]
 fn a_disk_fault_ends_changes_and_no_reads(rt: HostRuntime) -> Result<(), Fail> {
-    check_fault(
-        &rt,
-        rt.alloc(),
-        MAIN,
-        CallKind::Sync,
-        DOWN,
-        Status::DiskFault,
-    )?;
-    check_fault(&rt, rt.alloc(), PUT, CallKind::Read, UNREAD, Status::Done)
+    let (alloc, down) = (rt.alloc(), Status::DiskFault);
+    check_fault(&rt, alloc, MAIN, CallKind::Sync, DOWN, down)?;
+    check_fault(&rt, alloc, PUT, CallKind::Read, UNREAD, Status::Done)
 }
 
-// Runs a command on a new repository, of which this call fails.
-fn opened<R: Threads + Wait + Sync>(
+// A file of which this call fails isn't opened by the command, which writes so, and stays as it was.
+fn check_opened<R: Abort + Threads + Wait + Sync>(
     rt: &R,
     alloc: Global,
+    file: &[u8],
     call: (CallKind, u64),
     line: &str,
-) -> Result<Came, Fail> {
-    let file = new_file(rt, alloc)?;
-    let disk = failing_disk(alloc, file.bytes(), Some(call))?;
-    run_line(rt, alloc, line, link_of(alloc, b"GET")?, Some(disk))
+    written: &[u8],
+) -> Result<(), Fail> {
+    let link = link_of(alloc, b"GET")?;
+    let disk = disk_of(alloc, file, Some(call))?;
+    let came = run_line(rt, alloc, line, link, Some(disk))?;
+    came.check(rt, Status::DiskFault, written, line);
+    same_bytes(rt, came.file(), file, line);
+    Ok(())
 }
 
-/// A new repository of which this call fails isn't opened, and stays as it was.
+/// Neither command opens a new repository of which this call fails.
 pub(crate) fn check_opening<R: Abort + Threads + Wait + Sync>(
     rt: &R,
     alloc: Global,
     call: (CallKind, u64),
 ) -> Result<(), Fail> {
-    let came = opened(rt, alloc, call, "hg_cli fsck repository")?;
-    let found = (came.status, came.written.as_slice());
-    same(rt, found, (Status::DiskFault, b"disk fault\n"), "fsck");
-    let came = opened(rt, alloc, call, "hg_cli session repository")?;
-    let found = (came.status, came.written.as_slice());
-    same(rt, found, (Status::DiskFault, b""), "session");
-    assert_eq!(rt; came.file(), new_file(rt, alloc)?.bytes());
-    Ok(())
+    let file = made(rt, alloc, INIT)?;
+    let (count, session) = ("hg_cli fsck repository", "hg_cli session repository");
+    check_opened(rt, alloc, file.bytes(), call, count, b"disk fault\n")?;
+    check_opened(rt, alloc, file.bytes(), call, session, b"")
 }

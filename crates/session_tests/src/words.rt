@@ -1,5 +1,5 @@
 //! The words of the command line, the lines that answer them, and the statuses.
-use crate::program::{Came, run_line, same, status_of};
+use crate::program::{link_of, link_with_room, run_line, same, size, status_of};
 use crate::session::cut;
 use command_line::refuse_words;
 use file_commands::Status;
@@ -38,29 +38,13 @@ fn text_of(word: &str) -> &'static str {
 }
 
 // Runs the program without a file, where so many bytes can be written.
-fn came_of<R: Threads + Wait + Sync>(
-    rt: &R,
-    alloc: Global,
-    line: &str,
-    room: usize,
-) -> Result<Came, Fail> {
-    let bytes = Vec::from_slice(alloc, b"GET /")?;
-    let link = MemLink::new(alloc, bytes, 9, room, Vec::new(alloc), Vec::new(alloc))?;
-    run_line(rt, alloc, line, link, None)
-}
-
 fn check<R: Abort + Threads + Wait + Sync>(rt: &R, alloc: Global, row: &str) -> Result<(), Fail> {
     let (line, rest) = cut(row);
     let (room, rest) = cut(rest);
     let (status, text) = cut(rest);
-    let came = came_of(rt, alloc, line, room.parse()?)?;
-    let found = (came.status, came.written.as_slice());
-    same(
-        rt,
-        found,
-        (status_of(status), text_of(text).as_bytes()),
-        row,
-    );
+    let link = link_with_room(alloc, b"GET /", size(room)?)?;
+    let came = run_line(rt, alloc, line, link, None)?;
+    came.check(rt, status_of(status), text_of(text).as_bytes(), row);
     assert!(rt; came.disk.is_none(), "{row}");
     Ok(())
 }
@@ -73,23 +57,29 @@ fn words_that_open_no_file_get_their_text(rt: HostRuntime) -> Result<(), Fail> {
     Ok(())
 }
 
-// The line that is written where the words can't be read.
-fn refused(alloc: Global, kind: ErrorKind, wanted: Status) -> Result<String, Fail> {
-    let none = Vec::new(alloc);
-    let mut link = MemLink::new(alloc, none, 1, 4096, Vec::new(alloc), Vec::new(alloc))?;
-    if refuse_words(kind, &mut link) != wanted {
-        return Err(Fail::from("the status"));
-    }
-    Ok(String::from_str(alloc, str::from_utf8(link.written())?)?)
+fn refuse(kind: ErrorKind, link: &mut MemLink) -> Status {
+    refuse_words(kind, link)
+}
+
+// Words that can't be read for a reason of this kind end the run so, and write this line.
+fn check_refused(
+    rt: &impl Abort,
+    alloc: Global,
+    kind: ErrorKind,
+    status: Status,
+    line: &str,
+) -> Result<(), Fail> {
+    let mut link = link_of(alloc, b"")?;
+    let found = refuse(kind, &mut link);
+    same(rt, (found, link.written()), (status, line.as_bytes()), line);
+    Ok(())
 }
 
 #[test]
 fn words_that_cannot_be_read_have_a_status(rt: HostRuntime) -> Result<(), Fail> {
-    let line = refused(rt.alloc(), ErrorKind::OutOfMemory, Status::NoMemory)?;
-    assert_eq!(rt; line.as_str(), "no memory\n");
-    let line = refused(rt.alloc(), ErrorKind::InvalidData, Status::Usage)?;
-    assert_eq!(rt; line.as_str(), USAGE);
-    Ok(())
+    let (lacking, no_text) = (ErrorKind::OutOfMemory, ErrorKind::InvalidData);
+    check_refused(&rt, rt.alloc(), lacking, Status::NoMemory, "no memory\n")?;
+    check_refused(&rt, rt.alloc(), no_text, Status::Usage, USAGE)
 }
 
 #[test]

@@ -1,10 +1,14 @@
 //! Landings at whose gate `main` is moved. The ids are those of an independent computation.
+ghost use Rattle.std.specs.Prelude.{◌≡◌};
+
 use crate::gates::{Moves, Walker};
 use crate::repository::new_repository;
-use crate::steps::{main_name, run_lines};
-use object_id::Id;
-use ports::NoGate;
-use shared_repo::{Repo, Served};
+use crate::steps::{id, main_name, run_lines};
+use blob_disk::Disk;
+use ports::{Gate, NoGate};
+use repo_state::RepoState;
+use seat_calls::Seat;
+use shared_repo::{Repo, RepoSeat, Served};
 use std::alloc::Global;
 use std::process::Abort;
 use std::sync::Wait;
@@ -34,17 +38,47 @@ const AWAY: &str = "\
 land 640d00803ffd078abe99687f11f76e3949495f55dd88e999e6458f7adfdf79ac = 1 66018dae6dcd26aa7f15f755f702edd69b683e14a7531d0ba9293f9127fda14f
 total = 106";
 
-// Lands the draft while `main` is moved so often at the gate, and tells how often the landing came there.
-fn came<R: Abort + Wait>(rt: &R, alloc: Global, moves: u64, script: &str) -> Result<u64, Fail> {
-    let (repo, mut lead) = Repo::new(alloc, new_repository(alloc, &[])?)?;
-    let other = Served::new(rt, &repo, repo.split(&mut lead), &NoGate);
+// A walker between the root and the other changeset.
+fn walker_at<S: Seat + Drop>(alloc: Global, seat: S) -> Result<Walker<S>, Fail> {
     let main = main_name(alloc)?;
-    let walker = Walker::new(other, main, Id::from_hex(ROOT)?, Id::from_hex(OTHER)?);
-    let gate = Moves::new(rt, alloc, walker, moves);
-    let mut seat = Served::new(rt, &repo, lead, &gate);
+    Ok(Walker::new(seat, main, id(ROOT)?, id(OTHER)?))
+}
+
+// Stores the changesets and does the steps of a script, with this gate.
+fn run_through<R: Abort + Wait, D: Disk, G: Gate>(
+    rt: &R,
+    alloc: Global,
+    repo: &Repo<D>,
+    seat: RepoSeat,
+    gate: &G,
+    script: &str,
+) -> Result<(), Fail>
+    requires place { seat.lock ≡ repo.now }
+{
+    let mut seat = Served::new(rt, repo, seat, gate);
     run_lines(rt, alloc, &mut seat, CHANGESETS)?;
-    run_lines(rt, alloc, &mut seat, script)?;
+    run_lines(rt, alloc, &mut seat, script)
+}
+
+// Lands the draft while `main` is moved so often at the gate, and tells how often the landing came there.
+fn came_in<R: Abort + Wait, D: Disk>(
+    rt: &R,
+    alloc: Global,
+    state: RepoState<D>,
+    moves: u64,
+    script: &str,
+) -> Result<u64, Fail> {
+    let (repo, mut lead) = Repo::new(alloc, state)?;
+    let other = Served::new(rt, &repo, repo.split(&mut lead), &NoGate);
+    let gate = Moves::new(rt, alloc, walker_at(alloc, other)?, moves);
+    run_through(rt, alloc, &repo, lead, &gate, script)?;
     Ok(gate.came())
+}
+
+// The same in a new repository.
+fn came<R: Abort + Wait>(rt: &R, alloc: Global, moves: u64, script: &str) -> Result<u64, Fail> {
+    let state = new_repository(alloc, &[])?;
+    came_in(rt, alloc, state, moves, script)
 }
 
 #[test]

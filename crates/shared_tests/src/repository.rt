@@ -1,25 +1,50 @@
 //! Repositories over memory.
-use blob_disk::{CallKind, MemDisk};
+use blob_disk::{CallKind, Disk, MemDisk};
 use ports::ZeroBytes;
 use recovery::{Opened, open};
 use repo_journal::init;
 use repo_state::RepoState;
-use std::alloc::Global;
+use std::alloc::{AllocError, Global};
 use std::hash::RandomState;
 use std::test::Fail;
+
+// The syncs of these numbers.
+fn syncs(alloc: Global, numbers: &[u64]) -> Result<Vec<(CallKind, u64)>, AllocError> {
+    let mut calls = Vec::new(alloc);
+    for &number in numbers {
+        calls.push((CallKind::Sync, number))?;
+    }
+    Ok(calls)
+}
+
+// An empty disk with room for 65,536 bytes, of whose syncs these fail.
+fn new_disk(alloc: Global, failing: &[u64]) -> Result<MemDisk, AllocError> {
+    MemDisk::new(alloc, 65_536, syncs(alloc, failing)?)
+}
+
+// Makes the file of a new repository.
+fn make_file<D: Disk>(disk: &mut D) -> Result<(), Fail> {
+    match init(disk, 65_536) {
+        Ok(()) => Ok(()),
+        Err(_) => Err(Fail::from("a new file")),
+    }
+}
+
+fn keys() -> Result<RandomState, Fail> {
+    Ok(RandomState::new(&ZeroBytes)?)
+}
+
+// The repository in a file.
+fn open_file<D: Disk>(alloc: Global, keys: RandomState, disk: D) -> Result<RepoState<D>, Fail> {
+    let mut disk = disk;
+    let Opened { machine, journal } = open(alloc, keys, &mut disk)?;
+    Ok(RepoState::new(alloc, machine, journal, disk))
+}
 
 /// A new repository of 65,536 bytes at most. Of its disk's syncs those of these numbers fail: it is made by syncs 0 and 1
 /// and opened by sync 2, and each entry takes two.
 pub(crate) fn new_repository(alloc: Global, failing: &[u64]) -> Result<RepoState<MemDisk>, Fail> {
-    let mut calls = Vec::new(alloc);
-    for &number in failing {
-        calls.push((CallKind::Sync, number))?;
-    }
-    let mut disk = MemDisk::new(alloc, 65_536, calls)?;
-    if init(&mut disk, 65_536).is_err() {
-        return Err(Fail::from("a new file"));
-    }
-    let keys = RandomState::new(&ZeroBytes)?;
-    let Opened { machine, journal } = open(alloc, keys, &mut disk)?;
-    Ok(RepoState::new(alloc, machine, journal, disk))
+    let mut disk = new_disk(alloc, failing)?;
+    make_file(&mut disk)?;
+    open_file(alloc, keys()?, disk)
 }

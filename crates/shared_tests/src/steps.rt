@@ -5,12 +5,18 @@
 //! - `move FROM TO` moves `main`, where `-` stands for no bookmark;
 //! - `land ID` lands a draft on `main`, and tells how many new changesets there are, and the last;
 //! - `total` tells how many entries the log has.
+ghost use Rattle.std.specs.Prelude.{◌≡◌};
+
+use blob_disk::Disk;
 use object_id::Id;
+use ports::NoGate;
 use repo_calls::{Ask, Granted};
 use repo_path::BookName;
 use seat_calls::{ChangeFault, Question, Seat, Seen};
+use shared_repo::{Repo, RepoSeat, Served};
 use std::alloc::Global;
 use std::process::Abort;
+use std::sync::Wait;
 use std::test::Fail;
 
 /// Does the steps of a script.
@@ -26,6 +32,20 @@ pub(crate) fn run_lines<S: Seat>(
         same(rt, told.as_str(), wanted, line);
     }
     Ok(())
+}
+
+/// Does the steps of a script at a seat.
+pub(crate) fn run_at<R: Abort + Wait, D: Disk>(
+    rt: &R,
+    alloc: Global,
+    repo: &Repo<D>,
+    seat: RepoSeat,
+    script: &str,
+) -> Result<(), Fail>
+    requires place { seat.lock ≡ repo.now }
+{
+    let mut seat = Served::new(rt, repo, seat, &NoGate);
+    run_lines(rt, alloc, &mut seat, script)
 }
 
 fn same(rt: &impl Abort, told: &str, wanted: &str, line: &str) {
@@ -58,8 +78,8 @@ fn put_changeset<S: Seat>(alloc: Global, seat: &mut S, digits: &str) -> Result<S
 
 fn move_main<S: Seat>(alloc: Global, seat: &mut S, words: &str) -> Result<String, Fail> {
     let (from, to) = words.split_once(" ").ok_or("two ids")?;
-    let (from, to) = (id_or_none(from)?, id_or_none(to)?);
     let name = main_name(alloc)?;
+    let (from, to) = (id_or_none(from)?, id_or_none(to)?);
     tell(alloc, move_from(alloc, seat, &name, from, to))
 }
 
@@ -80,16 +100,21 @@ pub(crate) fn move_from<S: Seat>(
 }
 
 fn land<S: Seat>(alloc: Global, seat: &mut S, digits: &str) -> Result<String, Fail> {
-    let draft = Id::from_hex(digits)?;
+    let draft = id(digits)?;
     let name = &main_name(alloc)?;
     tell(alloc, seat.change(alloc, &Ask::Land { name, draft }))
+}
+
+/// The id of these digits.
+pub(crate) fn id(digits: &str) -> Result<Id, Fail> {
+    Ok(Id::from_hex(digits)?)
 }
 
 fn id_or_none(digits: &str) -> Result<Option<Id>, Fail> {
     if digits == "-" {
         return Ok(None);
     }
-    Ok(Some(Id::from_hex(digits)?))
+    Ok(Some(id(digits)?))
 }
 
 fn tell(alloc: Global, answer: Result<Granted, ChangeFault>) -> Result<String, Fail> {
@@ -100,9 +125,17 @@ fn tell(alloc: Global, answer: Result<Granted, ChangeFault>) -> Result<String, F
     }
 }
 
+fn last(ids: &[Id]) -> Result<Id, Fail> {
+    match ids.last() {
+        Some(last) => Ok(*last),
+        None => Err(Fail::from("a changeset")),
+    }
+}
+
 fn tell_landed(alloc: Global, ids: &[Id]) -> Result<String, Fail> {
-    let last = ids.last().ok_or("a changeset")?.to_hex(alloc)?;
-    Ok(format!(in alloc; "{} {}", ids.len(), last.as_str())?)
+    let count = ids.len();
+    let last = last(ids)?.to_hex(alloc)?;
+    Ok(format!(in alloc; "{count} {last}")?)
 }
 
 fn tell_total<S: Seat>(alloc: Global, seat: &mut S) -> Result<String, Fail> {

@@ -85,6 +85,24 @@ fn stored<S: Seat + Drop>(workers: &[Worker<S>]) -> u64 {
     all
 }
 
+// How many contents so many threads store.
+fn store_at_once<R: Threads + Wait + Sync, D: Disk + Send>(
+    rt: &R,
+    alloc: Global,
+    repo: &Repo<D>,
+    lead: &mut RepoSeat,
+    count: u8,
+) -> Result<u64, AllocError>
+    requires place { lead.old.lock ≡ repo.now }
+    requires leads { lead.old.number ≡ 0 }
+    requires room { lead.old.split + count ≤ 2 ^ 63 }
+    ensures place { lead.new.lock ≡ repo.now }
+{
+    let mut workers = split_all(rt, alloc, repo, lead, count)?;
+    work_all(rt, alloc, workers.as_mut_slice());
+    Ok(stored(workers.as_slice()))
+}
+
 // How many contents so many threads stored, and how many entries the lead sees then.
 fn at_once<R: Threads + Wait + Sync, D: Disk + Send>(
     rt: &R,
@@ -93,10 +111,9 @@ fn at_once<R: Threads + Wait + Sync, D: Disk + Send>(
     count: u8,
 ) -> Result<(u64, u64), Fail> {
     let (repo, mut lead) = Repo::new(alloc, state)?;
-    let mut workers = split_all(rt, alloc, &repo, &mut lead, count)?;
-    work_all(rt, alloc, workers.as_mut_slice());
+    let stored = store_at_once(rt, alloc, &repo, &mut lead, count)?;
     let mut seat = Served::new(rt, &repo, lead, &NoGate);
-    Ok((stored(workers.as_slice()), total(alloc, &mut seat)?))
+    Ok((stored, total(alloc, &mut seat)?))
 }
 
 #[test]

@@ -1,5 +1,5 @@
 use Rattle.std.proofs.Common.{◌≡◌}
-use Rattle.shared_tests.proofs.derivation.run_derived.Given as goal
+use Rattle.shared_tests.proofs.derivation.check_rows.Given as goal
 
-abbrev pub invariant-loop-line : goal.invariant-loop-line
-invariant-loop-line g l = l.other.lock ≡ l.initial.other.lock
+abbrev pub invariant-loop-row : goal.invariant-loop-row
+invariant-loop-row g l = l.seat.lock ≡ l.initial.seat.lock

@@ -1,7 +1,7 @@
 use denote.Ref.{NamedLft}
 use denote.Param.Send.{param_send, arg_send}
 use Rattle.shared_tests.proofs.Crossing.{served_send}
-use Rattle.shared_tests.proofs.threads.at_once.Goals as goal
+use Rattle.shared_tests.proofs.threads.store_at_once.Goals as goal
 
 pub work_all-requires-send-S : goal.work_all-requires-send-S
 work_all-requires-send-S g c κs within =
