@@ -32,18 +32,33 @@ fn numbers(store: &Store, id: &Id) -> Result<[u64; 5], Fail> {
     Ok(store.fsnode(id)?.summary.numbers())
 }
 
+// The length of a directory's node, and the numbers of its summary.
+fn told(alloc: Global, store: &Store, id: &Id) -> Result<String, Fail> {
+    let length = length(store, id)?;
+    let numbers = numbers(store, id)?;
+    Ok(format!(in alloc; "{length} {numbers:?}")?)
+}
+
+fn check_dir(
+    rt: &(impl Abort + Alloc<A = Global>),
+    store: &Store,
+    id: &Id,
+    wanted: &str,
+) -> Result<(), Fail> {
+    let told = told(rt.alloc(), store, id)?;
+    assert_eq!(rt; told.as_str(), wanted);
+    Ok(())
+}
+
 #[test]
 fn two_files(rt: HostRuntime) -> Result<(), Fail> {
     let alloc = rt.alloc();
     let mut store = Store::new(alloc);
     let root = derived(alloc, &mut store, None, "a/x=abc b=")?;
     assert_eq!(rt; root.new, 6);
-    assert_eq!(rt; length(&store, &root.roots.fsnode)?, 165);
-    assert_eq!(rt; numbers(&store, &root.roots.fsnode)?, [1, 0, 1, 2, 3]);
+    check_dir(&rt, &store, &root.roots.fsnode, "165 [1, 0, 1, 2, 3]")?;
     let a = store.dir_in(root.roots, "a")?;
-    assert_eq!(rt; length(&store, &a.fsnode)?, 90);
-    assert_eq!(rt; numbers(&store, &a.fsnode)?, [1, 3, 0, 1, 3]);
-    Ok(())
+    check_dir(&rt, &store, &a.fsnode, "90 [1, 3, 0, 1, 3]")
 }
 
 #[test]
@@ -52,9 +67,7 @@ fn no_file(rt: HostRuntime) -> Result<(), Fail> {
     let mut store = Store::new(alloc);
     let root = derived(alloc, &mut store, None, "")?;
     assert_eq!(rt; root.new, 2);
-    assert_eq!(rt; length(&store, &root.roots.fsnode)?, 46);
-    assert_eq!(rt; numbers(&store, &root.roots.fsnode)?, [0; 5]);
-    Ok(())
+    check_dir(&rt, &store, &root.roots.fsnode, "46 [0, 0, 0, 0, 0]")
 }
 
 fn file_unode(store: &Store, id: &Id) -> Result<FileUnode, Fail> {

@@ -230,6 +230,10 @@ fn check_disk(rt: &impl Abort, disk: &MemDisk) {
     assert_eq!(rt; disk.calls(CallKind::Sync), 2);
 }
 
+fn check_content(rt: &impl Abort, repo: &mut Repository) {
+    assert_eq!(rt; read(rt, repo, 22), Some(*b"abc"));
+}
+
 fn check_journal(rt: &impl Abort, journal: &Journal) {
     assert_eq!(rt; journal.capacity(), 65_536);
     assert_eq!(rt; journal.opening(), AT_START);
@@ -242,7 +246,7 @@ fn an_append_makes_four_calls(rt: HostRuntime) -> Result<(), Fail> {
     same(&rt, told.as_str(), "Ok(()) 26 26", "an append");
     check_disk(&rt, &repo.disk);
     check_journal(&rt, &repo.journal);
-    assert_eq!(rt; read(&rt, &mut repo, 22), Some(*b"abc"));
+    check_content(&rt, &mut repo);
     Ok(())
 }
 
@@ -268,11 +272,15 @@ fn append_all(
     Ok(())
 }
 
+fn listed(rt: &(impl Abort + Alloc<A = Global>)) -> Result<String, Fail> {
+    let mut repo = new_repository(rt.alloc(), None)?;
+    append_all(rt, &mut repo)?;
+    records(rt, &mut repo)
+}
+
 #[test]
 fn records_are_listed_in_order(rt: HostRuntime) -> Result<(), Fail> {
-    let mut repo = new_repository(rt.alloc(), None)?;
-    append_all(&rt, &mut repo)?;
-    let told = records(&rt, &mut repo)?;
+    let told = listed(&rt)?;
     same(&rt, told.as_str(), " 21 4 30 1 36 3", "places and lengths");
     Ok(())
 }

@@ -6,8 +6,9 @@ ghost use Rattle.repo_events.specs.Entries.{body_of};
 
 use crate::bytes::{id_of_hex, of_hex};
 use crate::samples::{ABC, CHANGESET, CONTENT, DELETED, LANDING, MADE, MOVED, NEW, NO_HEADS, OLD};
+use bonsai::Commit;
 use object_id::Id;
-use repo_events::{Body, FRAME, Landing, decode_payload, encode_entry};
+use repo_events::{Body, FRAME, Landing, Move, decode_payload, encode_entry};
 use std::alloc::Global;
 
 // The entry that a payload stands for.
@@ -31,13 +32,15 @@ fn is_changeset(alloc: Global, payload: &str, wanted: &str) -> bool {
     }
 }
 
+fn moves(book: &Move, from: Option<Id>, to: Option<Id>) -> bool {
+    book.name.as_str() == "main" && book.from == from && book.to == to
+}
+
 // Whether it moves `main` between heads, of which an empty text is none.
 fn is_move(alloc: Global, payload: &str, from: &str, to: &str) -> bool {
     let body = read(alloc, payload);
     match &body {
-        Some(Body::Book(book)) => {
-            book.name.as_str() == "main" && book.from == head(from) && book.to == head(to)
-        }
+        Some(Body::Book(book)) => moves(book, head(from), head(to)),
         Some(_) | None => false,
     }
 }
@@ -46,12 +49,18 @@ fn head(text: &str) -> Option<Id> {
     Id::from_hex(text).ok()
 }
 
+fn is_one(commits: &[Commit], wanted: Id) -> bool {
+    match commits {
+        [commit] => commit.id() == wanted,
+        _ => false,
+    }
+}
+
 fn lands(landing: &Landing, old: Id, new: Id) -> bool {
     landing.name.as_str() == "main"
         && landing.old == old
         && landing.draft == new
-        && landing.new.len() == 1
-        && landing.new.iter().all(|commit| commit.id() == new)
+        && is_one(&landing.new, new)
 }
 
 fn is_landing(alloc: Global, payload: &str, old: Id, new: Id) -> bool {

@@ -2,7 +2,7 @@
 use blob_disk::{CallKind, Disk, MemDisk};
 use ports::ZeroBytes;
 use recovery::{OpenFault, open};
-use std::alloc::Global;
+use std::alloc::{AllocError, Global};
 use std::hash::RandomState;
 use std::process::Abort;
 use std::test::Fail;
@@ -23,225 +23,263 @@ const WHOLE: Told = Told {
     size: 26,
 };
 
-fn tell(alloc: Global, disk: &mut MemDisk) -> Result<Result<Told, OpenFault>, Fail> {
-    let keys = RandomState::new(&ZeroBytes)?;
-    Ok(match open(alloc, keys, disk) {
-        Ok(opened) => Ok(Told {
-            entries: opened.machine.history_length(),
-            size: opened.journal.size(),
-        }),
-        Err(fault) => Err(fault),
+const EMPTY: Told = Told {
+    entries: 0,
+    size: 17,
+};
+
+const TWO: Told = Told {
+    entries: 2,
+    size: 35,
+};
+
+const LONG: Told = Told {
+    entries: 7_000,
+    size: 70_017,
+};
+
+// What a file opens as.
+type Came = Result<Told, OpenFault>;
+
+fn keys() -> Result<RandomState, Fail> {
+    Ok(RandomState::new(&ZeroBytes)?)
+}
+
+fn damaged(at: u64) -> Came {
+    Err(OpenFault::Damaged { at })
+}
+
+fn tell(alloc: Global, keys: RandomState, disk: &mut MemDisk) -> Came {
+    let opened = open(alloc, keys, disk)?;
+    Ok(Told {
+        entries: opened.machine.history_length(),
+        size: opened.journal.size(),
     })
 }
 
-fn told_of(alloc: Global, file: &[u8]) -> Result<Result<Told, OpenFault>, Fail> {
-    let mut disk = MemDisk::holding(alloc, file, file.len() as u64, Vec::new(alloc))?;
-    tell(alloc, &mut disk)
+fn same(rt: &impl Abort, found: Came, want: Came, row: &str) {
+    assert_eq!(rt; found, want, "{row}");
 }
 
-// Bytes that stand in the file in place of its own, from a place on, and what it opens as then.
-struct Row {
-    at: usize,
-    bytes: &'static [u8],
-    want: Result<Told, OpenFault>,
+// The disk opens so.
+fn check(
+    rt: &impl Abort,
+    alloc: Global,
+    disk: &mut MemDisk,
+    want: Came,
+    row: &str,
+) -> Result<(), Fail> {
+    same(rt, tell(alloc, keys()?, disk), want, row);
+    Ok(())
 }
 
-const ROWS: [Row; 12] = [
-    Row {
-        at: 0,
-        bytes: b"",
-        want: Ok(WHOLE),
-    },
-    // a payload of no kind
-    Row {
-        at: 21,
-        bytes: b"X",
-        want: Err(OpenFault::Damaged { at: 16 }),
-    },
-    // a gate that isn't open ends the records
-    Row {
-        at: 16,
-        bytes: b"\x02",
-        want: Ok(Told {
-            entries: 0,
-            size: 17,
-        }),
-    },
-    // what follows the closing gate means nothing
-    Row {
-        at: 26,
-        bytes: b"\x01",
-        want: Ok(WHOLE),
-    },
-    // the same content makes no second entry
-    Row {
-        at: 25,
-        bytes: b"\x01\x00\x00\x00\x04Babc\x00",
-        want: Err(OpenFault::Damaged { at: 25 }),
-    },
-    Row {
-        at: 25,
-        bytes: b"\x01\x00\x00\x00\x04Babd\x00",
-        want: Ok(Told {
-            entries: 2,
-            size: 35,
-        }),
-    },
-    // another version
-    Row {
-        at: 7,
-        bytes: b"\x02",
-        want: Err(OpenFault::NotARepository),
-    },
-    // capacities of 4,095, 4,096, 34,359,738,368 and 34,359,738,369
-    Row {
-        at: 8,
-        bytes: b"\x00\x00\x00\x00\x00\x00\x0F\xFF",
-        want: Err(OpenFault::Damaged { at: 8 }),
-    },
-    Row {
-        at: 8,
-        bytes: b"\x00\x00\x00\x00\x00\x00\x10\x00",
-        want: Ok(WHOLE),
-    },
-    Row {
-        at: 8,
-        bytes: b"\x00\x00\x00\x08\x00\x00\x00\x00",
-        want: Ok(WHOLE),
-    },
-    Row {
-        at: 8,
-        bytes: b"\x00\x00\x00\x08\x00\x00\x00\x01",
-        want: Err(OpenFault::Damaged { at: 8 }),
-    },
-    // a payload longer than the file
-    Row {
-        at: 17,
-        bytes: b"\xFF\xFF\xFF\xFF",
-        want: Err(OpenFault::Damaged { at: 16 }),
-    },
-];
+// A disk with this file, of which the listed calls fail.
+fn disk_of(
+    alloc: Global,
+    file: &[u8],
+    failing: Vec<(CallKind, u64)>,
+) -> Result<MemDisk, AllocError> {
+    MemDisk::holding(alloc, file, file.len() as u64, failing)
+}
 
-fn changed(alloc: Global, row: &Row) -> Result<Vec<u8>, Fail> {
-    let mut file = Vec::from_slice(alloc, FILE.get(..row.at).unwrap_or(&[]))?;
-    file.extend_from_slice(row.bytes)?;
-    let rest = FILE.iter().skip(row.at).skip(row.bytes.len());
-    for byte in rest {
+fn check_file(
+    rt: &impl Abort,
+    alloc: Global,
+    file: &[u8],
+    want: Came,
+    row: &str,
+) -> Result<(), Fail> {
+    let mut disk = disk_of(alloc, file, Vec::new(alloc))?;
+    check(rt, alloc, &mut disk, want, row)
+}
+
+// The file with these bytes in place of its own, from a place on.
+fn changed(alloc: Global, at: usize, bytes: &[u8]) -> Result<Vec<u8>, AllocError> {
+    let mut file = Vec::from_slice(alloc, FILE.get(..at).unwrap_or(&[]))?;
+    file.extend_from_slice(bytes)?;
+    for byte in FILE.iter().skip(file.len()) {
         file.push(*byte)?;
     }
     Ok(file)
 }
 
+fn check_changed(
+    rt: &impl Abort,
+    alloc: Global,
+    at: usize,
+    bytes: &[u8],
+    want: Came,
+) -> Result<(), Fail> {
+    let file = changed(alloc, at, bytes)?;
+    let row = format!(in alloc; "{bytes:?} at {at}")?;
+    check_file(rt, alloc, file.as_slice(), want, row.as_str())
+}
+
+fn check_records(rt: &impl Abort, alloc: Global) -> Result<(), Fail> {
+    check_changed(rt, alloc, 0, b"", Ok(WHOLE))?;
+    // a payload of no kind
+    check_changed(rt, alloc, 21, b"X", damaged(16))?;
+    // a gate that isn't open ends the records
+    check_changed(rt, alloc, 16, b"\x02", Ok(EMPTY))?;
+    // what follows the closing gate means nothing
+    check_changed(rt, alloc, 26, b"\x01", Ok(WHOLE))?;
+    // the same content makes no second entry
+    let same = b"\x01\x00\x00\x00\x04Babc\x00";
+    check_changed(rt, alloc, 25, same, damaged(25))?;
+    let other = b"\x01\x00\x00\x00\x04Babd\x00";
+    check_changed(rt, alloc, 25, other, Ok(TWO))?;
+    // a payload longer than the file
+    check_changed(rt, alloc, 17, b"\xFF\xFF\xFF\xFF", damaged(16))
+}
+
+fn check_headers(rt: &impl Abort, alloc: Global) -> Result<(), Fail> {
+    // another version
+    check_changed(rt, alloc, 7, b"\x02", Err(OpenFault::NotARepository))?;
+    // capacities of 4,095, 4,096, 34,359,738,368 and 34,359,738,369
+    let capacity = b"\x00\x00\x00\x00\x00\x00\x0F\xFF";
+    check_changed(rt, alloc, 8, capacity, damaged(8))?;
+    let capacity = b"\x00\x00\x00\x00\x00\x00\x10\x00";
+    check_changed(rt, alloc, 8, capacity, Ok(WHOLE))?;
+    let capacity = b"\x00\x00\x00\x08\x00\x00\x00\x00";
+    check_changed(rt, alloc, 8, capacity, Ok(WHOLE))?;
+    let capacity = b"\x00\x00\x00\x08\x00\x00\x00\x01";
+    check_changed(rt, alloc, 8, capacity, damaged(8))
+}
+
 #[test]
 fn changed_files_are_told(rt: HostRuntime) -> Result<(), Fail> {
-    for (number, row) in ROWS.iter().enumerate() {
-        let file = changed(rt.alloc(), row)?;
-        assert_eq!(rt; told_of(rt.alloc(), &file)?, row.want, "row {number}");
+    check_headers(&rt, rt.alloc())?;
+    check_records(&rt, rt.alloc())
+}
+
+// What the first bytes of the file open as.
+fn want_of(length: usize) -> Came {
+    match length {
+        0..=16 => Err(OpenFault::NotARepository),
+        17..=24 => damaged(16),
+        25 => damaged(25),
+        _ => Ok(WHOLE),
     }
-    Ok(())
+}
+
+fn check_cut(rt: &impl Abort, alloc: Global, length: usize) -> Result<(), Fail> {
+    let row = format!(in alloc; "{length} bytes")?;
+    let file = FILE.get(..length).ok_or("a length")?;
+    check_file(rt, alloc, file, want_of(length), row.as_str())
 }
 
 #[test]
 fn cut_files_are_told(rt: HostRuntime) -> Result<(), Fail> {
     for length in 0..=FILE.len() {
-        let want = match length {
-            0..=16 => Err(OpenFault::NotARepository),
-            17..=24 => Err(OpenFault::Damaged { at: 16 }),
-            25 => Err(OpenFault::Damaged { at: 25 }),
-            _ => Ok(WHOLE),
-        };
-        assert_eq!(rt;
-            told_of(rt.alloc(), &FILE[..length])?,
-            want,
-            "{length} bytes"
-        );
+        check_cut(&rt, rt.alloc(), length)?;
     }
     Ok(())
+}
+
+// The file where the call of this kind with this number fails.
+fn failing_disk(alloc: Global, kind: CallKind, call: u64) -> Result<MemDisk, AllocError> {
+    let mut failing = Vec::new(alloc);
+    failing.push((kind, call))?;
+    disk_of(alloc, &FILE, failing)
+}
+
+// Opening makes fewer calls of this kind.
+fn check_spared(rt: &impl Abort, alloc: Global, kind: CallKind, call: u64) -> Result<(), Fail> {
+    let mut disk = failing_disk(alloc, kind, call)?;
+    let row = format!(in alloc; "{kind:?} {call}")?;
+    check(rt, alloc, &mut disk, Ok(WHOLE), row.as_str())
+}
+
+// The call is told, and the file opens again.
+fn check_failing(rt: &impl Abort, alloc: Global, kind: CallKind, call: u64) -> Result<(), Fail> {
+    let mut disk = failing_disk(alloc, kind, call)?;
+    let row = format!(in alloc; "{kind:?} {call}")?;
+    check(
+        rt,
+        alloc,
+        &mut disk,
+        Err(OpenFault::DiskFault),
+        row.as_str(),
+    )?;
+    check(rt, alloc, &mut disk, Ok(WHOLE), row.as_str())
 }
 
 #[test]
 fn a_failing_call_is_told(rt: HostRuntime) -> Result<(), Fail> {
-    for (kind, call, want) in [
-        (CallKind::Size, 0, Err(OpenFault::DiskFault)),
-        (CallKind::Sync, 0, Err(OpenFault::DiskFault)),
-        // of the header, and of the records
-        (CallKind::Read, 0, Err(OpenFault::DiskFault)),
-        (CallKind::Read, 1, Err(OpenFault::DiskFault)),
-        // no further calls are made
-        (CallKind::Size, 1, Ok(WHOLE)),
-        (CallKind::Sync, 1, Ok(WHOLE)),
-        (CallKind::Read, 2, Ok(WHOLE)),
-        (CallKind::Write, 0, Ok(WHOLE)),
-    ] {
-        let mut failing = Vec::new(rt.alloc());
-        failing.push((kind, call))?;
-        let mut disk = MemDisk::holding(rt.alloc(), &FILE, 26, failing)?;
-        assert_eq!(rt; tell(rt.alloc(), &mut disk)?, want, "{kind:?} {call}");
-        if want.is_err() {
-            assert_eq!(rt;
-                tell(rt.alloc(), &mut disk)?,
-                Ok(WHOLE),
-                "again after {kind:?} {call}"
-            );
-        }
-    }
-    Ok(())
+    let alloc = rt.alloc();
+    check_failing(&rt, alloc, CallKind::Size, 0)?;
+    check_failing(&rt, alloc, CallKind::Sync, 0)?;
+    // of the header, and of the records
+    check_failing(&rt, alloc, CallKind::Read, 0)?;
+    check_failing(&rt, alloc, CallKind::Read, 1)?;
+    // no further calls are made
+    check_spared(&rt, alloc, CallKind::Size, 1)?;
+    check_spared(&rt, alloc, CallKind::Sync, 1)?;
+    check_spared(&rt, alloc, CallKind::Read, 2)?;
+    check_spared(&rt, alloc, CallKind::Write, 0)
 }
 
-// A gate was opened, and isn't on the disk yet: what is told of it must stay so through a crash.
-#[test]
-fn what_is_told_outlasts_a_crash(rt: HostRuntime) -> Result<(), Fail> {
-    let mut file = Vec::from_slice(rt.alloc(), &FILE)?;
-    if let Some(gate) = file.get_mut(16) {
-        *gate = 0;
-    }
-    let room = file.len() as u64;
-    let mut disk = MemDisk::holding(rt.alloc(), &file, room, Vec::new(rt.alloc()))?;
+// A disk with the file, whose gate was opened, and isn't on the disk yet.
+fn unsynced(rt: &impl Abort, alloc: Global) -> Result<MemDisk, Fail> {
+    let file = changed(alloc, 16, &[0])?;
+    let mut disk = disk_of(alloc, file.as_slice(), Vec::new(alloc))?;
     assert!(rt; disk.bytes().len() > 16);
     assert!(rt; disk.write_at(16, &[1]).is_ok());
-    assert_eq!(rt; tell(rt.alloc(), &mut disk)?, Ok(WHOLE));
-    let mut left = disk.crash(b'X');
-    assert_eq!(rt; tell(rt.alloc(), &mut left)?, Ok(WHOLE));
-    Ok(())
+    Ok(disk)
+}
+
+fn crashed(disk: MemDisk) -> MemDisk {
+    disk.crash(b'X')
+}
+
+// What is told of the gate must stay so through a crash.
+#[test]
+fn what_is_told_outlasts_a_crash(rt: HostRuntime) -> Result<(), Fail> {
+    let mut disk = unsynced(&rt, rt.alloc())?;
+    check(&rt, rt.alloc(), &mut disk, Ok(WHOLE), "before")?;
+    let mut left = crashed(disk);
+    check(&rt, rt.alloc(), &mut left, Ok(WHOLE), "after")
+}
+
+fn put_record(file: &mut Vec<u8>, number: u32) -> Result<(), AllocError> {
+    file.extend_from_slice(b"\x01\x00\x00\x00\x05B")?;
+    file.extend_from_slice(&number.to_be_bytes())
+}
+
+fn put_records(file: &mut Vec<u8>) -> Result<(), AllocError> {
+    for number in 0..7_000u32 {
+        put_record(file, number)?;
+    }
+    Ok(file.push(0)?)
 }
 
 // The header, with another sixth byte of the capacity, and behind it 7,000 records of 10 bytes.
-fn long_file(alloc: Global, capacity: u8) -> Result<Vec<u8>, Fail> {
+fn long_file(alloc: Global, capacity: u8) -> Result<Vec<u8>, AllocError> {
     let mut file = Vec::from_slice(alloc, &FILE[..13])?;
     file.extend_from_slice(&[capacity, 0, 0])?;
-    for number in 0..7_000u32 {
-        file.extend_from_slice(b"\x01\x00\x00\x00\x05B")?;
-        file.extend_from_slice(&number.to_be_bytes())?;
-    }
-    file.push(0)?;
+    put_records(&mut file)?;
     Ok(file)
+}
+
+fn check_long(
+    rt: &impl Abort,
+    alloc: Global,
+    capacity: u8,
+    want: Came,
+    reads: u64,
+) -> Result<(), Fail> {
+    let file = long_file(alloc, capacity)?;
+    let mut disk = disk_of(alloc, file.as_slice(), Vec::new(alloc))?;
+    check(rt, alloc, &mut disk, want, "a long file")?;
+    let found = disk.calls(CallKind::Read);
+    assert_eq!(rt; found, reads, "capacity byte {capacity}");
+    Ok(())
 }
 
 #[test]
 fn a_long_file_is_read_once_in_blocks(rt: HostRuntime) -> Result<(), Fail> {
-    let whole = Told {
-        entries: 7_000,
-        size: 70_017,
-    };
-    for (capacity, want, reads) in [
-        // 131,072 bytes: the header, and two blocks
-        (2, Ok(whole), 3),
-        // 65,536 bytes, within which 6,551 records stand
-        (1, Err(OpenFault::Damaged { at: 65_526 }), 2),
-    ] {
-        let file = long_file(rt.alloc(), capacity)?;
-        let room = file.len() as u64;
-        let mut disk = MemDisk::holding(rt.alloc(), &file, room, Vec::new(rt.alloc()))?;
-        assert_eq!(rt;
-            tell(rt.alloc(), &mut disk)?,
-            want,
-            "capacity byte {capacity}"
-        );
-        assert_eq!(rt;
-            disk.calls(CallKind::Read),
-            reads,
-            "capacity byte {capacity}"
-        );
-    }
-    Ok(())
+    // 131,072 bytes: the header, and two blocks
+    check_long(&rt, rt.alloc(), 2, Ok(LONG), 3)?;
+    // 65,536 bytes, within which 6,551 records stand
+    check_long(&rt, rt.alloc(), 1, damaged(65_526), 2)
 }

@@ -2,12 +2,13 @@
 ghost use Rattle.std.specs.Prelude.{[], ⊤};
 
 use derive_pool::feed::send_page;
-use derive_pool::{Derives, derive_ids, ids_channel};
+use derive_pool::{Derives, IdsFrom, derive_ids, ids_channel};
 use object_id::Id;
 use repo_calls::{LogEntry, LogPage};
 use repo_path::BookName;
 use seat_calls::AskFault;
 use std::alloc::{AllocError, Global};
+use std::sync::Wait;
 use std::test::Fail;
 
 /// Keeps the ids that it was asked for. Of three it can't derive the first two.
@@ -48,30 +49,63 @@ fn ids_of(alloc: Global, texts: &[&str]) -> Result<Vec<Id>, AllocError> {
     Ok(ids)
 }
 
-// A page with an entry of each kind, and two more changesets.
-fn page_of_each(alloc: Global) -> Result<LogPage, Fail> {
-    let name = BookName::parse(alloc, "main").ok().ok_or("a name")?;
-    let other = BookName::parse(alloc, "next").ok().ok_or("a name")?;
-    let mut entries = Vec::new(alloc);
+fn name(alloc: Global, text: &str) -> Result<BookName, Fail> {
+    Ok(BookName::parse(alloc, text)?)
+}
+
+fn moved(alloc: Global) -> Result<LogEntry, Fail> {
+    Ok(LogEntry::Bookmark {
+        name: name(alloc, "main")?,
+        from: None,
+        to: Some(id("head")),
+    })
+}
+
+fn landed(alloc: Global) -> Result<LogEntry, Fail> {
+    let ids = ids_of(alloc, &["first", "second", "last"])?;
+    Ok(LogEntry::Landing {
+        name: name(alloc, "next")?,
+        old: id("old"),
+        draft: id("draft"),
+        ids,
+    })
+}
+
+// An entry of each kind.
+fn put_each(alloc: Global, entries: &mut Vec<LogEntry>) -> Result<(), Fail> {
     entries.push(LogEntry::Content {
         id: id("content"),
         size: 7,
     })?;
     entries.push(LogEntry::Changeset { id: id("root") })?;
-    entries.push(LogEntry::Bookmark {
-        name,
-        from: None,
-        to: Some(id("head")),
-    })?;
-    entries.push(LogEntry::Landing {
-        name: other,
-        old: id("old"),
-        draft: id("draft"),
-        ids: ids_of(alloc, &["first", "second", "last"])?,
-    })?;
+    entries.push(moved(alloc)?)?;
+    entries.push(landed(alloc)?)?;
+    Ok(())
+}
+
+// A page with an entry of each kind, and two more changesets.
+fn page_of_each(alloc: Global) -> Result<LogPage, Fail> {
+    let mut entries = Vec::new(alloc);
+    put_each(alloc, &mut entries)?;
     entries.push(LogEntry::Changeset { id: id("more") })?;
     entries.push(LogEntry::Changeset { id: id("root") })?;
     Ok(LogPage { entries, total: 6 })
+}
+
+// What one that derives was asked for.
+fn ids_asked<R: Wait>(rt: &R, alloc: Global, from: &IdsFrom) -> Vec<Id> {
+    let mut asked = Asked {
+        ids: Vec::new(alloc),
+    };
+    derive_ids(rt, alloc, &mut asked, from);
+    asked.ids
+}
+
+fn asked_of_page<R: Wait>(rt: &R, alloc: Global, page: &LogPage) -> Result<Vec<Id>, AllocError> {
+    let (to, from) = ids_channel(alloc)?;
+    send_page(rt, &to, page);
+    drop(to);
+    Ok(ids_asked(rt, alloc, &from))
 }
 
 #[test]
@@ -79,32 +113,28 @@ fn each_changeset_of_a_page_is_derived_in_order_whatever_faults_come(
     rt: HostRuntime,
 ) -> Result<(), Fail> {
     let alloc = rt.alloc();
-    let (to, from) = ids_channel(alloc)?;
-    send_page(&rt, &to, &page_of_each(alloc)?);
-    drop(to);
-    let mut asked = Asked {
-        ids: Vec::new(alloc),
-    };
-    derive_ids(&rt, alloc, &mut asked, &from);
+    let page = page_of_each(alloc)?;
+    let asked = asked_of_page(&rt, alloc, &page)?;
     let wanted = ids_of(alloc, &["root", "last", "more", "root"])?;
-    assert_eq!(rt; asked.ids.as_slice(), wanted.as_slice());
+    assert_eq!(rt; asked.as_slice(), wanted.as_slice());
     Ok(())
+}
+
+// One id more is sent than can wait.
+fn asked_of_many<R: Wait>(rt: &R, alloc: Global) -> Result<Vec<Id>, AllocError> {
+    let (to, from) = ids_channel(alloc)?;
+    for _ in 0..1024 {
+        to.send(rt, id("early"));
+    }
+    to.send(rt, id("late"));
+    drop(to);
+    Ok(ids_asked(rt, alloc, &from))
 }
 
 #[test]
 fn an_id_is_dropped_where_no_more_can_wait(rt: HostRuntime) -> Result<(), Fail> {
-    let alloc = rt.alloc();
-    let (to, from) = ids_channel(alloc)?;
-    for _ in 0..1024 {
-        to.send(&rt, id("early"));
-    }
-    to.send(&rt, id("late"));
-    drop(to);
-    let mut asked = Asked {
-        ids: Vec::new(alloc),
-    };
-    derive_ids(&rt, alloc, &mut asked, &from);
-    assert_eq!(rt; asked.ids.len(), 1024);
-    assert!(rt; asked.ids.iter().all(|one| *one == id("early")));
+    let asked = asked_of_many(&rt, rt.alloc())?;
+    assert_eq!(rt; asked.len(), 1024);
+    assert!(rt; asked.iter().all(|one| *one == id("early")));
     Ok(())
 }

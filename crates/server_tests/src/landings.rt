@@ -1,29 +1,28 @@
 //! Two landings at once: the first one waits between its plan and its entry until the other is answered.
 use crate::gates::FirstWaits;
 use crate::repository::new_repository;
+use crate::serving::{MOST_DERIVERS, serve};
 use crate::watched::Watched;
-use blob_disk::MemDisk;
+use blob_disk::{Disk, MemDisk};
 use object_id::Id;
 use ports::{MemAccept, MemLink};
 use repo_calls::Ask;
 use repo_path::BookName;
 use repo_state::RepoState;
-use server_lanes::serve_all;
-use std::alloc::Global;
+use server_lanes::Closing;
+use std::alloc::{AllocError, Global};
+use std::process::Abort;
 use std::sync::Wait;
 use std::sync::atomic::{AtomicU64, Ordering};
 use std::test::Fail;
 use std::thread::Threads;
 
-const MOST_DERIVERS: u64 = 2;
-
 // A changeset without parents and edits, and two upon it that set the content `abc` at the paths `p` and `x`.
 const ROOT: &str = "4301000001610000000000000000000000000000000000000000";
 
-const DRAFTS: [&str; 2] = [
-    "430101ffb74880ae0d3038b6e6e402ea0840634c79efb3c927e280d44f36567ece7169000161000000000000000000000000000000000000000100017001000000000000000003ba7816bf8f01cfea414140de5dae2223b00361a396177a9cb410ff61f20015ad",
-    "430101ffb74880ae0d3038b6e6e402ea0840634c79efb3c927e280d44f36567ece7169000161000000000000000000000000000000000000000100017801000000000000000003ba7816bf8f01cfea414140de5dae2223b00361a396177a9cb410ff61f20015ad",
-];
+const DRAFTS: &str = "\
+430101ffb74880ae0d3038b6e6e402ea0840634c79efb3c927e280d44f36567ece7169000161000000000000000000000000000000000000000100017001000000000000000003ba7816bf8f01cfea414140de5dae2223b00361a396177a9cb410ff61f20015ad
+430101ffb74880ae0d3038b6e6e402ea0840634c79efb3c927e280d44f36567ece7169000161000000000000000000000000000000000000000100017801000000000000000003ba7816bf8f01cfea414140de5dae2223b00361a396177a9cb410ff61f20015ad";
 
 const LANDED: &[u8] = b"\r\n\r\n{\"code\":\"landed\"";
 
@@ -34,20 +33,65 @@ fn change(alloc: Global, state: &mut RepoState<MemDisk>, ask: &Ask) -> Result<()
     Ok(())
 }
 
-// A repository with the content and the root, where `main` stands.
-fn with_main(alloc: Global) -> Result<RepoState<MemDisk>, Fail> {
-    let mut state = new_repository(alloc)?;
+fn main_name(alloc: Global) -> Result<BookName, Fail> {
+    Ok(BookName::parse(alloc, "main")?)
+}
+
+// Stores the content and the root, and makes the bookmark there.
+fn make_main(alloc: Global, state: &mut RepoState<MemDisk>, name: &BookName) -> Result<(), Fail> {
     let root = hex::decode(alloc, ROOT)?;
-    change(alloc, &mut state, &Ask::PutContent(b"abc"))?;
-    change(alloc, &mut state, &Ask::PutChangeset(root.as_slice()))?;
-    let name = BookName::parse(alloc, "main").ok().ok_or("a name")?;
+    change(alloc, state, &Ask::PutContent(b"abc"))?;
+    change(alloc, state, &Ask::PutChangeset(root.as_slice()))?;
     let ask = Ask::SetBookmark {
-        name: &name,
+        name,
         from: None,
         to: Some(Id::of(root.as_slice())),
     };
-    change(alloc, &mut state, &ask)?;
+    change(alloc, state, &ask)
+}
+
+// A repository with the content and the root, where `main` stands.
+fn with_main(alloc: Global) -> Result<RepoState<MemDisk>, Fail> {
+    let name = main_name(alloc)?;
+    let mut state = new_repository(alloc)?;
+    make_main(alloc, &mut state, &name)?;
     Ok(state)
+}
+
+// The request that puts a changeset.
+fn put_upload(alloc: Global, out: &mut Vec<u8>, bytes: &[u8]) -> Result<(), Fail> {
+    let length = bytes.len();
+    let head = format!(in alloc; "PUT /changeset HTTP/1.1\r\nContent-Length: {length}\r\n\r\n")?;
+    out.extend_from_slice(head.as_bytes())?;
+    Ok(out.extend_from_slice(bytes)?)
+}
+
+// The request that lands a draft.
+fn put_landing(alloc: Global, out: &mut Vec<u8>, draft: Id) -> Result<(), Fail> {
+    let digits = hex::encode(alloc, draft.as_bytes())?;
+    let digits = digits.as_str();
+    let land = format!(in alloc; "POST /land/main/{digits} HTTP/1.1\r\n\r\n")?;
+    Ok(out.extend_from_slice(land.as_bytes())?)
+}
+
+// The requests that put a draft and land it.
+fn input_of(alloc: Global, draft: &str) -> Result<Vec<u8>, Fail> {
+    let mut input = Vec::new(alloc);
+    let bytes = hex::decode(alloc, draft)?;
+    put_upload(alloc, &mut input, bytes.as_slice())?;
+    put_landing(alloc, &mut input, Id::of(bytes.as_slice()))?;
+    Ok(input)
+}
+
+fn link_with(alloc: Global, input: Vec<u8>) -> Result<MemLink, AllocError> {
+    MemLink::new(
+        alloc,
+        input,
+        65_536,
+        65_536,
+        Vec::new(alloc),
+        Vec::new(alloc),
+    )
 }
 
 // A link on which a draft is put and landed.
@@ -56,31 +100,33 @@ fn link_of<'a>(
     draft: &str,
     landed: &'a AtomicU64,
 ) -> Result<Watched<'a, MemLink>, Fail> {
-    let bytes = hex::decode(alloc, draft)?;
-    let length = bytes.len();
-    let mut id = String::new(alloc);
-    id.push_str(hex::encode(alloc, Id::of(bytes.as_slice()).as_bytes())?.as_str())?;
-    let put = format!(in alloc; "PUT /changeset HTTP/1.1\r\nContent-Length: {length}\r\n\r\n")?;
-    let land = format!(in alloc; "POST /land/main/{id} HTTP/1.1\r\n\r\n")?;
-    let mut input = Vec::from_slice(alloc, put.as_bytes())?;
-    input.extend_from_slice(bytes.as_slice())?;
-    input.extend_from_slice(land.as_bytes())?;
-    let link = MemLink::new(
-        alloc,
-        input,
-        65_536,
-        65_536,
-        Vec::new(alloc),
-        Vec::new(alloc),
-    )?;
+    let input = input_of(alloc, draft)?;
+    let link = link_with(alloc, input)?;
     Ok(Watched::new(link, LANDED, landed))
 }
 
+// A link for each draft.
+fn accept_of<'a>(
+    alloc: Global,
+    landed: &'a AtomicU64,
+) -> Result<MemAccept<Watched<'a, MemLink>>, Fail> {
+    let mut links = Vec::new(alloc);
+    for draft in DRAFTS.lines() {
+        links.push(link_of(alloc, draft, landed)?)?;
+    }
+    Ok(MemAccept::new(links, Vec::new(alloc)))
+}
+
+// Whether the manifests of a draft are derived.
+fn is_derived<D: Disk>(alloc: Global, state: &RepoState<D>, draft: &str) -> Result<bool, Fail> {
+    let bytes = hex::decode(alloc, draft)?;
+    Ok(state.roots(Id::of(bytes.as_slice())).is_some())
+}
+
 // Whether the manifests of both drafts are derived.
-fn has_derived(alloc: Global, state: &RepoState<MemDisk>) -> Result<bool, Fail> {
-    for draft in DRAFTS {
-        let bytes = hex::decode(alloc, draft)?;
-        if state.roots(Id::of(bytes.as_slice())).is_none() {
+fn has_derived<D: Disk>(alloc: Global, state: &RepoState<D>) -> Result<bool, Fail> {
+    for draft in DRAFTS.lines() {
+        if !is_derived(alloc, state, draft)? {
             return Ok(false);
         }
     }
@@ -98,43 +144,57 @@ struct Left {
     derived: bool,
 }
 
-fn left_of<R: Threads + Wait + Sync>(rt: &R, alloc: Global, derivers: u64) -> Result<Left, Fail> {
-    if derivers > MOST_DERIVERS {
-        return Err(Fail::from("derivers"));
-    }
-    let landed = AtomicU64::new(0);
-    let gate = FirstWaits::new(&landed);
-    let mut links = Vec::new(alloc);
-    for draft in DRAFTS {
-        links.push(link_of(alloc, draft, &landed)?)?;
-    }
-    let accept = MemAccept::new(links, Vec::new(alloc));
-    let closing = serve_all(rt, alloc, with_main(alloc)?, accept, &gate, 2, derivers, 2);
+fn left_in<D: Disk, A: Drop, L: Drop>(
+    alloc: Global,
+    closing: Closing<D, A, L>,
+    gave_up: u64,
+    landed: u64,
+) -> Result<Left, Fail> {
     let state = closing.state.ok_or("memory")?;
+    let derived = has_derived(alloc, &state)?;
     Ok(Left {
-        gave_up: gate.told().1,
-        landed: landed.load(Ordering::SeqCst),
+        gave_up,
+        landed,
         served: closing.served.count(),
         entries: state.history_length(),
-        derived: has_derived(alloc, &state)?,
+        derived,
     })
+}
+
+fn left_of<R: Threads + Wait + Sync, D: Disk + Send>(
+    rt: &R,
+    alloc: Global,
+    state: RepoState<D>,
+    derivers: u64,
+) -> Result<Left, Fail> {
+    let landed = AtomicU64::new(0);
+    let gate = FirstWaits::new(&landed);
+    let accept = accept_of(alloc, &landed)?;
+    let closing = serve(rt, alloc, state, accept, &gate, 2, derivers, 2)?;
+    let (_, gave_up) = gate.told();
+    left_in(alloc, closing, gave_up, landed.load(Ordering::SeqCst))
+}
+
+fn check<R: Abort + Threads + Wait + Sync>(
+    rt: &R,
+    alloc: Global,
+    derivers: u64,
+) -> Result<(), Fail> {
+    let left = left_of(rt, alloc, with_main(alloc)?, derivers)?;
+    let wanted = Left {
+        gave_up: 0,
+        landed: 2,
+        served: 2,
+        entries: 7,
+        derived: derivers > 0,
+    };
+    assert_eq!(rt; left, wanted, "{derivers} derivers");
+    Ok(())
 }
 
 #[test]
 fn a_landing_goes_on_while_another_waits(rt: HostRuntime) -> Result<(), Fail> {
-    for derivers in [0, MOST_DERIVERS] {
-        let left = Left {
-            gave_up: 0,
-            landed: 2,
-            served: 2,
-            entries: 7,
-            derived: derivers > 0,
-        };
-        assert_eq!(rt;
-            left_of(&rt, rt.alloc(), derivers)?,
-            left,
-            "{derivers} derivers"
-        );
-    }
-    Ok(())
+    let alloc = rt.alloc();
+    check(&rt, alloc, 0)?;
+    check(&rt, alloc, MOST_DERIVERS)
 }

@@ -13,4 +13,6 @@ mod links;
 #[cfg(test)]
 mod repository;
 #[cfg(test)]
+mod serving;
+#[cfg(test)]
 mod watched;

@@ -1,17 +1,17 @@
 //! Which links of an accept are served, and what is left of it.
 use crate::repository::new_repository;
+use crate::serving::{MOST_DERIVERS, serve};
 use crate::watched::Watched;
+use blob_disk::Disk;
 use ports::{Accept, Failed, MemAccept, MemLink, NoGate};
-use server_lanes::serve_all;
+use repo_state::RepoState;
+use server_lanes::Closing;
 use std::alloc::{AllocError, Global};
+use std::process::Abort;
 use std::sync::Wait;
 use std::sync::atomic::{AtomicU64, Ordering};
 use std::test::Fail;
 use std::thread::Threads;
-
-const MOST_LANES: u64 = 3;
-
-const MOST_DERIVERS: u64 = 2;
 
 const REQUEST: &[u8] = b"PUT /content HTTP/1.1\r\nContent-Length: 3\r\n\r\nabc";
 
@@ -54,7 +54,7 @@ const BOTH: Left = Left {
     next: Next::End,
 };
 
-const ROWS: [Row; 8] = [
+const ROWS: &[Row] = &[
     // the accept isn't asked once as many as may be were served
     Row {
         links: 2,
@@ -152,20 +152,32 @@ const ROWS: [Row; 8] = [
     },
 ];
 
+// A link with this input, of which these writes fail.
+fn link_with(alloc: Global, input: Vec<u8>, writes: Vec<u64>) -> Result<MemLink, AllocError> {
+    MemLink::new(alloc, input, 65_536, 65_536, Vec::new(alloc), writes)
+}
+
 fn link_of<'a>(
     alloc: Global,
     writes: &[u64],
     answered: &'a AtomicU64,
 ) -> Result<Watched<'a, MemLink>, AllocError> {
-    let link = MemLink::new(
-        alloc,
-        Vec::from_slice(alloc, REQUEST)?,
-        65_536,
-        65_536,
-        Vec::new(alloc),
-        Vec::from_slice(alloc, writes)?,
-    )?;
+    let writes = Vec::from_slice(alloc, writes)?;
+    let link = link_with(alloc, Vec::from_slice(alloc, REQUEST)?, writes)?;
     Ok(Watched::new(link, RESPONSE, answered))
+}
+
+fn accept_of<'a>(
+    alloc: Global,
+    row: &Row,
+    answered: &'a AtomicU64,
+) -> Result<MemAccept<Watched<'a, MemLink>>, AllocError> {
+    let mut links = Vec::new(alloc);
+    for number in 0..row.links {
+        let writes = if number == 0 { row.write } else { &[] };
+        links.push(link_of(alloc, writes, answered)?)?;
+    }
+    Ok(MemAccept::new(links, Vec::from_slice(alloc, row.call)?))
 }
 
 fn next_of<L, A: Accept<L>>(accept: &mut A) -> Next
@@ -179,49 +191,61 @@ where
     }
 }
 
-fn left_of<R: Threads + Wait + Sync>(
-    rt: &R,
-    alloc: Global,
-    row: &Row,
-    derivers: u64,
+// What is left of a server over links, of which so many were answered.
+fn left_in<D: Disk, A: Accept<L>, L: Drop>(
+    closing: Closing<D, A, L>,
+    answered: u64,
 ) -> Result<Left, Fail> {
-    if row.lanes == 0 || row.lanes > MOST_LANES || derivers > MOST_DERIVERS {
-        return Err(Fail::from("lanes"));
-    }
-    let answered = AtomicU64::new(0);
-    let mut links = Vec::new(alloc);
-    for number in 0..row.links {
-        let writes = if number == 0 { row.write } else { &[] };
-        links.push(link_of(alloc, writes, &answered)?)?;
-    }
-    let accept = MemAccept::new(links, Vec::from_slice(alloc, row.call)?);
-    let closing = serve_all(
-        rt,
-        alloc,
-        new_repository(alloc)?,
-        accept,
-        &NoGate,
-        row.lanes,
-        derivers,
-        row.connections,
-    );
     let state = closing.state.ok_or("memory")?;
     let mut accept = closing.accept;
     Ok(Left {
         served: closing.served.count(),
-        answered: answered.load(Ordering::SeqCst),
+        answered,
         entries: state.history_length(),
         next: next_of(&mut accept),
     })
 }
 
+fn left_of<R: Threads + Wait + Sync, D: Disk + Send>(
+    rt: &R,
+    alloc: Global,
+    state: RepoState<D>,
+    row: &Row,
+    derivers: u64,
+) -> Result<Left, Fail> {
+    let answered = AtomicU64::new(0);
+    let accept = accept_of(alloc, row, &answered)?;
+    let closing = serve(
+        rt,
+        alloc,
+        state,
+        accept,
+        &NoGate,
+        row.lanes,
+        derivers,
+        row.connections,
+    )?;
+    left_in(closing, answered.load(Ordering::SeqCst))
+}
+
+fn check_row<R: Abort + Threads + Wait + Sync>(
+    rt: &R,
+    alloc: Global,
+    number: usize,
+    row: &Row,
+    derivers: u64,
+) -> Result<(), Fail> {
+    let left = left_of(rt, alloc, new_repository(alloc)?, row, derivers)?;
+    assert_eq!(rt; left, row.left, "row {number}, {derivers} derivers");
+    Ok(())
+}
+
 #[test]
 fn each_link_that_is_given_is_served_once(rt: HostRuntime) -> Result<(), Fail> {
+    let alloc = rt.alloc();
     for (number, row) in ROWS.iter().enumerate() {
-        for derivers in [0, MOST_DERIVERS] {
-            let left = left_of(&rt, rt.alloc(), row, derivers)?;
-            assert_eq!(rt; left, row.left, "row {number}, {derivers} derivers");
-        }
+        check_row(&rt, alloc, number, row, 0)?;
+        check_row(&rt, alloc, number, row, MOST_DERIVERS)?;
     }
     Ok(())
 }

@@ -1,5 +1,5 @@
 //! Repositories over memory.
-use blob_disk::MemDisk;
+use blob_disk::{Disk, MemDisk};
 use ports::ZeroBytes;
 use recovery::{Opened, open};
 use repo_journal::init;
@@ -8,13 +8,33 @@ use std::alloc::Global;
 use std::hash::RandomState;
 use std::test::Fail;
 
-/// A new repository of 65,536 bytes at most.
-pub(crate) fn new_repository(alloc: Global) -> Result<RepoState<MemDisk>, Fail> {
-    let mut disk = MemDisk::new(alloc, 65_536, Vec::new(alloc))?;
-    if init(&mut disk, 65_536).is_err() {
-        return Err(Fail::from("a new file"));
+// An empty disk with room for 65,536 bytes.
+fn new_disk(alloc: Global) -> Result<MemDisk, Fail> {
+    Ok(MemDisk::new(alloc, 65_536, Vec::new(alloc))?)
+}
+
+// Makes the file of a new repository.
+fn make_file<D: Disk>(disk: &mut D) -> Result<(), Fail> {
+    match init(disk, 65_536) {
+        Ok(()) => Ok(()),
+        Err(_) => Err(Fail::from("a new file")),
     }
-    let keys = RandomState::new(&ZeroBytes)?;
+}
+
+fn keys() -> Result<RandomState, Fail> {
+    Ok(RandomState::new(&ZeroBytes)?)
+}
+
+// The repository in a file.
+fn open_file<D: Disk>(alloc: Global, keys: RandomState, disk: D) -> Result<RepoState<D>, Fail> {
+    let mut disk = disk;
     let Opened { machine, journal } = open(alloc, keys, &mut disk)?;
     Ok(RepoState::new(alloc, machine, journal, disk))
+}
+
+/// A new repository of 65,536 bytes at most.
+pub(crate) fn new_repository(alloc: Global) -> Result<RepoState<MemDisk>, Fail> {
+    let mut disk = new_disk(alloc)?;
+    make_file(&mut disk)?;
+    open_file(alloc, keys()?, disk)
 }

@@ -232,8 +232,8 @@ fn stopped_story(alloc: Global, failing: u64) -> Result<String, AllocError> {
     Ok(lines)
 }
 
-// How many entries the file has after that, when it crashes and `fill` is where nothing is sure. Two calls of a kind are
-// of one change, and the second is of its gate: the change is in the file where the crash writes 1 over that.
+// How many entries a crash leaves that writes `fill`, where the nth call of a kind after opening failed. Two calls of a kind
+// are of one change, and the second is of its gate: the change is in the file where the crash writes 1 over that.
 fn entries_of(nth: u64, fill: u8) -> u64 {
     let opened = fill == 1 && nth % 2 == 1;
     (nth / 2).saturating_add(u64::from(opened))
