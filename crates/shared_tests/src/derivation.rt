@@ -157,13 +157,25 @@ fn is_done<D: Disk>(alloc: Global, state: &RepoState<D>, id: Id) -> Result<bool,
     }
 }
 
-// The same of the changeset without changes, where it was stored.
+// The same, once it was stored in a repository, and its roots were asked for or weren't.
+fn is_derived_in<R: Wait, D: Disk>(
+    rt: &R,
+    alloc: Global,
+    state: RepoState<D>,
+    bytes: &[u8],
+    id: Id,
+    asks: bool,
+) -> Result<bool, Fail> {
+    let state = closed(rt, alloc, state, bytes, id, asks)?;
+    is_done(alloc, &state, id)
+}
+
+// The same of the changeset without changes.
 fn is_derived<R: Wait>(rt: &R, alloc: Global, asks: bool) -> Result<bool, Fail> {
     let bytes = hex::decode(alloc, EMPTY)?;
     let id = id(EMPTY_ID)?;
     let state = new_repository(alloc, &[])?;
-    let state = closed(rt, alloc, state, bytes.as_slice(), id, asks)?;
-    is_done(alloc, &state, id)
+    is_derived_in(rt, alloc, state, bytes.as_slice(), id, asks)
 }
 
 #[test]

@@ -60,7 +60,26 @@ fn run_through<R: Abort + Wait, D: Disk, G: Gate>(
     run_lines(rt, alloc, &mut seat, script)
 }
 
-// Lands the draft while `main` is moved so often at the gate, and tells how often the landing came there.
+// Lands the draft at one seat while another moves `main` so often at the gate, and tells how often the landing came there.
+fn came_between<R: Abort + Wait, D: Disk>(
+    rt: &R,
+    alloc: Global,
+    repo: &Repo<D>,
+    seats: (RepoSeat, RepoSeat),
+    moves: u64,
+    script: &str,
+) -> Result<u64, Fail>
+    requires one { seats.0.lock ≡ repo.now }
+    requires other { seats.1.lock ≡ repo.now }
+{
+    let (one, other) = seats;
+    let other = Served::new(rt, repo, other, &NoGate);
+    let gate = Moves::new(rt, alloc, walker_at(alloc, other)?, moves);
+    run_through(rt, alloc, repo, one, &gate, script)?;
+    Ok(gate.came())
+}
+
+// The same in a repository.
 fn came_in<R: Abort + Wait, D: Disk>(
     rt: &R,
     alloc: Global,
@@ -69,10 +88,8 @@ fn came_in<R: Abort + Wait, D: Disk>(
     script: &str,
 ) -> Result<u64, Fail> {
     let (repo, mut lead) = Repo::new(alloc, state)?;
-    let other = Served::new(rt, &repo, repo.split(&mut lead), &NoGate);
-    let gate = Moves::new(rt, alloc, walker_at(alloc, other)?, moves);
-    run_through(rt, alloc, &repo, lead, &gate, script)?;
-    Ok(gate.came())
+    let other = repo.split(&mut lead);
+    came_between(rt, alloc, &repo, (lead, other), moves, script)
 }
 
 // The same in a new repository.
