@@ -10,7 +10,9 @@ use crate::change::Change;
 use crate::changeset::Changeset;
 use crate::edit::Edit;
 use crate::fields::Fields;
+use crate::limits::{LONGEST_AUTHOR, LONGEST_MESSAGE, MOST_EDITS, MOST_PARENTS};
 use object_id::Id;
+use repo_path::LONGEST_PATH;
 use std::alloc::{AllocError, Global};
 
 /// The one encoding of a changeset.
@@ -63,7 +65,7 @@ fn put_fields(out: &mut Vec<u8>, fields: &Fields) -> Result<(), AllocError>
 
 // The mark, the version and the parents.
 fn put_head(out: &mut Vec<u8>, parents: &[Id]) -> Result<(), AllocError>
-    requires { length parents.now ≤ 2 }
+    requires { length parents.now ≤ MOST_PARENTS }
     ensures { OnOk result (out.new.items ≡ out.old.items ++ 0x43 ∷ 1 ∷ length parents.now ∷ concat parents.now) }
 {
     out.extend_from_slice(&[b'C', 1, parents.len() as u8])?;
@@ -79,7 +81,7 @@ fn put_date(out: &mut Vec<u8>, seconds: i64, offset: i32) -> Result<(), AllocErr
 
 // How many edits there are, and then each.
 fn put_edit_list(out: &mut Vec<u8>, edits: &[Edit]) -> Result<(), AllocError>
-    requires { length edits.now ≤ 4096 }
+    requires { length edits.now ≤ MOST_EDITS }
     ensures { OnOk result (out.new.items ≡ out.old.items ++ to_be_bytes w32 (length edits.now) ++ flat_map model.edit_bytes (edits_view edits.now)) }
 {
     out.extend_from_slice(&(edits.len() as u32).to_be_bytes())?;
@@ -96,7 +98,7 @@ fn put_parents(out: &mut Vec<u8>, parents: &[Id]) -> Result<(), AllocError>
 }
 
 fn put_author(out: &mut Vec<u8>, author: &str) -> Result<(), AllocError>
-    requires { length author.now ≤ 1024 }
+    requires { length author.now ≤ LONGEST_AUTHOR }
     ensures { OnOk result (out.new.items ≡ out.old.items ++ sized w16 author.now) }
 {
     put_short(out, author.as_bytes())
@@ -104,7 +106,7 @@ fn put_author(out: &mut Vec<u8>, author: &str) -> Result<(), AllocError>
 
 // A length of 16 bits, and then the bytes.
 fn put_short(out: &mut Vec<u8>, bytes: &[u8]) -> Result<(), AllocError>
-    requires { length bytes.now ≤ 4096 }
+    requires { length bytes.now ≤ LONGEST_PATH }
     ensures { OnOk result (out.new.items ≡ out.old.items ++ sized w16 bytes.now) }
 {
     out.extend_from_slice(&(bytes.len() as u16).to_be_bytes())?;
@@ -112,7 +114,7 @@ fn put_short(out: &mut Vec<u8>, bytes: &[u8]) -> Result<(), AllocError>
 }
 
 fn put_message(out: &mut Vec<u8>, message: &str) -> Result<(), AllocError>
-    requires { length message.now ≤ 1_048_576 }
+    requires { length message.now ≤ LONGEST_MESSAGE }
     ensures { OnOk result (out.new.items ≡ out.old.items ++ sized w32 message.now) }
 {
     out.extend_from_slice(&(message.len() as u32).to_be_bytes())?;

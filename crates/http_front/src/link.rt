@@ -5,7 +5,7 @@ ghost use Rattle.http_front.specs.Turns.{ReadMore, Sent};
 
 use crate::ended::Ended;
 use crate::response_buffer::ResponseBuffer;
-use http_wire::{Cutter, MOST_PIECE};
+use http_wire::{Cutter, MOST_PIECE, MOST_REQUEST};
 use ports::{Failed, Link};
 
 /// Writes the text in the buffer. The session goes on where the link holds and the request doesn't ask for its end.
@@ -29,11 +29,11 @@ pub(crate) fn read_more<L: Link>(
     piece: &mut Vec<u8>,
     budget: &mut usize,
 ) -> Option<Ended>
-    requires waiting { length cutter.old < 1064960 }
-    requires piece { vec_len piece.old ≡ 65536 }
+    requires waiting { length cutter.old < MOST_REQUEST }
+    requires piece { vec_len piece.old ≡ MOST_PIECE }
     ensures read { ReadMore result cutter.old budget.old (L.rest link.old) cutter.new budget.new (L.rest link.new) }
     ensures output { L.written link.new ≡ L.written link.old }
-    ensures piece { vec_len piece.new ≡ 65536 }
+    ensures piece { vec_len piece.new ≡ MOST_PIECE }
     ensures faults { L.faults link.old ≤ L.faults link.new }
     ensures cause { result ≡ Some Ended.LinkFault → Rose (L.faults link.old) (L.faults link.new) }
 {

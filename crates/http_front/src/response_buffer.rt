@@ -29,13 +29,15 @@ pub struct ResponseBuffer {
 }
 
 impl Model for ResponseBuffer {
-    ghost use Rattle.std.specs.Prelude.{◌≤◌, ℕ, List, vec_capacity};
+    ghost use Rattle.std.specs.Prelude.{◌+◌, ◌≤◌, ℕ, List, vec_capacity};
+    ghost use Rattle.repo_text.specs.declared.bodies.TheConstants.{MOST_BODY};
+    ghost use Rattle.repo_text.specs.declared.response.TheConstants.{HEAD_ROOM};
 
     ghost Value = { List ℕ };
 
     ghost view = { λ r. r.text.items };
 
-    ghost invariant = { λ r. (8192 ≤ vec_capacity r.body) × (8448 ≤ vec_capacity r.text) };
+    ghost invariant = { λ r. (MOST_BODY ≤ vec_capacity r.body) × (HEAD_ROOM + MOST_BODY ≤ vec_capacity r.text) };
 }
 
 impl ResponseBuffer {
@@ -136,7 +138,7 @@ fn put_json(
     body: &[u8],
     form: ResponseForm,
 )
-    requires { 256 + length body.now ≤ vec_capacity text.old }
+    requires { HEAD_ROOM + length body.now ≤ vec_capacity text.old }
     ensures text { text.new.items ≡ text_of (record { status = status; media = Json; allow = allow_of allow; body = body.now }) form.close form.head_only }
     ensures room { vec_capacity text.old ≤ vec_capacity text.new }
 {

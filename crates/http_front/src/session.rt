@@ -40,7 +40,7 @@ struct SessionState {
 
 impl SessionState {
     fn new(alloc: Global) -> Result<SessionState, AllocError>
-        ensures { IfOk result (λ state. (state.cutter ≡ []) × (state.budget ≡ 1073741824) × (vec_len state.piece ≡ 65536)) }
+        ensures { IfOk result (λ state. (state.cutter ≡ []) × (state.budget ≡ MOST_READ) × (vec_len state.piece ≡ MOST_PIECE)) }
     {
         Ok(SessionState {
             cutter: Cutter::new(alloc)?,
@@ -139,13 +139,13 @@ fn turn<T: Seat, L: Link>(
     link: &mut L,
     state: &mut SessionState,
 ) -> Option<Ended>
-    requires { vec_len state.old.piece ≡ 65536 }
+    requires { vec_len state.old.piece ≡ MOST_PIECE }
     ensures goes { TurnGoes T.replies (T.header seat.old) (T.number seat.old) (T.front seat.old) (T.front seat.new) (L.rest link.old) (L.rest link.new) (L.written link.old) (L.written link.new) state.old.cutter state.old.budget state.new.cutter state.new.budget result }
     ensures nearer { IfNone result (2 * state.new.budget + length state.new.cutter < 2 * state.old.budget + length state.old.cutter) }
     ensures header { T.header seat.new ≡ T.header seat.old }
     ensures number { T.number seat.new ≡ T.number seat.old }
     ensures home { T.home seat.new ≡ T.home seat.old }
-    ensures piece { vec_len state.new.piece ≡ 65536 }
+    ensures piece { vec_len state.new.piece ≡ MOST_PIECE }
     ensures faults { L.faults link.old ≤ L.faults link.new }
     ensures cause { result ≡ Some Ended.LinkFault → Rose (L.faults link.old) (L.faults link.new) }
 {
@@ -182,7 +182,7 @@ fn serve<T: Seat, L: Link>(
     link: &mut L,
     state: SessionState,
 ) -> Ended
-    requires new { (state.cutter ≡ []) × (state.budget ≡ 1073741824) × (vec_len state.piece ≡ 65536) }
+    requires new { (state.cutter ≡ []) × (state.budget ≡ MOST_READ) × (vec_len state.piece ≡ MOST_PIECE) }
     ensures session { Finished T.replies (record { header = T.header seat.old; who = T.number seat.old; history = T.front seat.old; rest = L.rest link.old; written = L.written link.old }) (T.front seat.new) (L.rest link.new) (L.written link.new) result }
     ensures header { T.header seat.new ≡ T.header seat.old }
     ensures number { T.number seat.new ≡ T.number seat.old }

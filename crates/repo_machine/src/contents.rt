@@ -15,6 +15,7 @@ use crate::judged::{Judged, Made};
 use crate::machine::Machine;
 use crate::place::Place;
 use crate::prepared::content_frame;
+use bonsai::MOST_CONTENT;
 use object_id::Id;
 use repo_calls::{Ask, Granted, Refusal};
 use std::alloc::Global;
@@ -43,7 +44,7 @@ impl Machine {
         bytes: &[u8],
     ) -> Result<Judged, Refusal>
         requires id { id ≡ sha256 bytes.now }
-        requires short { length bytes.now ≤ 1_048_576 }
+        requires short { length bytes.now ≤ MOST_CONTENT }
         ensures ok { IfOk result (Judges self.old.header self.old.history self.new.room who (PutContent bytes.now)) }
         ensures err { IfErr result (IsRefusal (judge self.old.header self.old.history (PutContent bytes.now))) }
         ensures header { self.new.header ≡ self.old.header }

@@ -12,6 +12,7 @@ use crate::judged::Judged;
 use crate::machine::Machine;
 use object_id::Id;
 use repo_calls::{Granted, Landed, Refusal};
+use repo_events::MOST_STACK;
 use repo_path::BookName;
 use std::alloc::Global;
 
@@ -29,7 +30,7 @@ impl Machine {
         ensures reply { Replies self.old.header self.old.history who (Asks (LandDraft name.now draft)) (landing_answer result) self.new.history }
         ensures legal { IsLegal self.new.header self.new.history }
         ensures header { self.new.header ≡ self.old.header }
-        ensures few { IfOk result (λ landed. length landed.ids.items ≤ 100) }
+        ensures few { IfOk result (λ landed. length landed.ids.items ≤ MOST_STACK) }
         // The new head's tree has what the stack sets, and else what the old head's has, in which no path that the stack
         // touches was changed since the root.
         ensures lands { IfOk result (λ landed. IsLanding (known self.old.history) (known self.new.history) landed.old draft landed.ids.items) }

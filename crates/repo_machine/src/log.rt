@@ -37,7 +37,7 @@ impl Machine {
 
 // At most 100 places of stored entries, from this number on.
 fn page_from(kept: &[usize], from: u64) -> &[usize]
-    ensures page { result.now ≡ take 100 (drop from kept.now) }
+    ensures page { result.now ≡ take PAGE (drop from kept.now) }
     ensures fits { from + length result.now < 2 ^ 64 }
 {
     let start = from.min(kept.len() as u64) as usize;

@@ -110,7 +110,7 @@ fn ready_content(alloc: Global, bytes: &[u8]) -> Result<Ready, AllocError>
 // The record of a content of at most 1,048,576 bytes.
 pub(crate) fn content_frame(alloc: Global, id: Id, bytes: &[u8]) -> Result<Vec<u8>, AllocError>
     requires id { id ≡ sha256 bytes.now }
-    requires short { length bytes.now ≤ 1_048_576 }
+    requires short { length bytes.now ≤ MOST_CONTENT }
     ensures { IfOk result (λ frame. Frames (Some (Content id (length bytes.now))) frame.items) }
 {
     let length = bytes.len() as u64;

@@ -18,7 +18,7 @@ use crate::machine::Machine;
 use bonsai::Commit;
 use object_id::Id;
 use repo_calls::{Granted, Refusal};
-use repo_events::{Body, FRAME, Landing, encode_entry};
+use repo_events::{Body, FRAME, Landing, MOST_PAYLOAD, MOST_STACK, encode_entry};
 use repo_path::BookName;
 use std::alloc::{AllocError, Global};
 use std::collections::BTreeMap;
@@ -35,8 +35,8 @@ impl Machine {
         content: &[u8],
     ) -> Result<Judged, Refusal>
         requires content { IsContentOf (body_of body) content.now }
-        requires short { payload_len (body_of body) ≤ 16_777_216 }
-        requires few { length (changesets_in (body_of body)) ≤ 100 }
+        requires short { payload_len (body_of body) ≤ MOST_PAYLOAD }
+        requires few { length (changesets_in (body_of body)) ≤ MOST_STACK }
         ensures ok { IfOk result (IsPrepared self.old.header self.old.history self.new.room who (granted_seen granted) (body_of body)) }
         ensures err { IfErr result (Prevents self.old.header self.old.history (body_of body)) }
         ensures header { self.new.header ≡ self.old.header }
@@ -58,8 +58,8 @@ impl Machine {
     ) -> Result<Judged, Refusal>
         requires frames { Frames (Some (made_of made)) frame.items }
         requires ready { IsMadeReady made }
-        requires short { payload_len (made_of made) ≤ 16_777_216 }
-        requires few { length (changesets_in (made_of made)) ≤ 100 }
+        requires short { payload_len (made_of made) ≤ MOST_PAYLOAD }
+        requires few { length (changesets_in (made_of made)) ≤ MOST_STACK }
         ensures ok { IfOk result (IsPrepared self.old.header self.old.history self.new.room who (granted_seen granted) (made_of made)) }
         ensures err { IfErr result (Prevents self.old.header self.old.history (made_of made)) }
         ensures header { self.new.header ≡ self.old.header }
@@ -77,7 +77,7 @@ impl Machine {
 
     // Makes room for an entry and one fault after it.
     fn make_room(&mut self, alloc: Global, made: &Made) -> Result<(), AllocError>
-        requires { length (changesets_in (made_of made.now)) ≤ 100 }
+        requires { length (changesets_in (made_of made.now)) ≤ MOST_STACK }
         ensures header { self.new.header ≡ self.old.header }
         ensures history { self.new.history ≡ self.old.history }
         ensures room { OnOk result (HasRoom self.new.room (Some (made_of made.now))) }

@@ -6,7 +6,7 @@ ghost use Rattle.changeset_model.proofs.Paths.{path_cmp_total};
 ghost use Rattle.repo_path.specs.Order.{path_eq_equiv, path_eq_ties, path_partial_order};
 
 use crate::path_fault::PathFault;
-use crate::path_text::{comparable, compare, lies_under, path_fault_of};
+use crate::path_text::{LONGEST_PATH, comparable, compare, lies_under, path_fault_of};
 use std::alloc::{AllocError, Global};
 use std::cmp::Ordering;
 use std::marker::Model;
@@ -65,7 +65,7 @@ impl RepoPath {
         ensures text { result.now ≡ text_of self.now }
         ensures elements { elements result.now ≡ self.now }
         ensures path { IsTrue (is_path self.now) }
-        ensures length { length result.now ≤ 4096 }
+        ensures length { length result.now ≤ LONGEST_PATH }
     {
         self.text.as_str()
     }

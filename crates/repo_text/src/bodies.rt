@@ -62,9 +62,9 @@ fn put_maybe_id(out: &mut Vec<u8>, id: Option<Id>)
 
 // Each id behind a comma.
 fn put_later_ids(out: &mut Vec<u8>, ids: &[Id])
-    requires { vec_len out.old + 67 * length ids.now ≤ vec_capacity out.old }
+    requires { vec_len out.old + ID_ROOM * length ids.now ≤ vec_capacity out.old }
     ensures items { out.new.items ≡ out.old.items ++ flat_map (λ x. codes "," ++ id_text x) ids.now }
-    ensures short { vec_len out.new ≤ vec_len out.old + 67 * length ids.now }
+    ensures short { vec_len out.new ≤ vec_len out.old + ID_ROOM * length ids.now }
     ensures room { vec_capacity out.old ≤ vec_capacity out.new }
 {
     for id in ids {
@@ -75,9 +75,9 @@ fn put_later_ids(out: &mut Vec<u8>, ids: &[Id])
 
 // An id, and others behind it.
 fn put_joined_ids(out: &mut Vec<u8>, first: &Id, later: &[Id])
-    requires { vec_len out.old + 67 * (length later.now + 1) ≤ vec_capacity out.old }
+    requires { vec_len out.old + ID_ROOM * (length later.now + 1) ≤ vec_capacity out.old }
     ensures items { out.new.items ≡ out.old.items ++ join_with_byte 0x2C (map id_text (first.now ∷ later.now)) }
-    ensures short { vec_len out.new ≤ vec_len out.old + 67 * (length later.now + 1) }
+    ensures short { vec_len out.new ≤ vec_len out.old + ID_ROOM * (length later.now + 1) }
     ensures room { vec_capacity out.old ≤ vec_capacity out.new }
 {
     put_id(out, first);
@@ -85,9 +85,9 @@ fn put_joined_ids(out: &mut Vec<u8>, first: &Id, later: &[Id])
 }
 
 pub(crate) fn put_ids(out: &mut Vec<u8>, ids: &[Id])
-    requires { vec_len out.old + 67 * length ids.now + 2 ≤ vec_capacity out.old }
+    requires { vec_len out.old + ID_ROOM * length ids.now + 2 ≤ vec_capacity out.old }
     ensures items { out.new.items ≡ out.old.items ++ ids_text ids.now }
-    ensures short { vec_len out.new ≤ vec_len out.old + 67 * length ids.now + 2 }
+    ensures short { vec_len out.new ≤ vec_len out.old + ID_ROOM * length ids.now + 2 }
     ensures room { vec_capacity out.old ≤ vec_capacity out.new }
 {
     put(out, b"[");

@@ -114,10 +114,10 @@ fn put_length(out: &mut Vec<u8>, len: usize)
 }
 
 fn put_head(out: &mut Vec<u8>, response: &Response<'_>, close: bool)
-    requires { vec_len out.old + 256 ≤ vec_capacity out.old }
+    requires { vec_len out.old + HEAD_ROOM ≤ vec_capacity out.old }
     ensures items { out.new.items ≡ out.old.items ++ head_text (response_of response.now) close }
     ensures room { vec_capacity out.old ≤ vec_capacity out.new }
-    ensures short { vec_len out.new ≤ vec_len out.old + 256 }
+    ensures short { vec_len out.new ≤ vec_len out.old + HEAD_ROOM }
 {
     put_status(out, response.status);
     put_media(out, response.media);
