@@ -165,7 +165,7 @@ impl Chain {
         requires known { parent < length self.now.parents }
         requires few { length self.now.parents < 2 ^ 31 }
         ensures jumps { AreJumps self.now.parents (forest.line self.now.parents parent) result.ancestors result.count }
-        ensures size { length result.ancestors ≡ 30 }
+        ensures size { length result.ancestors ≡ MOST_JUMPS }
     {
         let farthest = self.depth(parent);
         let mut jumps = Jumps {
@@ -199,7 +199,7 @@ impl Chain {
         requires known { IfSome parent (λ p. p < length self.now.parents) }
         requires few { length self.now.parents < 2 ^ 31 }
         ensures jumps { AreJumps self.now.parents (option_map_or (forest.line self.now.parents) parent []) result.ancestors result.count }
-        ensures size { length result.ancestors ≡ 30 }
+        ensures size { length result.ancestors ≡ MOST_JUMPS }
     {
         match parent {
             Some(parent) => self.jumps_past(parent),

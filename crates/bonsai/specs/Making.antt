@@ -8,6 +8,7 @@ use Rattle.std.specs.FinMap.{is_sorted}
 use Rattle.changeset_model.specs.Path.{Path, path_cmp, is_path}
 use Rattle.changeset_model.specs.Changeset.{FileChange, Changeset, are_parents, is_author, is_message, is_change, is_changeset, self_conflict}
 use Rattle.changeset_model.specs.Decoding.{is_after}
+use Rattle.bonsai.specs.declared.limits.TheConstants.{MOST_EDITS}
 use Rattle.bonsai.specs.declared.making.FieldsFault.{FieldsFault}
 use Rattle.bonsai.specs.declared.making.FieldsFault.TheVariants as faults
 
@@ -26,7 +27,7 @@ abbrev pub IsEditsFault : FieldsFault → List (Path × FileChange) → Type 0
 IsEditsFault faults.BadParents es = ⊥
 IsEditsFault faults.BadAuthor es = ⊥
 IsEditsFault faults.BadMessage es = ⊥
-IsEditsFault faults.TooManyEdits es = nat_le (length es) 4096 ≡ false
+IsEditsFault faults.TooManyEdits es = nat_le (length es) MOST_EDITS ≡ false
 IsEditsFault faults.TooLarge es = keep_sizes es ≡ false
 IsEditsFault faults.Unordered es = is_sorted path_cmp es ≡ false
 IsEditsFault (faults.SelfConflict short long) es = ⊥
@@ -36,7 +37,7 @@ abbrev pub IsFault : FieldsFault → Changeset → Type 0
 IsFault faults.BadParents c = are_parents c.parents ≡ false
 IsFault faults.BadAuthor c = is_author c.author ≡ false
 IsFault faults.BadMessage c = is_message c.message ≡ false
-IsFault faults.TooManyEdits c = nat_le (length c.changes) 4096 ≡ false
+IsFault faults.TooManyEdits c = nat_le (length c.changes) MOST_EDITS ≡ false
 IsFault faults.TooLarge c = keep_sizes c.changes ≡ false
 IsFault faults.Unordered c = is_sorted path_cmp c.changes ≡ false
 IsFault (faults.SelfConflict short long) c = (is_changeset c ≡ true) × (self_conflict c ≡ Some (short, long))

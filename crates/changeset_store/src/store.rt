@@ -11,7 +11,6 @@ ghost use Rattle.history_model.specs.Chain.{HasParents, changesets, first_parent
 ghost use Rattle.history_model.specs.Pushrebase as pushrebase;
 ghost use Rattle.changeset_store.specs.Store.{number_in, parent_at, known_at, changeset_at};
 ghost use Rattle.changeset_store.specs.Fork.{chain_at, following_at, fork_between, IsAncestor, IsFork};
-ghost use Rattle.changeset_store.specs.Numbers.{most};
 ghost use Rattle.changeset_store.specs.Shared.{values};
 
 use crate::fork::Fork;
@@ -72,7 +71,7 @@ impl ChangesetStore {
     /// How many changesets are known, at most 2,147,483,648.
     pub fn len(&self) -> u32
         ensures len { result ≡ length self.now.known }
-        ensures few { length self.now.known ≤ most }
+        ensures few { length self.now.known ≤ MOST_CHANGESETS }
 
         // Each stands under its id, and once, after its parents.
         ensures ids { map with_id (changesets self.now.known) ≡ self.now.known }

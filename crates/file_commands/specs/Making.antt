@@ -11,6 +11,7 @@ use Rattle.disk_model.specs.Meaning.{Meaning, IsLong}
 use Rattle.disk_model.specs.Calls.{Kept, LeavesOnly, Looked}
 use Rattle.history_model.specs.Journal.{Keeps}
 use Rattle.repo_journal.specs.Sealing.{Makes}
+use Rattle.repo_journal.specs.declared.header.TheConstants.{EMPTY_SIZE}
 use Rattle.file_commands.specs.declared.report.Report.{Report}
 use Rattle.file_commands.specs.declared.report.Report.TheVariants.{Ready, Counted, Served, Help, Version, Usage, DiskFault, NotARepository, Damaged, NotEmpty, NoMemory, StreamFault, Loaded, LoadRefused}
 
@@ -22,7 +23,7 @@ pub record IsMade (capacity made : ℕ) (old new : Meaning) : Type 0 where
   pub made_is : made ≡ capacity
   pub empty : ForSome old.reads (λ file. length file ≡ 0)
   pub stands : IsTrue old.honest → Keeps (record { capacity = capacity }) (IsImage new.state) []
-  pub long : IsLong new.reads 17
+  pub long : IsLong new.reads EMPTY_SIZE
 
 -- the file has bytes, and stays as it was
 pub record IsUsed (old new : Meaning) : Type 0 where
@@ -48,7 +49,7 @@ Reported capacity old new StreamFault = ⊥
 
 pub record Attempts (capacity : ℕ) (old new : Meaning) (report : Report) : Type 0 where
   pub reported : Reported capacity old new report
-  pub quiet : ForSome old.quiet (λ most. 17 ≤ most → report ≢ DiskFault)
+  pub quiet : ForSome old.quiet (λ most. EMPTY_SIZE ≤ most → report ≢ DiskFault)
   -- a crash at any moment leaves no more bytes than those of a new file
   pub crash : IsTrue old.honest → old.state.reads ≡ [] → Makes old new
   pub kept : Kept old new

@@ -14,6 +14,7 @@ ghost use Rattle.http_front.specs.Reading.{seen_response, Suits};
 use crate::response_buffer::{ResponseBuffer, ResponseForm};
 use object_id::Id;
 use repo_path::BookName;
+use repo_text::bodies::MOST_CODE;
 use repo_text::history::history_body;
 use repo_text::log::log_body;
 use repo_text::{Body, Media};
@@ -136,7 +137,7 @@ fn put_fault(buffer: &mut ResponseBuffer, fault: AskFault, form: ResponseForm)
 }
 
 fn put_coded_id(buffer: &mut ResponseBuffer, status: Status, code: &str, id: Id, form: ResponseForm)
-    requires { length code.now ≤ 64 }
+    requires { length code.now ≤ MOST_CODE }
     ensures { buffer.new ≡ text_of (json status (coded_id code.now id)) form.close form.head_only }
 {
     buffer.put_body(status, &Body::CodedId { code, id }, form);

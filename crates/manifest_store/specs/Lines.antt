@@ -5,7 +5,7 @@ use Rattle.std.specs.Prelude.{◌≡◌, ◌≤◌, ℕ, List, length, map, reve
 use Rattle.history_model.specs.History.{Known, with_id, each_id_once}
 use Rattle.history_model.specs.Chain.{HasParents, changesets, line}
 use Rattle.changeset_store.specs.Store.{known_at}
-use Rattle.changeset_store.specs.Numbers.{most}
+use Rattle.changeset_store.specs.declared.store.TheConstants.{MOST_CHANGESETS}
 
 abbrev pub line_at : List Known → ℕ → List Known
 line_at ks n = line ks (known_at ks n).id
@@ -14,4 +14,4 @@ pub record IsStore (ks : List Known) : Type 0 where
   pub ids : map with_id (changesets ks) ≡ ks
   pub once : each_id_once ks ≡ ks
   pub parents : HasParents (reverse ks)
-  pub few : length ks ≤ most
+  pub few : length ks ≤ MOST_CHANGESETS

@@ -29,9 +29,9 @@ pub fn changesets_of_entries_keep_the_rules()
     ensures parents { (header : Header) (h : List Entry) → IsLegal header h → AllByRecursion (λ c. length c.parents ≤ 1) (flat_map (λ e. changesets_in e.body) h) }
 {}
 
-/// The file of a legal history is within its capacity, where this has room for the header and a gate.
+/// The file of a legal history is within its capacity, where this has room for that of no entry.
 pub fn legal_histories_fit()
-    ensures { (header : Header) (h : List Entry) → 17 ≤ header.capacity → IsLegal header h → size h ≤ header.capacity }
+    ensures { (header : Header) (h : List Entry) → size [] ≤ header.capacity → IsLegal header h → size h ≤ header.capacity }
 {}
 
 /// Each payload of an entry that some change makes at a legal history is read as this entry. Of a content these are any bytes of its digest and length.

@@ -17,7 +17,8 @@ use Rattle.repo_journal.specs.declared.step.Step.{Step}
 use Rattle.repo_journal.specs.declared.step.Step.TheVariants.{Closed, Record, Bad}
 use Rattle.repo_journal.proofs.Opened.{bad_gate, closed_gate, refused_record, taken_record}
 use Rattle.recovery.specs.Headers.{IsHeaded}
-use Rattle.recovery.specs.Reading.{IsAt, IsRead, Reaches, most_read}
+use Rattle.recovery.specs.Reading.{IsAt, IsRead, Reaches}
+use Rattle.recovery.specs.declared.records.TheConstants.{MOST_READ}
 use Rattle.recovery.proofs.FirstBytes.{limits_of}
 use Rattle.recovery.proofs.LongerFiles.{step_shown}
 use Rattle.recovery.proofs.NextEntries.{next_size, too_long}
@@ -35,7 +36,7 @@ moved m n header h gate w v at looked kept same holds = record {
   stored_is = at.stored_is;
   gate_is = at.gate_is;
   long = subst (λ k. IsLong n.reads k) (sym same) (kept.no_shorter w.size at.long);
-  far = λ honest. same ∙ at.far (was honest) ∙ ap (λ d. min (length d.reads) most_read) (sym (looked (was honest)));
+  far = λ honest. same ∙ at.far (was honest) ∙ ap (λ d. min (length d.reads) MOST_READ) (sym (looked (was honest)));
   holds = λ honest. subst (λ d. Holds v d.reads) (sym (looked (was honest))) (holds (was honest) (at.holds (was honest)));
   reaches = λ honest. subst (λ d. Reaches header h gate d.reads) (sym (looked (was honest))) (at.reaches (was honest));
 }
@@ -54,7 +55,7 @@ module _ {m : Meaning} {header : Header} {h : List Entry} {gate : ℕ} {w : Wind
       let fits = room.0 in
       let most = room.1 in
       let place = at.gate_is in
-      elim (cases_lt most_read (length m.state.reads)) [
+      elim (cases_lt MOST_READ (length m.state.reads)) [
         | inl longer ↦ inr (omega arith)
         | inr whole ↦ inl (omega arith)
       ]
@@ -139,15 +140,15 @@ module _ {m : Meaning} {header : Header} {h : List Entry} {gate : ℕ} {w : Wind
 -- ---- the first gate
 
 pub first_gate : (m : Meaning) (header : Header) (h : List Entry) (bytes : ℕ) (w : Window) → IsSound m → IsTrue (is_header header) → h ≡ [] → 17 ≤ bytes → IsLong m.reads bytes → (IsTrue m.honest → bytes ≡ length m.state.reads) → (IsTrue m.honest → IsHeaded header.capacity m.state.reads)
-    → w ≡ record { bytes = []; from = 0; gate = 16; size = min bytes most_read } → IsAt m header h w.gate w
+    → w ≡ record { bytes = []; from = 0; gate = 16; size = min bytes MOST_READ } → IsAt m header h w.gate w
 first_gate m header h bytes w sound good none some long whole headed is =
-    subst (λ v. IsAt m header h v.gate v) (sym is) (subst (λ es. IsAt m header es 16 (record { bytes = []; from = 0; gate = 16; size = min bytes most_read })) (sym none) (record {
+    subst (λ v. IsAt m header h v.gate v) (sym is) (subst (λ es. IsAt m header es 16 (record { bytes = []; from = 0; gate = 16; size = min bytes MOST_READ })) (sym none) (record {
       limits = good;
       legal = tt;
       stored_is = refl;
       gate_is = refl;
       long = λ file told. (let l = long file told in omega arith);
-      far = λ honest. ap (λ n. min n most_read) (whole honest);
+      far = λ honest. ap (λ n. min n MOST_READ) (whole honest);
       holds = λ honest. refl;
       reaches = λ honest. (
           let file = m.state.reads in

@@ -1,5 +1,4 @@
 -- What is so while the records of a file are read.
---     most_read      no gate that is reached stands as far behind as this
 --     Reaches header h gate file      the file opens as it does from this gate on, after these entries
 --     IsAt m header h gate w      these entries were read from the file, up to this gate, and the scanner holds bytes of the file
 --     IsRead m header h      these entries are those of the file
@@ -13,9 +12,7 @@ use Rattle.reply_model.specs.Opening.{opens}
 use Rattle.repo_journal.specs.Openings.{opened}
 use Rattle.repo_journal.specs.Scanning.{Window, Holds}
 use Rattle.repo_journal.specs.View.{JournalView}
-
-abbrev pub most_read : ℕ
-most_read = 68_719_476_736
+use Rattle.recovery.specs.declared.records.TheConstants.{MOST_READ}
 
 pub record Reaches (header : Header) (h : List Entry) (gate : ℕ) (file : List ℕ) : Type 0 where
   -- at least how many gates may be left
@@ -29,7 +26,7 @@ pub record IsAt (m : Meaning) (header : Header) (h : List Entry) (gate : ℕ) (w
   pub stored_is : h ≡ stored h
   pub gate_is : gate + 1 ≡ size h
   pub long : IsLong m.reads w.size
-  pub far : IsTrue m.honest → w.size ≡ min (length m.state.reads) most_read
+  pub far : IsTrue m.honest → w.size ≡ min (length m.state.reads) MOST_READ
   pub holds : IsTrue m.honest → Holds w m.state.reads
   pub reaches : IsTrue m.honest → Reaches header h gate m.state.reads
 

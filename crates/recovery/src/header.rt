@@ -9,13 +9,10 @@ ghost use Rattle.recovery.specs.Settling.{Spares};
 
 use crate::fault::OpenFault;
 use blob_disk::Disk;
-use repo_journal::{LEAST_CAPACITY, MARK, MOST_CAPACITY};
+use repo_journal::{EMPTY_SIZE, LEAST_CAPACITY, MARK, MOST_CAPACITY};
 
 // Where the capacity stands.
 const CAPACITY_AT: u64 = 8;
-
-// A header and a gate.
-const LEAST: u64 = 17;
 
 /// Reads the capacity that the header of a file of this size tells, in bytes.
 pub(crate) fn read_capacity<D: Disk>(disk: &mut D, size: u64) -> Result<u64, OpenFault>
@@ -23,12 +20,12 @@ pub(crate) fn read_capacity<D: Disk>(disk: &mut D, size: u64) -> Result<u64, Ope
     ensures headed { IsTrue (D.meaning disk.old).honest → size ≡ length (D.meaning disk.old).state.reads
         → MatchResult result (λ capacity. IsHeaded capacity (D.meaning disk.old).state.reads) (IsRefused (D.meaning disk.old).state.reads) }
     ensures limits { IfOk result (λ capacity. IsTrue (is_header (record { capacity = capacity }))) }
-    ensures long { IfOk result (λ capacity. 17 ≤ size) }
+    ensures long { IfOk result (λ capacity. EMPTY_SIZE ≤ size) }
     ensures looked { Looked (D.meaning disk.old) (D.meaning disk.new) }
     ensures spares { Spares (D.meaning disk.old) (D.meaning disk.new) (is_disk_fault result) }
     ensures quiet { IsSome (D.meaning disk.old).quiet → is_disk_fault result ≡ false }
 {
-    if size < LEAST {
+    if size < EMPTY_SIZE {
         return Err(OpenFault::NotARepository);
     }
     let mut head = [0; 16];

@@ -15,7 +15,7 @@ use crate::fault::OpenFault;
 use blob_disk::Disk;
 use replay::{ReplayFault, enter_payload};
 use repo_events::MOST_PAYLOAD;
-use repo_journal::{Scanner, Span, Step};
+use repo_journal::{EMPTY_SIZE, Scanner, Span, Step};
 use repo_machine::Machine;
 use std::alloc::Global;
 use std::hash::RandomState;
@@ -33,7 +33,7 @@ pub(crate) fn read_records<D: Disk>(
     capacity: u64,
 ) -> Result<Machine, OpenFault>
     requires limits { IsTrue (is_header (record { capacity = capacity })) }
-    requires some { 17 ≤ size }
+    requires some { EMPTY_SIZE ≤ size }
     requires long { IsLong (D.meaning disk.old).reads size }
     requires whole { IsTrue (D.meaning disk.old).honest → size ≡ length (D.meaning disk.old).state.reads }
     requires headed { IsTrue (D.meaning disk.old).honest → IsHeaded capacity (D.meaning disk.old).state.reads }

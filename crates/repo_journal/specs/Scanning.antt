@@ -6,6 +6,7 @@
 --     Grew count old new      bytes that got so many more behind them;  HasLetGo from at old new      bytes without those before a place
 use Rattle.std.specs.Prelude.{◌≡◌, ◌⊎◌, ℕ, ◌+◌, ◌-◌, ◌≤◌, ◌<◌, ◌^◌, ◌==◌, nat_lt, if◌then◌else◌, List, [], ◌∷◌, length, take, drop, slice_index}
 use Rattle.std.specs.Int.{w32, from_be_bytes}
+use Rattle.repo_journal.specs.declared.header.TheConstants.{FIRST_GATE}
 use Rattle.repo_journal.specs.declared.span.Span.{Span}
 use Rattle.repo_journal.specs.declared.step.Step.{Step}
 use Rattle.repo_journal.specs.declared.step.Step.TheVariants.{Closed, Record, Bad}
@@ -58,7 +59,7 @@ pub record Window : Type 0 where
 
 pub record IsInFile (bytes : List ℕ) (from gate size : ℕ) : Type 0 where
   pub ends : from + length bytes ≤ size
-  pub behind : 16 ≤ gate
+  pub behind : FIRST_GATE ≤ gate
   pub small : size < 2 ^ 63
 
 abbrev pub Holds : Window → List ℕ → Type 0

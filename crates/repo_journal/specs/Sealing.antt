@@ -11,6 +11,7 @@ use Rattle.disk_model.specs.Images.{Disk, IsImage}
 use Rattle.history_model.specs.Journal.{framed, open_record}
 use Rattle.disk_model.specs.Meaning.{Meaning}
 use Rattle.disk_model.specs.Calls.{LeavesOnly}
+use Rattle.repo_journal.specs.declared.header.TheConstants.{EMPTY_SIZE}
 
 abbrev pub IsFramed : List ℕ → Type 0
 IsFramed frame = (payload : List ℕ) × (frame ≡ framed payload)
@@ -46,7 +47,7 @@ pub record Appends (size : ℕ) (payload : List ℕ) (old new : Meaning) : Type 
   pub since : LeavesOnly (IsBeforeOrAfter old.state size payload) old new
 
 abbrev pub IsShort : List ℕ → Type 0
-IsShort image = length image ≤ 17
+IsShort image = length image ≤ EMPTY_SIZE
 
 pub record Makes (old new : Meaning) : Type 0 where
   pub now : (image : List ℕ) → IsImage new.state image → IsShort image

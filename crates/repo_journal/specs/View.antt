@@ -1,5 +1,6 @@
 -- What contracts see of an open journal.
 use Rattle.std.specs.Prelude.{ℕ, ◌≤◌, Bool}
+use Rattle.repo_journal.specs.declared.header.TheConstants.{EMPTY_SIZE, MOST_CAPACITY}
 use Rattle.repo_journal.specs.declared.opening.Opening.{Opening}
 
 pub record JournalView : Type 0 where
@@ -13,6 +14,6 @@ pub record JournalView : Type 0 where
 
 -- the capacity is within the limits, and the file within the capacity
 pub record IsOpen (capacity size : ℕ) : Type 0 where
-  pub least : 17 ≤ size
+  pub least : EMPTY_SIZE ≤ size
   pub fits : size ≤ capacity
-  pub most : capacity ≤ 34_359_738_368
+  pub most : capacity ≤ MOST_CAPACITY

@@ -12,7 +12,7 @@ ghost use Rattle.repo_journal.specs.Payloads.{blank_file, unmarked_file};
 ghost use Rattle.repo_journal.specs.Sealing.{Makes};
 
 use crate::fault::InitFault;
-use crate::header::MARK;
+use crate::header::{EMPTY_SIZE, MARK};
 use blob_disk::Disk;
 use ports::Failed;
 
@@ -26,7 +26,7 @@ pub fn init<D: Disk>(disk: &mut D, capacity: u64) -> Result<(), InitFault>
         → Keeps (record { capacity = capacity }) (IsImage (D.meaning disk.new).state) []) }
     ensures file { OnOk result (IsTrue (D.meaning disk.old).honest
         → (image : List ℕ) → IsImage (D.meaning disk.new).state image → image ≡ blank_file (record { capacity = capacity })) }
-    ensures long { OnOk result (IsLong (D.meaning disk.new).reads 17) }
+    ensures long { OnOk result (IsLong (D.meaning disk.new).reads EMPTY_SIZE) }
 
     // A crash at any moment leaves no more bytes than those of a new file.
     ensures crash { IsTrue (D.meaning disk.old).honest → (D.meaning disk.old).state.reads ≡ [] → Makes (D.meaning disk.old) (D.meaning disk.new) }
@@ -40,7 +40,7 @@ pub fn init<D: Disk>(disk: &mut D, capacity: u64) -> Result<(), InitFault>
 
     // It fails only where a call of the disk did.
     ensures faults { Counts (D.meaning disk.old).faults (D.meaning disk.new).faults (is_init_fault result) }
-    ensures quiet { ForSome (D.meaning disk.old).quiet (λ most. 17 ≤ most → is_init_fault result ≡ false) }
+    ensures quiet { ForSome (D.meaning disk.old).quiet (λ most. EMPTY_SIZE ≤ most → is_init_fault result ≡ false) }
 {
     match disk.size() {
         Ok(0) => {}
@@ -54,10 +54,10 @@ pub fn init<D: Disk>(disk: &mut D, capacity: u64) -> Result<(), InitFault>
 }
 
 // The file without its mark.
-fn unmarked(capacity: u64) -> [u8; 17]
+fn unmarked(capacity: u64) -> [u8; EMPTY_SIZE as usize]
     ensures { result ≡ unmarked_file capacity }
 {
-    let mut file = [0; 17];
+    let mut file = [0; EMPTY_SIZE as usize];
     file[8..16].copy_from_slice(&capacity.to_be_bytes());
     file
 }
@@ -65,11 +65,11 @@ fn unmarked(capacity: u64) -> [u8; 17]
 fn make<D: Disk>(disk: &mut D, capacity: u64) -> Result<(), Failed>
     ensures file { OnOk result (IsTrue (D.meaning disk.old).honest → (D.meaning disk.old).state.reads ≡ []
         → (image : List ℕ) → IsImage (D.meaning disk.new).state image → image ≡ blank_file (record { capacity = capacity })) }
-    ensures long { OnOk result (IsLong (D.meaning disk.new).reads 17) }
+    ensures long { OnOk result (IsLong (D.meaning disk.new).reads EMPTY_SIZE) }
     ensures crash { IsTrue (D.meaning disk.old).honest → (D.meaning disk.old).state.reads ≡ [] → Makes (D.meaning disk.old) (D.meaning disk.new) }
     ensures kept { Kept (D.meaning disk.old) (D.meaning disk.new) }
     ensures faults { Counts (D.meaning disk.old).faults (D.meaning disk.new).faults (is_err result) }
-    ensures quiet { ForSome (D.meaning disk.old).quiet (λ most. 17 ≤ most → IsOk result) }
+    ensures quiet { ForSome (D.meaning disk.old).quiet (λ most. EMPTY_SIZE ≤ most → IsOk result) }
 {
     disk.write_at(0, &unmarked(capacity))?;
     disk.sync()?;

@@ -1,6 +1,6 @@
 //! The header of a file.
-ghost use Rattle.std.specs.Prelude.{◌≡◌, ◌&&◌, ℕ, nat_le};
-ghost use Rattle.history_model.specs.Journal.{is_header};
+ghost use Rattle.std.specs.Prelude.{◌≡◌, ◌&&◌, ℕ, [], length, nat_le};
+ghost use Rattle.history_model.specs.Journal.{Header, header_bytes, is_header, size};
 
 /// The first bytes of a repository's file: `BONSAI` and the version.
 pub const MARK: [u8; 8] = *b"BONSAI\x00\x01";
@@ -11,7 +11,15 @@ pub const LEAST_CAPACITY: u64 = 4_096;
 /// The greatest capacity of a file, in bytes.
 pub const MOST_CAPACITY: u64 = 34_359_738_368;
 
-/// The limits are those of the definitions.
-pub fn capacities_are_defined()
-    ensures { (n : ℕ) → is_header (record { capacity = n }) ≡ (nat_le LEAST_CAPACITY n && nat_le n MOST_CAPACITY) }
+/// Where the first gate stands, behind the header, in bytes.
+pub const FIRST_GATE: u64 = 16;
+
+/// The size of a file without a record, a header and a gate, in bytes.
+pub const EMPTY_SIZE: u64 = 17;
+
+/// The limits and the sizes are those of the definitions.
+pub fn sizes_are_defined()
+    ensures first { (header : Header) → length (header_bytes header) ≡ FIRST_GATE }
+    ensures empty { size [] ≡ EMPTY_SIZE }
+    ensures capacity { (n : ℕ) → is_header (record { capacity = n }) ≡ (nat_le LEAST_CAPACITY n && nat_le n MOST_CAPACITY) }
 {}

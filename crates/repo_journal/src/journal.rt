@@ -10,6 +10,7 @@ ghost use Rattle.repo_journal.specs.Answers.{is_full_answer, is_disk_fault, Tell
 ghost use Rattle.repo_journal.specs.Sealing.{IsFramed, payload_in, AllClosed, Appends, IsAfter};
 
 use crate::fault::{AppendFault, DiskFault};
+use crate::header::EMPTY_SIZE;
 use crate::opening::Opening;
 use crate::seal;
 use blob_disk::Disk;
@@ -39,7 +40,7 @@ impl Journal {
     /// A journal of a file with this capacity, whose closing gate stands directly before `size`.
     pub fn new(capacity: u64, size: u64, opening: Opening) -> Self
         requires header { IsTrue (is_header (record { capacity = capacity })) }
-        requires some { 17 ≤ size }
+        requires some { EMPTY_SIZE ≤ size }
         requires fits { size ≤ capacity }
         ensures { result ≡ record { capacity = capacity; size = size; broken = false; opening = opening } }
     {

@@ -8,6 +8,7 @@ ghost use Rattle.repo_journal.specs.Answers.{is_scan_fault};
 ghost use Rattle.repo_journal.specs.Spans.{IsInside, HasRecords, spans_from};
 
 use crate::fault::ScanFault;
+use crate::header::FIRST_GATE;
 use crate::journal::Journal;
 use crate::scanner::Scanner;
 use crate::span::Span;
@@ -20,7 +21,7 @@ impl Journal {
     pub fn records<D: Disk>(&self, alloc: Global, disk: &mut D) -> Result<Vec<Span>, ScanFault>
         requires { IsLong (D.meaning disk.old).reads self.now.size }
         ensures all { IfOk result (λ spans. IsTrue (D.meaning disk.old).honest → (payloads : List (List ℕ))
-            → HasRecords 16 self.now.size payloads (D.meaning disk.old).state.reads → spans.items ≡ spans_from 16 payloads) }
+            → HasRecords FIRST_GATE self.now.size payloads (D.meaning disk.old).state.reads → spans.items ≡ spans_from FIRST_GATE payloads) }
         ensures inside { IfOk result (λ spans. All (IsInside self.now.size) spans.items) }
         ensures looked { Looked (D.meaning disk.old) (D.meaning disk.new) }
         ensures kept { Kept (D.meaning disk.old) (D.meaning disk.new) }

@@ -9,6 +9,7 @@ ghost use Rattle.repo_journal.specs.Scanning.{Holds, IsHeld, IsNext, gate_after,
 
 use crate::block::{let_go, read_on};
 use crate::fault::ScanFault;
+use crate::header::FIRST_GATE;
 use crate::span::Span;
 use crate::step::Step;
 use blob_disk::Disk;
@@ -20,9 +21,6 @@ const BLOCK: u32 = 65_536;
 
 // The length of a payload is told in so many bytes.
 const LENGTH: u64 = 4;
-
-// Where the first gate stands.
-const FIRST: u64 = 16;
 
 // The gate of a record that counts.
 const OPEN: u8 = 1;
@@ -52,12 +50,12 @@ impl Scanner {
     /// At the first gate of a file of this size. It takes the room for one block.
     pub fn new(alloc: Global, size: u64) -> Result<Scanner, AllocError>
         requires { size < 2 ^ 63 }
-        ensures { IfOk result (λ s. s ≡ record { bytes = []; from = 0; gate = 16; size = size }) }
+        ensures { IfOk result (λ s. s ≡ record { bytes = []; from = 0; gate = FIRST_GATE; size = size }) }
     {
         Ok(Scanner {
             block: Vec::with_capacity(alloc, BLOCK as usize)?,
             from: 0,
-            gate: FIRST,
+            gate: FIRST_GATE,
             size,
         })
     }
@@ -158,7 +156,7 @@ fn next_gate(gate: u64, step: Step) -> u64
 // What stands at a gate, by the first five bytes from there on, where the file has them.
 fn step_in(head: &[u8], gate: u64, behind: u64) -> Step
     requires some { 0 < length head.now }
-    requires whole { (behind < 4) ⊎ (length head.now ≡ 5) }
+    requires whole { (behind < LENGTH) ⊎ (length head.now ≡ 5) }
     requires small { gate + behind < 2 ^ 63 }
     ensures step { result ≡ head_step gate head.now behind }
     ensures inside { IsNext gate (gate + behind + 1) result }

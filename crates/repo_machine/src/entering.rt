@@ -57,7 +57,7 @@ impl Machine {
     // Enters what a change makes, of a frame of this length.
     fn enter(&mut self, who: u64, made: Made, length: u64)
         requires can { Enterable self.old.header self.old.history (made_of made) }
-        requires length { length ≡ 5 + payload_len (made_of made) }
+        requires length { length ≡ FRAME + payload_len (made_of made) }
         requires ready { IsMadeReady made }
         requires room { HasRoom self.old.room (Some (made_of made)) }
         ensures header { self.new.header ≡ self.old.header }
@@ -98,7 +98,7 @@ impl Machine {
     // Enters a changeset, of a frame of this length.
     fn enter_change(&mut self, who: u64, commit: Arc<Commit>, length: u64)
         requires can { Enterable self.old.header self.old.history (Change (arc_value commit)) }
-        requires length { length ≡ 5 + payload_len (Change (arc_value commit)) }
+        requires length { length ≡ FRAME + payload_len (Change (arc_value commit)) }
         requires room { HasRoom self.old.room (Some (Change (arc_value commit))) }
         ensures header { self.new.header ≡ self.old.header }
         ensures history { self.new.history ≡ self.old.history ++ entry_by who (Change (arc_value commit)) ∷ [] }
@@ -117,7 +117,7 @@ impl Machine {
     // Enters a move, of a frame of this length.
     fn enter_move(&mut self, who: u64, movement: Move, length: u64)
         requires can { Enterable self.old.header self.old.history (Book (move_of movement)) }
-        requires length { length ≡ 5 + payload_len (Book (move_of movement)) }
+        requires length { length ≡ FRAME + payload_len (Book (move_of movement)) }
         requires room { HasRoom self.old.room (Some (Book (move_of movement))) }
         ensures header { self.new.header ≡ self.old.header }
         ensures history { self.new.history ≡ self.old.history ++ entry_by who (Book (move_of movement)) ∷ [] }
@@ -136,7 +136,7 @@ impl Machine {
     // Enters a landing, of a frame of this length.
     fn enter_landing(&mut self, who: u64, landing: LandMade, length: u64)
         requires can { Enterable self.old.header self.old.history (Land (landing_made landing)) }
-        requires length { length ≡ 5 + payload_len (Land (landing_made landing)) }
+        requires length { length ≡ FRAME + payload_len (Land (landing_made landing)) }
         requires ready { HasNumbers landing }
         requires room { HasRoom self.old.room (Some (Land (landing_made landing))) }
         ensures header { self.new.header ≡ self.old.header }

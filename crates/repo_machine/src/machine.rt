@@ -124,8 +124,8 @@ impl Machine {
     // The journal's size with a payload of this length more, if it fits.
     pub(crate) fn check_size(&self, payload: u64) -> Result<(), Refusal>
         requires { payload < 2 ^ 63 }
-        ensures ok { IfOk result (λ done. journal.size self.now.history + 5 + payload ≤ self.now.header.capacity) }
-        ensures err { IfErr result (λ e. (e ≡ Refusal.Full (journal.size self.now.history) payload) × (self.now.header.capacity < journal.size self.now.history + 5 + payload)) }
+        ensures ok { IfOk result (λ done. journal.size self.now.history + FRAME + payload ≤ self.now.header.capacity) }
+        ensures err { IfErr result (λ e. (e ≡ Refusal.Full (journal.size self.now.history) payload) × (self.now.header.capacity < journal.size self.now.history + FRAME + payload)) }
     {
         if self.size + FRAME as u64 + payload > self.capacity {
             return Err(Refusal::Full {

@@ -24,7 +24,8 @@ use Rattle.opening_laws.proofs.Lists.{all_append, all_filter}
 use Rattle.opening_laws.proofs.Rules.{all_rules, all_clear}
 use Rattle.opening_laws.proofs.Sizes.{history_fits}
 use Rattle.changeset_store.specs.Store.{known_at}
-use Rattle.changeset_store.specs.Numbers.{AreApart, most}
+use Rattle.changeset_store.specs.Numbers.{AreApart}
+use Rattle.changeset_store.specs.declared.store.TheConstants.{MOST_CHANGESETS}
 use Rattle.changeset_store.proofs.Numbering.{each_once}
 use Rattle.derive_step.specs.Jobs.{IsRight}
 use Rattle.manifest_store.specs.Lines.{line_at, IsStore}
@@ -131,7 +132,7 @@ fits header h limits legal =
     let whole = history_fits header h (omega (arith, least)) legal in
     omega (arith, last, whole)
 
-few_known : (header : Header) (h : List Entry) → is_header header ≡ true → IsLegal header h → length (known h) ≤ most
+few_known : (header : Header) (h : List Entry) → is_header header ≡ true → IsLegal header h → length (known h) ≤ MOST_CHANGESETS
 few_known header h limits legal =
     let each = fewer_once (map with_id (changesets_of h)) in
     let same = length-map (changesets_of h) with_id in
