@@ -19,3 +19,4 @@ mod unodes;
 pub use derivation::derive;
 pub use done::Done;
 pub use job::{DirNodes, Job, Parent};
+pub use place::text_above;

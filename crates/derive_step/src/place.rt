@@ -3,7 +3,7 @@ ghost use Rattle.std.specs.Prelude.{◌≡◌, ◌<◌, ◌++◌, ◌∷◌, [],
 ghost use Rattle.changeset_model.specs.Path.{Path, elements, is_path, is_strict_prefix};
 ghost use Rattle.derive_step.specs.Places.{dir_of, is_in, IsPlace};
 
-use repo_path::{PathFault, RepoPath};
+use repo_path::{RepoPath, path_of};
 use std::alloc::{AllocError, Global};
 
 /// Where a path lies, seen from a directory.
@@ -65,7 +65,7 @@ fn text_under<'a>(path: &'a RepoPath, dir: &RepoPath) -> Option<&'a str>
 }
 
 /// The directory above a path, unless that is the root.
-pub(crate) fn text_above(text: &str) -> Option<&str>
+pub fn text_above(text: &str) -> Option<&str>
     ensures inside { IfSome result (λ above. (name : List ℕ) × (elements text.now ≡ elements above.now ++ name ∷ [])) }
     ensures outside { IfNone result (elements text.now ≡ text.now ∷ []) }
 {
@@ -87,23 +87,4 @@ pub(crate) fn dir_before(alloc: Global, path: &RepoPath, rest: &str) -> Result<R
         unreachable!()
     };
     path_of(alloc, text)
-}
-
-/// A path whose text is known to be one.
-pub(crate) fn path_of(alloc: Global, text: &str) -> Result<RepoPath, AllocError>
-    requires { IsTrue (is_path (elements text.now)) }
-    ensures { IfOk result (λ path. path ≡ elements text.now) }
-{
-    match RepoPath::parse(alloc, text) {
-        Ok(path) => Ok(path),
-        Err(PathFault::Memory) => Err(AllocError),
-        Err(PathFault::BadPath { .. }) => unreachable!(),
-    }
-}
-
-/// A path has elements.
-pub(crate) fn has_elements(path: &RepoPath)
-    ensures { 0 < length path.now }
-{
-    let _text = path.as_str();
 }

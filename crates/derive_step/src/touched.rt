@@ -6,9 +6,9 @@ ghost use Rattle.bonsai.specs.View.{edits_view};
 ghost use Rattle.changeset_model.specs.Path.{Path, elements, is_path, is_strict_prefix, path_cmp};
 ghost use Rattle.derive_step.specs.Touched.{is_above, IsWhole};
 
-use crate::place::{path_of, text_above};
+use crate::place::text_above;
 use bonsai::Edit;
-use repo_path::RepoPath;
+use repo_path::{RepoPath, path_of};
 use std::alloc::{AllocError, Global};
 use std::collections::BTreeSet;
 

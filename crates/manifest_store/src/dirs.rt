@@ -13,11 +13,11 @@ ghost use Rattle.manifest_store.specs.Parents.{IsParentIn};
 ghost use Rattle.manifest_store.specs.Reads.{dir_of};
 
 use crate::nodes::{child_roots, dir_under};
-use crate::place::{front_of, has_elements, parted, path_of, text_above};
+use crate::place::{front_of, parted};
 use bonsai::Edit;
-use derive_step::{DirNodes, Parent};
+use derive_step::{DirNodes, Parent, text_above};
 use node_table::NodeTable;
-use repo_path::RepoPath;
+use repo_path::{RepoPath, has_elements, path_of};
 use std::alloc::{AllocError, Global};
 use std::collections::BTreeMap;
 
