@@ -7,10 +7,10 @@ ghost use Rattle.std.specs.Option.{option_map_or};
 ghost use Rattle.ancestry.specs.Forest as forest;
 ghost use Rattle.ancestry.specs.Members.{IsAbove, AreJumps};
 
+use crate::Steps;
 use std::alloc::{AllocError, Global};
 use std::marker::Model;
 use std::sync::ledger::Ledger;
-use step_count::Steps;
 
 // The most ancestors at the distances 2, 4, 8 and so on that a line of 2,147,483,648 members has.
 const MOST_JUMPS: usize = 30;
@@ -361,23 +361,5 @@ impl Chain {
             return None;
         }
         self.parent(x)
-    }
-
-    /// The members of the chain of a member that come after an ancestor of it, oldest first, in memory of their own, which
-    /// is taken once and in the right size.
-    pub fn following(&self, alloc: Global, ancestor: u32, x: u32) -> Result<Vec<u32>, AllocError>
-        requires known { x < length self.now.parents }
-        requires ancestor { IsTrue (forest.is_member ancestor (forest.chain self.now.parents x)) }
-        ensures { IfOk result (λ members. members.items ≡ forest.following ancestor (forest.chain self.now.parents x)) }
-    {
-        let count = self.distance(ancestor, x);
-        let mut members = Vec::with_capacity(alloc, count as usize)?;
-        let mut member = x;
-        for _ in 0..count {
-            members.push_reserved(member);
-            member = self.parent(member).unwrap();
-        }
-        members.reverse();
-        Ok(members)
     }
 }

@@ -2,13 +2,12 @@
 ghost use Rattle.std.specs.Prelude.{◌≡◌, ◌+◌, ◌<◌, ◌≤◌, ◌^◌, length, IsTrue};
 ghost use Rattle.ancestry.specs.Forest as forest;
 
-use ancestry::Chain;
+use ancestry::{Chain, Steps};
 use std::marker::Brand;
 use std::sync::ledger::{Blank, Ledger};
-use step_count::Steps;
 
 /// Whether a member is an ancestor of another one.
-pub(crate) fn is_ancestor(chain: &Chain, a: u32, x: u32) -> bool
+fn is_ancestor(chain: &Chain, a: u32, x: u32) -> bool
     requires a_known { a < length chain.now.parents }
     requires x_known { x < length chain.now.parents }
     ensures is_ancestor { result ≡ forest.is_member a (forest.chain chain.now.parents x) }

@@ -1,5 +1,5 @@
 //! Lines of members, and where they part.
-use crate::counted::{is_ancestor, is_short, nearest};
+use crate::counted::{is_short, nearest};
 use ancestry::Chain;
 use std::alloc::{AllocError, Global};
 use std::test::Fail;
@@ -80,36 +80,6 @@ fn nearest_is_the_last_common_member(rt: HostRuntime) -> Result<(), Fail> {
         (2, 3, Some(1)),
     ] {
         assert_eq!(rt; nearest_of(&chain, 0, a, b)?, wanted, "of {a} and {b}");
-    }
-    Ok(())
-}
-
-// What follows an ancestor, in order and one at a time from the newest on, or `None` where it is no ancestor.
-fn followers(alloc: Global, chain: &Chain, a: u32, x: u32) -> Result<Option<Vec<u32>>, Fail> {
-    if a >= chain.len() || x >= chain.len() {
-        return Err(Fail::from("known members"));
-    }
-    if !is_ancestor(chain, a, x) {
-        return Ok(None);
-    }
-    Ok(Some(chain.following(alloc, a, x)?))
-}
-
-#[test]
-fn what_follows_an_ancestor_is_told_oldest_first(rt: HostRuntime) -> Result<(), Fail> {
-    let chain = two_trees(rt.alloc())?;
-    let table: [(u32, u32, Option<&[u32]>); 6] = [
-        (1, 4, Some(&[3, 4])),
-        (4, 4, Some(&[])),
-        (0, 7, Some(&[1, 2, 7])),
-        (5, 6, Some(&[6])),
-        (3, 7, None),
-        (5, 4, None),
-    ];
-    for (a, x, wanted) in table {
-        let found = followers(rt.alloc(), &chain, a, x)?;
-        let found = found.as_ref().map(|members| members.as_slice());
-        assert_eq!(rt; found, wanted, "from {a} to {x}");
     }
     Ok(())
 }

@@ -13,6 +13,7 @@ use Rattle.disk_model.proofs.Crashes.{covers, not_marked, untouched, write_at_le
 use Rattle.disk_model.specs.Calls.{Within, DidBy}
 use Rattle.blob_disk.specs.MemMeaning.{IsCrashed}
 use Rattle.blob_disk.specs.Memory.{Memory, IsGood, holding_all, marked_in, tore, wrote, synced, after, ranges, disk_of}
+use Rattle.byte_fields.proofs.Booleans.{or_false}
 
 -- ---- marks and ranges
 
@@ -99,10 +100,6 @@ within d e len reads less same = record {
   };
 }
 
-or_false : (b : Bool) → (b || false) ≡ b
-or_false true = refl
-or_false false = refl
-
 leb-not : (n i : ℕ) → i < n → nat_le n i ≡ false
 leb-not n i before = grind (arith, nat_tests)
 
@@ -110,7 +107,7 @@ small_either : (b : Bool) (x y : ℕ) → x < 256 → y < 256 → cond b x y < 2
 small_either true x y p q = p
 small_either false x y p q = q
 
-ltb-not : (i n : ℕ) → n ≤ i → nat_lt i n ≡ false
+pub ltb-not : (i n : ℕ) → n ≤ i → nat_lt i n ≡ false
 ltb-not i n behind = grind (arith, nat_tests)
 
 -- ---- calls

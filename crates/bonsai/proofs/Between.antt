@@ -6,37 +6,24 @@ use Rattle.std.specs.declared.cmp.Ordering.TheVariants.{Less, Equal, Greater}
 use Rattle.std.specs.Ordering.{nat_cmp, ordering_then, ordering_reverse, is_lt, is_eq}
 use Rattle.std.specs.Cmp.Lexicographic.{slice_cmp, texts_ties}
 use Rattle.std.specs.FinMap.{nat_cmp-IsAntisymmetric, slice_cmp-IsAntisymmetric}
-use Rattle.std.proofs.lemmas.Cmp.{nat_list_cmp_total, tied_itself}
+use Rattle.std.proofs.lemmas.Cmp.{nat_list_cmp_total}
 use Rattle.std.proofs.lemmas.Bool.{lt-ltb, ltb-true, false_from_ne_true}
 use Rattle.changeset_model.specs.Path.{Path, path_cmp, path_lt, is_prefix, is_strict_prefix}
 use Rattle.changeset_model.proofs.Rising.{path_lt_asymmetric, path_lt_irreflexive}
+use Rattle.changeset_model.proofs.Rising.{less_of}
+use Rattle.changeset_model.proofs.Spelling.{bytes_eq_refl as eq_itself}
+use Rattle.repo_path.proofs.Faults.{first_of_two as first_of, second_of_two as second_of}
 
-pub first_of : (a b : Bool) → (a && b) ≡ true → a ≡ true
-first_of true b h = refl
-first_of false b h = absurd (cc)
-
-pub second_of : (a b : Bool) → (a && b) ≡ true → b ≡ true
-second_of true b h = h
-second_of false b h = absurd (cc)
-
-equal_of : (o : Ordering) → is_eq o ≡ true → o ≡ Equal
+pub equal_of : (o : Ordering) → is_eq o ≡ true → o ≡ Equal
 equal_of Less h = absurd (cc)
 equal_of Equal h = refl
 equal_of Greater h = absurd (cc)
 
-pub less_of : (o : Ordering) → is_lt o ≡ true → o ≡ Less
-less_of Less h = refl
-less_of Equal h = absurd (cc)
-less_of Greater h = absurd (cc)
-
 abbrev text_cmp : List ℕ → List ℕ → Ordering
 text_cmp = slice_cmp nat_cmp
 
-same_text : (e f : List ℕ) → bytes_eq e f ≡ true → e ≡ f
+pub same_text : (e f : List ℕ) → bytes_eq e f ≡ true → e ≡ f
 same_text e f h = slice_cmp-IsAntisymmetric nat_cmp-IsAntisymmetric e f (equal_of (text_cmp e f) (sym (texts_ties e f) ∙ h))
-
-eq_itself : (e : List ℕ) → bytes_eq e e ≡ true
-eq_itself e = texts_ties e e ∙ ap is_eq (tied_itself nat_list_cmp_total e)
 
 -- ---- a path is less than each under it
 

@@ -10,7 +10,8 @@ use Rattle.byte_fields.proofs.Lists.{both_parts, all_push, weaker}
 use Rattle.changeset_model.specs.Path.{Path, path_cmp, path_lt, is_strict_prefix, IsRising}
 use Rattle.changeset_model.specs.Changeset.{Changeset, File, FileChange, Set, Delete, file_of, sets_of, self_conflict}
 use Rattle.bonsai.specs.Conflict.{below, neighbours}
-use Rattle.bonsai.proofs.Between.{first_of, second_of, under_between, not_above, not_above_itself}
+use Rattle.bonsai.proofs.Between.{under_between, not_above, not_above_itself}
+use Rattle.repo_path.proofs.Faults.{first_of_two as first_of, second_of_two as second_of}
 
 -- ---- among paths
 

@@ -3,14 +3,13 @@ use Rattle.std.proofs.Common.{◌≡◌, ℕ, ◌+◌, ◌*◌, ◌^◌, ◌<◌
 use Rattle.std.specs.Prelude.{◌&&◌, not, nat_le, bytes_eq, flat_map}
 use Rattle.std.specs.List.{list_all, concat}
 use Rattle.std.specs.FinMap.{is_sorted}
-use Rattle.std.proofs.lemmas.Bool.{leb-true, eqb-true, and_parts}
+use Rattle.std.proofs.lemmas.Bool.{and_parts}
 use Rattle.byte_fields.specs.Bytes.{Id, is_bytes}
 use Rattle.changeset_model.specs.Path.{Path, text_of, is_path, path_cmp}
 use Rattle.changeset_model.specs.Changeset.{FileChange, Set, Delete, Changeset, change_bytes, edit_bytes, spelling, most_size, is_changeset, are_parents, is_author, is_signed, is_message, is_change, are_changes}
 use Rattle.bonsai.proofs.Rules.{short_parts}
-
-pub id_long : (x : Id) → is_bytes 32 x ≡ true → length x ≡ 32
-id_long x h = eqb-true (length x) 32 (and_parts _ _ h).0
+use Rattle.changeset_model.proofs.Spelling.{len_of as id_long}
+use Rattle.repo_path.proofs.Faults.{path_is_short as path_short}
 
 parents_short : (ps : List Id) → are_parents ps ≡ true → length (concat ps) ≤ 64
 parents_short [] h = omega arith
@@ -28,9 +27,6 @@ change_short Delete h = omega arith
 change_short (Set f) h =
     let len = id_long f.content (and_parts (nat_le f.size most_size) (is_bytes 32 f.content) h).1 in
     simp length-append (omega arith)
-
-path_short : (p : Path) → is_path p ≡ true → length (text_of p) ≤ 4096
-path_short p h = leb-true (length (text_of p)) 4096 (and_parts _ (nat_le (length (text_of p)) 4096) h).1
 
 edit_short : (e : Path × FileChange) → is_path e.0 && is_change e.1 ≡ true → length (edit_bytes e) ≤ 4140
 edit_short e h =

@@ -3,17 +3,10 @@ use Rattle.std.proofs.Common.{◌≡◌, Bool, true, false, ◌&&◌, List, [], 
 use Rattle.std.specs.Prelude.{Some, None}
 use Rattle.std.specs.FinMap.{is_sorted}
 use Rattle.std.specs.FinMap.Entries.{below_all}
-use Rattle.std.proofs.lemmas.Bool.{and_parts, and_from}
 use Rattle.changeset_model.specs.Path.{Path, path_lt, path_cmp}
 use Rattle.changeset_model.specs.Changeset.{FileChange}
-use Rattle.changeset_model.proofs.Rising.{path_lt-trans}
 use Rattle.bonsai.specs.Making.{rises_from}
-
-below_later : (x y : Path) (es : List (Path × FileChange)) → path_lt x y ≡ true → below_all path_cmp y es ≡ true → below_all path_cmp x es ≡ true
-below_later x y [] h all = refl
-below_later x y (e ∷ es) h all =
-    let parts = and_parts (path_lt y e.0) (below_all path_cmp y es) all in
-    and_from _ _ (path_lt-trans x y e.0 h parts.0) (below_later x y es h parts.1)
+use Rattle.changeset_model.proofs.Accepting.{below_later}
 
 regroup : (less below after sorted : Bool) → (less ≡ true → after ≡ true → below ≡ true) → (less && (after && sorted)) ≡ ((less && below) && (after && sorted))
 regroup false below after sorted h = refl

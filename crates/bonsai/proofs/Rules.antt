@@ -1,14 +1,15 @@
 -- What follows from the rules of a changeset.
-use Rattle.std.proofs.Common.{◌≡◌, ◌^◌, ◌≤◌, ℤ, pos, negsuc, SFits, Bool, true, ◌&&◌, List, [], ◌∷◌, length, arith}
+use Rattle.std.proofs.Common.{◌≡◌, ◌≤◌, SFits, Bool, true, ◌&&◌, List, [], ◌∷◌, length, arith}
 use Rattle.std.specs.Prelude.{nat_lt, nat_le}
 use Rattle.std.specs.List.{list_all}
 use Rattle.std.specs.Int.{w32, w64}
 use Rattle.std.specs.FinMap.{is_sorted}
-use Rattle.std.proofs.lemmas.Bool.{leb-true, ltb-true}
+use Rattle.std.proofs.lemmas.Bool.{leb-true}
 use Rattle.byte_fields.specs.Bytes.{Id, is_text, is_line}
 use Rattle.changeset_model.specs.Path.{path_cmp, is_path}
 use Rattle.changeset_model.specs.Changeset.{Changeset, is_changeset, are_parents, is_author, is_signed, is_message, are_changes, is_change}
-use Rattle.bonsai.proofs.Between.{first_of, second_of}
+use Rattle.repo_path.proofs.Faults.{first_of_two as first_of, second_of_two as second_of}
+use Rattle.changeset_model.proofs.Spelling.{fits_32 as in_32, fits_64 as in_64}
 
 abbrev dated : Changeset → Bool
 dated c = are_parents c.parents && is_author c.author && is_signed 64 c.seconds && is_signed 32 c.offset
@@ -61,14 +62,6 @@ good_seconds c h = second_of (are_parents c.parents && is_author c.author) (is_s
 
 good_offset : (c : Changeset) → is_changeset c ≡ true → is_signed 32 c.offset ≡ true
 good_offset c h = second_of (are_parents c.parents && is_author c.author && is_signed 64 c.seconds) (is_signed 32 c.offset) (good_dates c h)
-
-in_64 : (z : ℤ) → is_signed 64 z ≡ true → SFits w64 z
-in_64 (pos m) h = record { sfits = ltb-true m (2 ^ 63) h }
-in_64 (negsuc m) h = record { sfits = ltb-true m (2 ^ 63) h }
-
-in_32 : (z : ℤ) → is_signed 32 z ≡ true → SFits w32 z
-in_32 (pos m) h = record { sfits = ltb-true m (2 ^ 31) h }
-in_32 (negsuc m) h = record { sfits = ltb-true m (2 ^ 31) h }
 
 pub seconds_fit : (c : Changeset) → is_changeset c ≡ true → SFits w64 c.seconds
 seconds_fit c h = in_64 c.seconds (good_seconds c h)

@@ -27,7 +27,7 @@ pub last_of_edits : (before : Option Path) (e : Edit) (es : List Edit) → optio
 last_of_edits before e [] = refl
 last_of_edits before e (d ∷ es) = last_of_edits (Some e.path) d es
 
-one_less : (n : ℕ) → suc n - 1 ≡ n
+pub one_less : (n : ℕ) → suc n - 1 ≡ n
 one_less n = omega arith
 
 pub last_path_is : (es : List Edit) (e : Edit) → Some e ≡ slice_get es (length es - 1) → Some e.path ≡ last_path None (edits_view es)

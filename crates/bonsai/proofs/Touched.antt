@@ -8,7 +8,8 @@ use Rattle.changeset_model.specs.Path.{Path, path_cmp, path_lt, IsRising, rising
 use Rattle.changeset_model.specs.Changeset.{Changeset, FileChange, touched_paths}
 use Rattle.bonsai.specs.declared.edit.Edit.{Edit}
 use Rattle.bonsai.specs.View.{edits_view}
-use Rattle.bonsai.proofs.Between.{first_of, second_of, less_of}
+use Rattle.repo_path.proofs.Faults.{first_of_two as first_of, second_of_two as second_of}
+use Rattle.changeset_model.proofs.Rising.{less_of}
 
 pub if_ok : {T E : Type 0} (P Q : T → Type 0) (r : Result T E) → ((v : T) → P v → Q v) → IfOk r P → IfOk r Q
 if_ok P Q (Ok v) f h = f v h

@@ -7,3 +7,4 @@ pub mod Kept
 pub mod LastPath
 pub mod Making
 pub mod View
+pub mod Kinds

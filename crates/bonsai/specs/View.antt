@@ -4,7 +4,7 @@
 use Rattle.std.specs.Prelude.{List, map, string_bytes}
 use Rattle.changeset_model.specs.Path.{Path}
 use Rattle.changeset_model.specs.Changeset as model
-use Rattle.file_kind.specs.Kinds.{kind_view}
+use Rattle.bonsai.specs.Kinds.{kind_view}
 use Rattle.bonsai.specs.declared.change.Change.{Change}
 use Rattle.bonsai.specs.declared.change.Change.TheVariants as changes
 use Rattle.bonsai.specs.declared.edit.Edit.{Edit}

@@ -4,7 +4,7 @@ ghost use Rattle.bonsai.specs.Equal.{change_eq};
 ghost use Rattle.bonsai.specs.EqualViews.{changes_equiv};
 ghost use Rattle.bonsai.specs.View.{change_view};
 
-use file_kind::FileKind;
+use crate::FileKind;
 use object_id::Id;
 
 /// What a changeset does at a path.

@@ -12,6 +12,7 @@ mod edit_list;
 mod edits;
 pub mod encoding;
 pub mod fields;
+pub mod kind;
 pub mod limits;
 pub mod making;
 mod parts;
@@ -25,7 +26,7 @@ pub use decoding::decode;
 pub use edit::Edit;
 pub use encoding::{encode, encode_into};
 pub use fields::Fields;
-pub use file_kind::FileKind;
+pub use kind::{FileKind, kind_at};
 pub use limits::{
     LONGEST_AUTHOR, LONGEST_ENCODING, LONGEST_MESSAGE, MOST_CONTENT, MOST_EDITS, MOST_PARENTS,
 };

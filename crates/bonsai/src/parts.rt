@@ -11,11 +11,11 @@ ghost use Rattle.bonsai.specs.View.{change_view, edit_view};
 
 use crate::change::Change;
 use crate::edit::Edit;
+use crate::kind_at;
 use crate::limits::{LONGEST_AUTHOR, LONGEST_MESSAGE, MOST_CONTENT};
 use crate::text::{line_of, text_of};
 use byte_fields::fields::{bytes_at, id_at, u8_below, u16_at, u32_up_to, u64_up_to};
 use byte_fields::{BadField, FieldFault};
-use file_kind::kind_at;
 use object_id::Id;
 use repo_path::{LONGEST_PATH, PathFault, RepoPath};
 use std::alloc::Global;

@@ -5,10 +5,10 @@ use Rattle.std.specs.Fn.{Once, FnOnceReturnsAtMut}
 use denote.Ref.{MutBor}
 use mathlib.Core.List.{IsPrefix}
 use Rattle.history_model.specs.History.{Entry, entries_by}
-use Rattle.turn_history.specs.Opening.{Opening}
+use Rattle.bookmark_lock.specs.Opening.{Opening}
 use Rattle.bookmark_lock.specs.Place.{Place, with_front}
 use Rattle.bookmark_lock.specs.Turns.{MayFind, IsTurn, Entered}
-use Rattle.bookmark_lock.proofs.Prefixes.{prefix_trans}
+use Rattle.byte_fields.proofs.Lists.{prefix_trans}
 use Rattle.bookmark_lock.proofs.Rosters.{own_entry, others_entry}
 
 snoc_same : (l : List Entry) (a b : Entry) → l ++ a ∷ [] ≡ l ++ b ∷ [] → a ≡ b

@@ -7,7 +7,8 @@ use Rattle.std.proofs.lemmas.Bool.{ltb-true, ltb-false}
 use mathlib.Core.List.{IsPrefix}
 use Rattle.history_model.specs.History.{Entry, entries_by}
 use Rattle.bookmark_lock.specs.Place.{longer}
-use Rattle.bookmark_lock.proofs.Prefixes.{prefix_self, prefix_shorter, prefix_whole, prefix_length}
+use Rattle.bookmark_lock.proofs.Prefixes.{prefix_shorter, prefix_whole, prefix_length}
+use Rattle.byte_fields.proofs.Lists.{prefix_self}
 
 pub all_front : {A : Type 0} (P : A → Type 0) (xs ys : List A) → All P (xs ++ ys) → All P xs
 all_front P [] ys a k d h = absurd (omega arith)

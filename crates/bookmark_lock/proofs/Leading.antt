@@ -11,14 +11,14 @@ use lib.ListN.{get_elem?}
 use Rattle.atomic_table.specs.Table.{State, Me, keeps, step, Allows, Splits, Joins, Final, Seen, opening as opened_table}
 use Rattle.atomic_table.proofs.Lists.{at_set, at_map, set_else, at_longer, at_snoc}
 use Rattle.history_model.specs.History.{Entry}
-use Rattle.turn_history.specs.Opening.{Opening}
+use Rattle.bookmark_lock.specs.Opening.{Opening}
 use Rattle.bookmark_lock.specs.Members.{Member, lead_member, drawing, settling}
 use Rattle.bookmark_lock.specs.Roster.{Fits, Roster}
 use Rattle.bookmark_lock.specs.Turns.{Ended}
 use Rattle.bookmark_lock.specs.Rule.{view_of, member_of, IsHome, IsOut, Kept, first_view, drew, settled, fork_left, fork_right, merge_both, spent_view}
 use Rattle.bookmark_lock.specs.declared.view.View.{View}
 use Rattle.bookmark_lock.proofs.Entries.{all_prefix}
-use Rattle.bookmark_lock.proofs.Prefixes.{prefix_self}
+use Rattle.byte_fields.proofs.Lists.{prefix_self}
 use Rattle.bookmark_lock.proofs.Leads.{only_is, only_apart, fits_here, drawn_p, few_p, behind_p, recorded_p, roster_counting, roster_forking, roster_merging, lead_alone, front_whole}
 
 module _ {T : Type 0} (history : T → List Entry) (opening : T → Opening) (first : T) where

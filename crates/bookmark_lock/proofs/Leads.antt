@@ -10,7 +10,7 @@ use native.Mathlib.Decide.{ℕ_discrete}
 use lib.ListN.{get_elem?}
 use Rattle.atomic_table.proofs.Lists.{at_set, set_here, set_else, at_longer}
 use Rattle.history_model.specs.History.{Entry, entries_by}
-use Rattle.turn_history.specs.Opening.{Opening}
+use Rattle.bookmark_lock.specs.Opening.{Opening}
 use Rattle.bookmark_lock.specs.Place.{numbers, longer}
 use Rattle.bookmark_lock.specs.Fronts.{GoesOn, HasJoined}
 use Rattle.bookmark_lock.specs.Members.{Member, Meeting, forking, fork_of, merging, spent_member}

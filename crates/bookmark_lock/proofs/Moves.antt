@@ -9,7 +9,7 @@ use lib.ListN.{get_elem?}
 use Rattle.atomic_table.specs.Table.{State, Me, Act, keeps, takes, gives, step, stepped, Allows, Valid, carried_after, rest}
 use Rattle.atomic_table.proofs.Lists.{at_set, set_again, at_map, set_here, exchanged}
 use Rattle.history_model.specs.History.{Entry}
-use Rattle.turn_history.specs.Opening.{Opening}
+use Rattle.bookmark_lock.specs.Opening.{Opening}
 use Rattle.bookmark_lock.specs.Fronts.{GoesOn}
 use Rattle.bookmark_lock.specs.Members.{Member, seen}
 use Rattle.bookmark_lock.specs.Roster.{Fits, Roster}

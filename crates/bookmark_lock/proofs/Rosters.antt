@@ -11,11 +11,11 @@ use native.Mathlib.Decide.{ℕ_discrete}
 use lib.ListN.{get_elem?}
 use Rattle.atomic_table.proofs.Lists.{at_set, set_here, set_else}
 use Rattle.history_model.specs.History.{Entry, entries_by}
-use Rattle.turn_history.specs.Opening.{Opening}
+use Rattle.bookmark_lock.specs.Opening.{Opening}
 use Rattle.bookmark_lock.specs.Place.{numbers}
 use Rattle.bookmark_lock.specs.Members.{Member, Meeting, seen}
 use Rattle.bookmark_lock.specs.Roster.{Fits, Roster}
-use Rattle.bookmark_lock.proofs.Prefixes.{prefix_self, prefix_trans}
+use Rattle.byte_fields.proofs.Lists.{prefix_self, prefix_trans}
 use Rattle.bookmark_lock.proofs.Members.{at_inside, living-set_same}
 
 -- the log becomes this one by what a seat with this number does

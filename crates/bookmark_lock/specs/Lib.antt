@@ -5,3 +5,4 @@ pub mod Turns
 pub mod Roster
 pub mod Rule
 pub mod Seated
+pub mod Opening

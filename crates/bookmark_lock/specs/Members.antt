@@ -1,7 +1,7 @@
 -- A seat among all those of its lock, and what each step makes of it.
 use Rattle.std.specs.Prelude.{ℕ, ◌+◌, ◌-◌, Bool, true, false, List, [], ◌∷◌, Option, None, Some}
 use Rattle.history_model.specs.History.{Entry}
-use Rattle.turn_history.specs.Opening.{Opening, unopened}
+use Rattle.bookmark_lock.specs.Opening.{Opening, unopened}
 use Rattle.bookmark_lock.specs.Place.{Post, longer}
 
 -- what the lead and another seat knew when the lead joined that one

@@ -3,7 +3,7 @@ use Rattle.std.specs.Prelude.{◌≡◌, ◌≢◌, ℕ, ◌+◌, ◌%◌, ◌^�
 use mathlib.Core.Option.{some}
 use lib.ListN.{get_elem?}
 use Rattle.history_model.specs.History.{Entry}
-use Rattle.turn_history.specs.Opening.{Opening}
+use Rattle.bookmark_lock.specs.Opening.{Opening}
 use Rattle.bookmark_lock.specs.Place.{numbers}
 use Rattle.bookmark_lock.specs.Fronts.{GoesOn, HasJoined}
 use Rattle.bookmark_lock.specs.Members.{Meeting, Member}

@@ -5,7 +5,7 @@ use mathlib.Core.Option.{some}
 use lib.ListN.{get_elem?}
 use Rattle.atomic_table.specs.Table.{State, Me, Step, rest}
 use Rattle.history_model.specs.History.{Entry}
-use Rattle.turn_history.specs.Opening.{Opening}
+use Rattle.bookmark_lock.specs.Opening.{Opening}
 use Rattle.bookmark_lock.specs.Fronts.{HasJoined}
 use Rattle.bookmark_lock.specs.Members.{Meeting, Member, lead_member, seen, drawing, forking, fork_of, merging, settling, spent_member}
 use Rattle.bookmark_lock.specs.Roster.{Roster}

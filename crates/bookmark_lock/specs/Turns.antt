@@ -7,7 +7,7 @@ use Rattle.std.specs.Fn.{Once, FnOnceReturnsAtMut}
 use mathlib.Core.List.{IsPrefix}
 use denote.Ref.{MutBor}
 use Rattle.history_model.specs.History.{Entry, entries_by}
-use Rattle.turn_history.specs.Opening.{Opening}
+use Rattle.bookmark_lock.specs.Opening.{Opening}
 use Rattle.bookmark_lock.specs.Place.{Place, Post, known, with_front}
 use Rattle.bookmark_lock.specs.Fronts.{GoesOn}
 

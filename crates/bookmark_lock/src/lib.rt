@@ -6,7 +6,9 @@ mod lock;
 mod plays;
 mod seat;
 mod steps;
+mod value;
 mod view;
 
 pub use lock::TurnLock;
 pub use seat::Seat;
+pub use value::Recorded;

@@ -6,6 +6,7 @@ ghost use Rattle.bookmark_lock.specs.Place.{lead_place, new_place, joined_place}
 ghost use Rattle.bookmark_lock.specs.Fronts.{IsJoined};
 ghost use Rattle.bookmark_lock.specs.Turns.{MayFind, IsTurn, Entered};
 
+use crate::Recorded;
 use crate::seat::{Seat, seated};
 use crate::steps::{Home, draw, fork, give, merge, settle, shut, take};
 use atomic_table::{Badge, Refused, Table};
@@ -14,7 +15,6 @@ use std::marker::Model;
 use std::mem::replace;
 use std::snapshot::Snapshot;
 use std::sync::Wait;
-use turn_history::Recorded;
 
 /// A value that seats take turns with. Contracts see which lock it is, and what the value was opened with.
 #[derive(Drop)]

@@ -1,11 +1,11 @@
 //! The table's rule, and what each step tells.
 ghost use Rattle.bookmark_lock.specs.Rule.{Kept, first_view, taken, counted, freed, drew, settled, fork_left, fork_right, merge_both, spent_view};
 
+use crate::Recorded;
 use crate::view::View;
 use atomic_table::{Join, Play, Split, TableRule};
 use std::marker::PhantomData;
 use std::snapshot::Snapshot;
-use turn_history::Recorded;
 
 pub struct Turns<T> {
     value: PhantomData<T>,

@@ -7,6 +7,7 @@ ghost use Rattle.bookmark_lock.specs.Turns.{Finds, Ended};
 ghost use Rattle.bookmark_lock.specs.Rule.{Took, Gives, view_of};
 ghost use Rattle.bookmark_lock.specs.Seated.{IsIdle, IsBoard};
 
+use crate::Recorded;
 use crate::plays::{Count, Draw, Fork, Free, Merge, Settle, Take, Turns};
 use crate::seat::Inner;
 use crate::view::View;
@@ -14,7 +15,6 @@ use atomic_table::{Shared, Table};
 use std::alloc::Global;
 use std::snapshot::Snapshot;
 use std::sync::Wait;
-use turn_history::Recorded;
 
 pub(crate) type Home<T> = Table<Option<T>, View, Snapshot<T>, Turns<T>, Global>;
 

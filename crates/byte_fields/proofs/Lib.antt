@@ -1,3 +1,4 @@
+pub mod Booleans
 pub mod FieldLemmas
 pub mod Lists
 pub mod Run

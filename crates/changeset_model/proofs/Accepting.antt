@@ -273,11 +273,11 @@ onto : (b : ℕ) (p : Path) (text : List ℕ) → text_of p ≡ text → (q : Pa
 onto b p text h [] e some = absurd (omega arith)
 onto b p text h (f ∷ q) e some = ap (λ r. text_of (onto_first b r)) e ∙ slash_on f b q ∙ ap (λ t. b ∷ t) (ap text_of (sym e) ∙ h)
 
-onto_some : (b : ℕ) (p : Path) → 0 < length (onto_first b p)
+pub onto_some : (b : ℕ) (p : Path) → 0 < length (onto_first b p)
 onto_some b [] = omega arith
 onto_some b (e ∷ p) = omega arith
 
-elements_some : (text : List ℕ) → 0 < length (elements text)
+pub elements_some : (text : List ℕ) → 0 < length (elements text)
 elements_some [] = omega arith
 elements_some (b ∷ text) = by (b == 0x2F)
   where
@@ -285,11 +285,11 @@ elements_some (b ∷ text) = by (b == 0x2F)
     by true = omega arith
     by false = onto_some b (elements text)
 
-after_slash : (p : Path) → (0 < length p) → text_of ([] ∷ p) ≡ 0x2F ∷ text_of p
+pub after_slash : (p : Path) → (0 < length p) → text_of ([] ∷ p) ≡ 0x2F ∷ text_of p
 after_slash [] some = absurd (omega arith)
 after_slash (e ∷ p) some = refl
 
-text_of-elements : (text : List ℕ) → text_of (elements text) ≡ text
+pub text_of-elements : (text : List ℕ) → text_of (elements text) ≡ text
 text_of-elements [] = refl
 text_of-elements (b ∷ text) = by (text_of-elements text) (b == 0x2F) refl
   where
@@ -315,7 +315,7 @@ path_ok before bytes p rest fits e =
 
 -- ---- lists of changes
 
-below_later : (x y : Path) (es : List (Path × FileChange)) → path_lt x y ≡ true → below_all path_cmp y es ≡ true → below_all path_cmp x es ≡ true
+pub below_later : (x y : Path) (es : List (Path × FileChange)) → path_lt x y ≡ true → below_all path_cmp y es ≡ true → below_all path_cmp x es ≡ true
 below_later x y [] h all = refl
 below_later x y (e ∷ es) h all =
     let parts = and_parts (path_lt y e.0) (below_all path_cmp y es) all in

@@ -14,7 +14,7 @@ path_cmp_total = lists_total (lists_total nat_cmp_total)
 pub path_cmp-IsAntisymmetric : IsAntisymmetric path_cmp
 path_cmp-IsAntisymmetric = slice_cmp-IsAntisymmetric (slice_cmp-IsAntisymmetric nat_cmp-IsAntisymmetric)
 
-||-comm : (a b : Bool) → (a || b) ≡ (b || a)
+pub ||-comm : (a b : Bool) → (a || b) ≡ (b || a)
 ||-comm true true = refl
 ||-comm true false = refl
 ||-comm false true = refl

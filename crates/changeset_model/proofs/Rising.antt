@@ -28,7 +28,7 @@ path_lt_asymmetric p q h = ap is_lt (path_cmp_total.antisymm q p) ∙ above (pat
 
 -- ---- in order
 
-less_of : (o : Ordering) → is_lt o ≡ true → o ≡ Less
+pub less_of : (o : Ordering) → is_lt o ≡ true → o ≡ Less
 less_of Less h = refl
 less_of Equal h = absurd (cc)
 less_of Greater h = absurd (cc)
@@ -65,7 +65,7 @@ pub from_rising : (P : Path → Type 0) (ps : List Path) → AllByRecursion P (r
 from_rising P [] all = tt
 from_rising P (p ∷ ps) all = let rest = from_in_place P p (rising ps) all in (rest.0, from_rising P ps rest.1)
 
-itself : (ps : List Path) → AllByRecursion (Contains ps) ps
+pub itself : (ps : List Path) → AllByRecursion (Contains ps) ps
 itself ps = recursion_from_All (Contains ps) ps (All-contains_itself ps)
 
 -- it has the same paths

@@ -20,7 +20,7 @@ use Rattle.byte_fields.proofs.FieldLemmas.{Reads, reads_then, reads_last, reads_
 
 -- ---- paths as texts
 
-is_false : (b : Bool) → not b ≡ true → b ≡ false
+pub is_false : (b : Bool) → not b ≡ true → b ≡ false
 is_false true h = sym h
 is_false false h = refl
 
@@ -50,7 +50,7 @@ elements-text_of e (f ∷ p) h =
 pub bytes_eq_refl : (e : List ℕ) → bytes_eq e e ≡ true
 bytes_eq_refl = (lists_equiv nat_eq_equiv).refl
 
-len_of : (x : Id) → is_bytes 32 x ≡ true → length x ≡ 32
+pub len_of : (x : Id) → is_bytes 32 x ≡ true → length x ≡ 32
 len_of x h = eqb-true (length x) 32 (and_parts _ _ h).0
 
 pub reads_id : (x : Id) → is_bytes 32 x ≡ true → Reads id x x
@@ -59,11 +59,11 @@ reads_id x h = reads_field 32 (keeping (λ _. true)) x x (len_of x h) refl
 pub reads_exactly : (e : List ℕ) → Reads (exactly e) e e
 reads_exactly e = reads_field (length e) (keeping (bytes_eq e)) e e refl (keeps (bytes_eq e) e (bytes_eq_refl e))
 
-fits_64 : (z : ℤ) → is_signed 64 z ≡ true → SFits w64 z
+pub fits_64 : (z : ℤ) → is_signed 64 z ≡ true → SFits w64 z
 fits_64 (pos m) h = record { sfits = ltb-true m (2 ^ 63) h }
 fits_64 (negsuc m) h = record { sfits = ltb-true m (2 ^ 63) h }
 
-fits_32 : (z : ℤ) → is_signed 32 z ≡ true → SFits w32 z
+pub fits_32 : (z : ℤ) → is_signed 32 z ≡ true → SFits w32 z
 fits_32 (pos m) h = record { sfits = ltb-true m (2 ^ 31) h }
 fits_32 (negsuc m) h = record { sfits = ltb-true m (2 ^ 31) h }
 
@@ -80,7 +80,7 @@ reads_signed_32 z h =
 small_64 : (n : ℕ) → nat_le n most_size ≡ true → n < 2 ^ 64
 small_64 n h = let le : n ≤ 1_048_576 = leb-true n most_size h in omega arith
 
-below_3 : (k : Kind) → nat_lt (kind_byte k) 3 ≡ true
+pub below_3 : (k : Kind) → nat_lt (kind_byte k) 3 ≡ true
 below_3 Regular = refl
 below_3 Executable = refl
 below_3 Symlink = refl
@@ -137,7 +137,7 @@ reads_message text h =
     let short : length text ≤ 1_048_576 = leb-true (length text) 1_048_576 both.0 in
     reads_with_len w32 (λ n. nat_le n 1_048_576) (keeping is_text) text text (spelled_32 (length text) (omega arith)) both.0 (keeps is_text text both.1)
 
-path_elements : (p : Path) → is_path p ≡ true → list_all is_element p ≡ true
+pub path_elements : (p : Path) → is_path p ≡ true → list_all is_element p ≡ true
 path_elements p h = second_so (nat_lt 0 (length p)) (list_all is_element p) (first_so _ (nat_le (length (text_of p)) 4096) h)
 
 element_some : (e : List ℕ) → is_element e ≡ true → nat_lt 0 (length e) ≡ true

@@ -6,6 +6,7 @@ use Rattle.std.specs.List.{onto_first}
 use Rattle.std.proofs.lemmas.Bool.{eqb-true, eqb-false, eq-eqb, ne_eqb}
 use Rattle.std.proofs.lemmas.List.{drop_more, drop_all}
 use Rattle.changeset_model.specs.Path.{Path, elements, is_prefix, comparable}
+use Rattle.changeset_model.proofs.Accepting.{elements_some as some_elements}
 
 -- two texts go on alike until one of them ends, and there the other ends or has a slash
 abbrev pub alike : List ℕ → List ℕ → Bool
@@ -31,24 +32,12 @@ new_element : (c : ℕ) (p q : Path) → (0 < length q) → (comparable ([] ∷ 
 new_element c p [] some = absurd (omega arith)
 new_element c p (f ∷ q) some = (refl, refl)
 
-some_onto : (b : ℕ) (p : Path) → 0 < length (onto_first b p)
-some_onto b [] = omega arith
-some_onto b (e ∷ p) = omega arith
-
-some_elements : (text : List ℕ) → 0 < length (elements text)
-some_elements [] = omega arith
-some_elements (b ∷ text) = by (b == 0x2F)
-  where
-    by : (t : Bool) → 0 < length (cond t ([] ∷ elements text) (onto_first b (elements text)))
-    by true = omega arith
-    by false = some_onto b (elements text)
-
 -- ---- texts
 
 abbrev elements_by : Bool → ℕ → List ℕ → Path
 elements_by t b text = cond t ([] ∷ elements text) (onto_first b (elements text))
 
-or_true : (b : Bool) → true ≡ (b || true)
+pub or_true : (b : Bool) → true ≡ (b || true)
 or_true true = refl
 or_true false = refl
 

@@ -14,6 +14,7 @@ use Rattle.reply_model.proofs.Parents.{known_last}
 use Rattle.changeset_store.specs.Store.{changeset_at, known_at, number_in}
 use Rattle.changeset_store.proofs.Places.{changeset_at-append, changeset_at-last, known_at-changeset}
 use Rattle.changeset_store.specs.Grown.{IsAlone, AreAlone, with_known, adding_one, adding, CanAdd}
+use Rattle.byte_fields.proofs.Lists.{all_both}
 
 -- ---- one
 
@@ -79,10 +80,6 @@ module _ (ks after : List Known) (c : Changeset) (grows : after ≡ adding_one k
       (all_push (λ n. n < length after) ns n (weaker (λ m. m < length ks) (λ m. m < length after) (λ m fits. omega arith) ns within) below)
 
 -- ---- a rewritten stack
-
-all_both : {X : Type 0} (P : X → Type 0) (xs ys : List X) → AllByRecursion P xs → AllByRecursion P ys → AllByRecursion P (xs ++ ys)
-all_both P [] ys a b = b
-all_both P (x ∷ xs) ys a b = (a.0, all_both P xs ys a.1 b)
 
 all_one : (P : Known → Type 0) (ks : List Known) (c : Changeset) → AllByRecursion P ks → P (with_id c) → AllByRecursion P (adding_one ks c)
 all_one P ks c all one = by (is_known ks (id_of c)) refl

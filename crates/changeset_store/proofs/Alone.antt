@@ -15,8 +15,10 @@ use Rattle.changeset_model.proofs.Spelling.{one_spelling}
 use Rattle.bonsai.specs.Equal.{changeset_eq, changeset_eq-Decides}
 use Rattle.history_model.specs.History.{Known, with_id, each_id_once, changeset_of}
 use Rattle.reply_model.specs.Reply.{collides, first_collision}
-use Rattle.reply_model.proofs.Parents.{same_id, or_left}
+use Rattle.reply_model.proofs.Parents.{same_id}
+use Rattle.history_model.proofs.Landings.{or_left}
 use Rattle.changeset_store.specs.Grown.{IsAlone, AreAlone, with_known}
+use Rattle.byte_fields.proofs.Booleans.{not_false as same_by}
 
 -- ---- one changeset for each id
 
@@ -124,9 +126,6 @@ pub alone_append : (ks js : List Known) (c : Changeset) → IsAlone ks c → IsA
 alone_append [] js c left right = right
 alone_append (k ∷ ks) js c left right = (left.0, alone_append ks js c left.1 right)
 
-or_false : (a b : Bool) → a ≡ false → b ≡ false → (a || b) ≡ false
-or_false a b e f = (λ i. e i || f i)
-
 pub collides_left : (ks js : List Known) (c : Changeset) → collides ks c ≡ true → collides (ks ++ js) c ≡ true
 collides_left ks js c e = list_any-append (λ k. bytes_eq k.id (id_of c) && not (bytes_eq (spelling k.changeset) (spelling c))) ks js ∙ or_left (collides ks c) (collides js c) e
 
@@ -229,10 +228,6 @@ alone_past xs i c past = subst (λ xs. IsAlone (map with_id xs) c) (sym (drop_al
 
 differ_by : (a b : List ℕ) (t : Bool) → t ≡ not (bytes_eq a b) → t ≡ true → a ≡ b → ⊥
 differ_by a b t e differ same = true≢false (sym differ ∙ e ∙ ap not ((bytes_eq-Decides a b).1 same))
-
-same_by : (b : Bool) → not b ≡ false → b ≡ true
-same_by true e = refl
-same_by false e = absurd cc
 
 pub apart_ids : {a b x y : Id} {t : Bool} → a ≡ x → b ≡ y → t ≡ not (bytes_eq a b) → t ≡ true → x ≡ y → ⊥
 apart_ids {a = a} {b = b} {t = t} a_is b_is e differ same = differ_by a b t e differ (a_is ∙ same ∙ sym b_is)

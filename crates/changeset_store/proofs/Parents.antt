@@ -11,11 +11,13 @@ use Rattle.byte_fields.specs.Bytes.{Id}
 use Rattle.history_model.specs.History.{Known, is_known}
 use Rattle.history_model.specs.Chain.{first_parent, HasParents}
 use Rattle.history_model.proofs.Chains.{first_of_all}
-use Rattle.ancestry.proofs.Lines.{reverse-cons, slice_get-push_at, slice_get-push_other}
+use Rattle.ancestry.proofs.Lines.{reverse-cons, slice_get-push_other}
+use Rattle.byte_fields.proofs.Lists.{get_next as slice_get-push_at}
 use Rattle.changeset_store.specs.Store.{number_in, parent_at, known_at}
 use Rattle.changeset_store.specs.Numbers.{number_among, AreApart, parents_among}
 use Rattle.changeset_store.proofs.Places.{known_at-changeset}
-use Rattle.changeset_store.proofs.Numbering.{number_is, at_older, at_newest, is_numbered, in_range, known_reverse}
+use Rattle.changeset_store.proofs.Numbering.{number_is, at_older, at_newest, is_numbered, in_range}
+use Rattle.reply_model.proofs.Parents.{known_reverse}
 use Rattle.changeset_store.proofs.Ancestors.{AreKnown, length-parents}
 
 abbrev pub at : List Known → ℕ → Known

@@ -14,7 +14,7 @@ ghost use Rattle.changeset_store.specs.Fork.{chain_at, following_at, fork_betwee
 ghost use Rattle.changeset_store.specs.Shared.{values};
 
 use crate::fork::Fork;
-use ancestry::Chain;
+use ancestry::{Chain, Steps};
 use bonsai::{Changeset, Commit};
 use object_id::Id;
 use std::alloc::{AllocError, Global};
@@ -23,7 +23,6 @@ use std::hash::RandomState;
 use std::marker::{Brand, Model};
 use std::sync::Arc;
 use std::sync::ledger::{Blank, Ledger};
-use step_count::Steps;
 
 /// The most known changesets.
 pub const MOST_CHANGESETS: usize = 2_147_483_648;
@@ -153,15 +152,6 @@ impl ChangesetStore {
         Ok(())
     }
 
-    /// The first parent that isn't known.
-    pub fn unknown_parent<'a>(&self, commit: &'a Commit) -> Option<&'a Id>
-        ensures first { option_map (λ p. p.now) result ≡ find (λ p. not (history.is_known self.now.known p)) commit.now.parents }
-        ensures none { IsNone result → AllByRecursion (λ p. history.is_known self.now.known p ≡ true) commit.now.parents }
-    {
-        let parents = commit.changeset().parents();
-        parents.iter().find(|parent| !self.is_known(parent))
-    }
-
     /// Adds a changeset, and answers its number.
     pub fn add(&mut self, commit: Arc<Commit>) -> u32
         requires room { 0 < self.old.room }
@@ -241,14 +231,6 @@ impl ChangesetStore {
         ensures { IfOk result (λ stack. map (λ c. c.now) stack.items ≡ (fork_between self.now.known fork.now).stack) }
     {
         self.following(alloc, fork.root, fork.draft)
-    }
-
-    /// The changesets of the head's chain that follow the root, oldest first, in one allocation of their number.
-    pub fn range<'a>(&'a self, alloc: Global, fork: &Fork) -> Result<Vec<&'a Changeset>, AllocError>
-        requires { IsFork self.now.known fork.now }
-        ensures { IfOk result (λ range. map (λ c. c.now) range.items ≡ (fork_between self.now.known fork.now).range) }
-    {
-        self.following(alloc, fork.root, fork.head)
     }
 
     /// The same, shared: it outlives the store's borrow.

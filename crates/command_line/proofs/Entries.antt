@@ -53,8 +53,8 @@ replies_add header h who call answer after r =
     record { more = entries_of who r.made; after_is = r.new_is; own = of_seat-map who (option_to_list r.made.entry ++ option_to_list (option_map Fault r.made.fault)) }
 
 asked_adds : (header : Header) (who : ℕ) (h : List Entry) (a : Asked) (q : Request) (out : List ℕ) (after : List Entry) → AnswersAsked Replies header who h a q out after → Adds who h after
-asked_adds header who h (asking.Changes ask) q out after answers = replies_add header h who (Asks ask) answers.answer after answers.answered
-asked_adds header who h (asking.Looks question) q out after answers = replies_add header h who (Looks question) answers.answer after answers.answered
+asked_adds header who h (asking.Change ask) q out after answers = replies_add header h who (Asks ask) answers.answer after answers.answered
+asked_adds header who h (asking.Read question) q out after answers = replies_add header h who (Looks question) answers.answer after answers.answered
 asked_adds header who h (asking.Fails r) q out after answers = nothing_added who h after answers.same
 
 answers_add : (header : Header) (who : ℕ) (h : List Entry) (q : Request) (out : List ℕ) (after : List Entry) → Answers Replies header who h q out after → Adds who h after

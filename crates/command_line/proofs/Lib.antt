@@ -3,3 +3,5 @@ pub mod Sessions
 pub mod Unserved
 pub mod Serving
 pub mod Loading
+pub mod Pieces
+pub mod Refusing

@@ -8,8 +8,8 @@ use Rattle.history_model.specs.Journal.{Header}
 use Rattle.repo_state.specs.State.{HasNoFault, IsQuiet, IsSound, State, faults_in}
 use Rattle.repo_state.proofs.Leaving.{keeps_up}
 use Rattle.repo_state.proofs.Stands.{no_faults}
-use Rattle.load_calls.specs.declared.fault.LoadFault.{LoadFault}
-use Rattle.load_calls.specs.declared.fault.LoadFault.TheVariants.{Refused, Memory}
+use Rattle.run_gen.specs.declared.fault.LoadFault.{LoadFault}
+use Rattle.run_gen.specs.declared.fault.LoadFault.TheVariants.{Refused, Memory}
 use Rattle.run_gen.specs.Begun.{load_header}
 use Rattle.run_gen.specs.Loading as loads
 use Rattle.run_gen.specs.declared.summary.Summary.{Summary}

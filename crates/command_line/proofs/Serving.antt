@@ -12,10 +12,10 @@ use Rattle.repo_journal.specs.View.{JournalView}
 use Rattle.repo_machine.specs.Counting.{counts_of}
 use Rattle.repo_machine.specs.Seats.{cleared}
 use Rattle.repo_state.specs.State.{IsSound, State, opening_of}
-use Rattle.file_commands.specs.declared.report.Report.{Report}
-use Rattle.file_commands.specs.declared.status.Outcome.{Outcome}
-use Rattle.file_commands.specs.Making.{Unopened}
-use Rattle.file_commands.specs.Opening.{OpensIn, RefusesIn}
+use Rattle.command_line.specs.declared.report.Report.{Report}
+use Rattle.command_line.specs.declared.status.Outcome.{Outcome}
+use Rattle.command_line.specs.Making.{Unopened}
+use Rattle.command_line.specs.Opening.{OpensIn, RefusesIn}
 use Rattle.command_line.specs.declared.came.Came.{Came}
 use Rattle.command_line.specs.Outside.{Links, Outside, TakesNone}
 use Rattle.command_line.specs.Running.{OpensNone, RunsOpened, RunsServe, Writes}

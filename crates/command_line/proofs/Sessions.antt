@@ -14,9 +14,10 @@ use Rattle.history_model.specs.Journal.{Header, Stands}
 use Rattle.repo_journal.specs.View.{JournalView}
 use Rattle.repo_state.specs.Images.{Leaves}
 use Rattle.repo_state.specs.State.{Covers, HasNoFault, IsSound, faults_in, opening_of}
-use Rattle.repo_state.proofs.Chains.{kept_then, leaves_map, leaves_then}
+use Rattle.repo_state.proofs.Chains.{leaves_map, leaves_then}
+use Rattle.blob_disk.proofs.Clients.{kept_then}
 use Rattle.repo_state.proofs.Leaving.{keeps_up}
-use Rattle.file_commands.specs.Opening.{IsSettled, Opens, OpensIn}
+use Rattle.command_line.specs.Opening.{IsSettled, Opens, OpensIn}
 use Rattle.command_line.specs.declared.came.Came.{Came}
 use Rattle.command_line.specs.Outside.{Told}
 use Rattle.command_line.specs.Sessions.{IsCalm, LeavesFile, Serves, ServesFile}

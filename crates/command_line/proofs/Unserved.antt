@@ -5,12 +5,12 @@ use mathlib.Core.Logic.{inl, inr}
 use Rattle.disk_model.specs.Meaning.{Meaning}
 use Rattle.blob_disk.specs.declared.mem_disk.MemDisk.{MemDisk}
 use Rattle.program_words.specs.Words.{Request, session}
-use Rattle.file_commands.specs.declared.report.Report.{Report}
-use Rattle.file_commands.specs.declared.status.Status.{Status}
-use Rattle.file_commands.specs.declared.status.Outcome.{Outcome}
-use Rattle.file_commands.specs.Making.{Unopened}
-use Rattle.file_commands.specs.Opening.{RefusesIn}
-use Rattle.file_commands.specs.Reports.{status_of}
+use Rattle.command_line.specs.declared.report.Report.{Report}
+use Rattle.command_line.specs.declared.status.Status.{Status}
+use Rattle.command_line.specs.declared.status.Outcome.{Outcome}
+use Rattle.command_line.specs.Making.{Unopened}
+use Rattle.command_line.specs.Opening.{RefusesIn}
+use Rattle.command_line.specs.Reports.{status_of}
 use Rattle.command_line.specs.declared.came.Came.{Came}
 use Rattle.command_line.specs.Outside.{Links, Outside}
 use Rattle.command_line.specs.Running.{Runs, RunsOn, RunsSession, Writes}

@@ -4,3 +4,8 @@ pub mod Serving
 pub mod Loading
 pub mod Running
 pub mod Watching
+pub mod Statuses
+pub mod Reports
+pub mod Making
+pub mod Opening
+pub mod Counting

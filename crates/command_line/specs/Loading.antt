@@ -13,14 +13,14 @@ use Rattle.history_model.specs.History.{Entry}
 use Rattle.history_model.specs.Journal.{Header, Keeps, Stands}
 use Rattle.reply_model.specs.Legal.{IsLegal}
 use Rattle.repo_state.specs.State.{HasNoFault, IsSound, State}
-use Rattle.load_calls.specs.Loads.{IsLoaded, IsStopped}
-use Rattle.load_calls.specs.declared.fault.LoadFault.{LoadFault}
-use Rattle.load_calls.specs.declared.fault.LoadFault.TheVariants.{Refused, Memory}
+use Rattle.run_gen.specs.Loads.{IsLoaded, IsStopped}
+use Rattle.run_gen.specs.declared.fault.LoadFault.{LoadFault}
+use Rattle.run_gen.specs.declared.fault.LoadFault.TheVariants.{Refused, Memory}
 use Rattle.run_gen.specs.Begun.{load_header}
 use Rattle.run_gen.specs.Sums.{SumsUp}
 use Rattle.run_gen.specs.declared.summary.Summary.{Summary}
-use Rattle.file_commands.specs.declared.report.Report.{Report}
-use Rattle.file_commands.specs.declared.report.Report.TheVariants.{Ready, Counted, Served, Loaded, LoadRefused, Help, Version, Usage, DiskFault, NotARepository, Damaged, NotEmpty, NoMemory, StreamFault}
+use Rattle.command_line.specs.declared.report.Report.{Report}
+use Rattle.command_line.specs.declared.report.Report.TheVariants.{Ready, Counted, Served, Loaded, LoadRefused, Help, Version, Usage, DiskFault, NotARepository, Damaged, NotEmpty, NoMemory, StreamFault}
 
 abbrev pub report_of : Result Summary LoadFault → Report
 report_of (Ok summary) = Loaded summary.landed summary.entries summary.root

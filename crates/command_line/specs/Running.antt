@@ -15,14 +15,14 @@ use Rattle.history_model.specs.Journal.{Header}
 use Rattle.repo_journal.specs.View.{JournalView}
 use Rattle.program_words.specs.Words.{Request, fsck, gen, help, init, serve, session, version}
 use Rattle.program_words.specs.Sessions.{is_session}
-use Rattle.file_commands.specs.declared.report.Report.{Report}
-use Rattle.file_commands.specs.declared.report.Report.TheVariants as report
-use Rattle.file_commands.specs.declared.status.Status.{Status}
-use Rattle.file_commands.specs.declared.status.Status.TheVariants.{DiskFault, NoMemory}
-use Rattle.file_commands.specs.Counting.{ChecksIn}
-use Rattle.file_commands.specs.Making.{AttemptsIn, Unopened}
-use Rattle.file_commands.specs.Opening.{RefusesIn}
-use Rattle.file_commands.specs.Reports.{Reports, status_of}
+use Rattle.command_line.specs.declared.report.Report.{Report}
+use Rattle.command_line.specs.declared.report.Report.TheVariants as report
+use Rattle.command_line.specs.declared.status.Status.{Status}
+use Rattle.command_line.specs.declared.status.Status.TheVariants.{DiskFault, NoMemory}
+use Rattle.command_line.specs.Counting.{ChecksIn}
+use Rattle.command_line.specs.Making.{AttemptsIn, Unopened}
+use Rattle.command_line.specs.Opening.{RefusesIn}
+use Rattle.command_line.specs.Reports.{Reports, status_of}
 use Rattle.command_line.specs.declared.came.Came.{Came}
 use Rattle.command_line.specs.Loading.{Loads}
 use Rattle.command_line.specs.Outside.{Links, Outside, TakesNone, Told}

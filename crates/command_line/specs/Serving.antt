@@ -20,9 +20,9 @@ use Rattle.repo_journal.specs.View.{JournalView}
 use Rattle.repo_machine.specs.Counting.{counts_of}
 use Rattle.repo_machine.specs.Seats.{cleared}
 use Rattle.repo_state.specs.State.{Covers, IsSound, faults_in, opening_of}
-use Rattle.file_commands.specs.declared.report.Report.{Report}
-use Rattle.file_commands.specs.declared.report.Report.TheVariants.{DiskFault, Served, StreamFault}
-use Rattle.file_commands.specs.Opening.{IsGiven, Opens}
+use Rattle.command_line.specs.declared.report.Report.{Report}
+use Rattle.command_line.specs.declared.report.Report.TheVariants.{DiskFault, Served, StreamFault}
+use Rattle.command_line.specs.Opening.{IsGiven, Opens}
 use Rattle.command_line.specs.Outside.{Links}
 use Rattle.command_line.specs.Sessions.{IsCalm, LeavesFile}
 

@@ -23,9 +23,9 @@ use Rattle.repo_state.specs.State.{Covers, HasNoFault, IsSound, faults_in, openi
 use Rattle.http_front.specs.declared.ended.Ended.{Ended}
 use Rattle.http_front.specs.declared.ended.Ended.TheVariants as ends
 use Rattle.http_front.specs.Serving.{Finished}
-use Rattle.file_commands.specs.declared.status.Status.{Status}
-use Rattle.file_commands.specs.declared.status.Status.TheVariants.{Done, DiskFault, NoMemory, StreamFault, Cut, Refused, Spent}
-use Rattle.file_commands.specs.Opening.{IsGiven, IsSettled, Opens}
+use Rattle.command_line.specs.declared.status.Status.{Status}
+use Rattle.command_line.specs.declared.status.Status.TheVariants.{Done, DiskFault, NoMemory, StreamFault, Cut, Refused, Spent}
+use Rattle.command_line.specs.Opening.{IsGiven, IsSettled, Opens}
 use Rattle.command_line.specs.declared.came.Came.{Came}
 use Rattle.command_line.specs.Outside.{Told}
 

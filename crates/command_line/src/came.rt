@@ -1,5 +1,5 @@
 //! What a command came to.
-use file_commands::Status;
+use crate::Status;
 
 /// What a command came to: its status, and the file that it opened.
 #[derive(Drop)]

@@ -2,13 +2,23 @@
 #![tactic(auto)]
 
 pub mod came;
+pub mod fsck;
+pub mod init;
 pub mod load;
+pub mod opening;
 pub mod program;
 pub mod ran;
+pub mod report;
 pub mod serve;
 pub mod session;
+pub mod status;
 mod watched;
 
 pub use came::Came;
+pub use fsck::fsck_file;
+pub use init::init_file;
+pub use opening::{OpenedFile, open_file};
 pub use program::{refuse_words, run};
 pub use ran::Ran;
+pub use report::{Report, end_run};
+pub use status::{Outcome, Status};

@@ -6,8 +6,8 @@ ghost use Rattle.command_line.specs.Running.{ReportsLoad};
 
 use crate::ran::{Ran, loaded};
 use crate::serve::closed;
+use crate::{Report, end_run};
 use blob_disk::MemDisk;
-use file_commands::{Report, end_run};
 use ports::Link;
 use repo_state::RepoState;
 use run_gen::{LoadFault, Summary, load};

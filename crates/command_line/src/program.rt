@@ -3,7 +3,7 @@ ghost use Rattle.std.specs.Prelude.{◌≡◌, ◌≢◌, ◌⊎◌, false, map,
 ghost use Rattle.program_words.specs.Said.{IsInRange, said_of};
 ghost use Rattle.program_words.specs.Words.{command_of};
 ghost use Rattle.program_words.specs.Sessions.{is_session};
-ghost use Rattle.file_commands.specs.declared.report.Report.TheVariants.{NoMemory as NoMemoryLine, Usage as UsageLine};
+ghost use Rattle.command_line.specs.declared.report.Report.TheVariants.{NoMemory as NoMemoryLine, Usage as UsageLine};
 ghost use Rattle.command_line.specs.Outside.{links, outside, told};
 ghost use Rattle.command_line.specs.Running.{LacksLine, LacksMemory, Runs, Writes, makes_load, takes_links};
 ghost use Rattle.command_line.specs.Serving.{IsServed};
@@ -13,8 +13,8 @@ use crate::load::run_load;
 use crate::ran::{Ran, apart};
 use crate::serve::run_serve;
 use crate::session::run_session;
+use crate::{Outcome, Report, Status, end_run, fsck_file, init_file};
 use blob_disk::Disk;
-use file_commands::{Outcome, Report, Status, end_run, fsck_file, init_file};
 use ports::{Accept, Gate, Link, Opener};
 use program_words::{Command, WordsFault, asks_session, read_words};
 use std::alloc::Global;

@@ -1,9 +1,9 @@
 //! What a run of the program came to.
 ghost use Rattle.std.specs.Prelude.{◌≡◌, None};
 
+use crate::Status;
 use crate::came::Came;
 use blob_disk::MemDisk;
-use file_commands::Status;
 use http_front::connection::ServedLinks;
 
 /// What a run of the program came to: its status, the file that it opened, the disk of the load that it made in memory, how many

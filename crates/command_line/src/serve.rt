@@ -15,8 +15,8 @@ ghost use Rattle.command_line.specs.Serving.{IsServed, TakesLinks, served_report
 use crate::program::tell;
 use crate::ran::{Ran, apart};
 use crate::watched::{Since, Watched};
+use crate::{OpenedFile, Report, end_run, open_file};
 use blob_disk::Disk;
-use file_commands::{OpenedFile, Report, end_run, open_file};
 use http_front::connection::ServedLinks;
 use ports::{Accept, Gate, Link, Opener};
 use repo_state::RepoState;

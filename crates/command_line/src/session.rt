@@ -8,8 +8,8 @@ ghost use Rattle.command_line.specs.Running.{RunsSession};
 ghost use Rattle.command_line.specs.Sessions.{Serves, session_status, status_of};
 
 use crate::came::Came;
+use crate::{OpenedFile, Outcome, Status, open_file};
 use blob_disk::Disk;
-use file_commands::{OpenedFile, Outcome, Status, open_file};
 use http_front::ended::Ended;
 use http_front::session::serve_session;
 use ports::{Link, Opener};

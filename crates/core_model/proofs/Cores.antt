@@ -1,20 +1,14 @@
 -- What every list of steps keeps: the history is legal, and each acknowledged entry stands at its log number.
-use Rattle.std.proofs.Common.{◌<◌, ◌+◌, ◌≤◌, length-append, arith, ◌≡◌, ℕ, zero, suc, Bool, true, false, cond, List, [], ◌∷◌, ◌++◌, map, length, refl, sym, ap, subst, ◌∙◌}
-use Rattle.std.specs.Prelude.{◌&&◌, is_none, Option, None, Some, Result, Ok, Err, slice_get, is_some, find, bytes_eq, nat_lt, ok_or, ◌==◌, not, option_map, unwrap_or, if◌then◌else◌}
+use Rattle.std.proofs.Common.{◌<◌, ◌+◌, ◌≤◌, length-append, arith, ◌≡◌, ℕ, zero, suc, Bool, true, false, cond, List, [], ◌∷◌, ◌++◌, length, refl, sym, ap, subst, ◌∙◌}
+use Rattle.std.specs.Prelude.{◌&&◌, is_none, Option, None, Some, Result, Ok, Err, slice_get, find, bytes_eq, ◌==◌, not, option_map, unwrap_or, if◌then◌else◌}
 use mathlib.Core.Bool.{true≢false}
 use Rattle.std.specs.List.{AllByRecursion}
-use Rattle.std.specs.Option.{option_and_then, option_map_or, option_eq, option_to_list}
+use Rattle.std.specs.Option.{option_and_then, option_map_or}
 use Rattle.std.proofs.lemmas.List.{append-nil}
 use Rattle.std.proofs.lemmas.Bool.{and_parts, eqb-true, eqb-false}
-use Rattle.sha2.specs.Sha256.{sha256}
-use Rattle.byte_fields.specs.Bytes.{Id, first_some}
-use Rattle.changeset_model.specs.Changeset.{Changeset, id_of, sets_of, touched_paths}
-use Rattle.changeset_model.specs.Decoding.{decoded}
-use Rattle.history_model.specs.History.{Body, Content, Change, Book, Land, Fault, Entry, is_stored, unnumbered, bodies, stored, is_down, known, is_known, content_len}
-use Rattle.history_model.specs.Bookmark.{head}
-use Rattle.history_model.specs.Pushrebase.{fork, clash, rewrite}
-use Rattle.history_model.specs.Journal.{Header, payload_len, most_payload, size, is_full}
-use Rattle.reply_model.specs.Reply.{is_ask, Down, Merge, NoParent, content_refusal, collides, Collision, NoChangeset, Moved, TooLarge, first_collision, NoBookmark, NoRoot, TooFarBehind, AlreadyIn, StackTooLong, Clash, most_range, most_stack, Ask, PutContent, PutChangeset, SetBookmark, LandDraft, Refusal, Granted, ContentPut, ChangesetPut, BookmarkSet, Landed, Judged, ◌>>=◌, Full, refuse_if, refuse_some, unchanged, entered, put_content, accepted, put_changeset, set_bookmark, enter_landing, land, by_ask, judge}
+use Rattle.history_model.specs.History.{Body, Content, Change, Book, Land, Fault, Entry, is_stored, unnumbered, bodies, stored, is_down}
+use Rattle.history_model.specs.Journal.{Header}
+use Rattle.reply_model.specs.Reply.{is_ask, Ask, Refusal, Granted, Judged, judge}
 use Rattle.reply_model.specs.Legal.{MayFollow, IsLegal}
 use Rattle.core_model.specs.Core.{Once, set_for, none_yet, State, Step, Sealing, Stage, Decided, Written, Flushed, Opened, LeftOver, PlanLanding, Exchange, Look, WriteRecord, SyncRecord, OpenGate, Seal, Acknowledge, TakeJob, Settle, Crash, is_left_over, is_sealed, to_seal, sealing_of, is_as_planned, exchanged, added, broken, sealed, device_call, acknowledged_with, may_be_kept, kept_of, opened, reopened, settled_with, job_of, when, after_step, after_steps}
 use Rattle.manifest_model.specs.Manifests.{Job, derive}
@@ -43,7 +37,7 @@ StandsAt h a = slice_get (bodies h) a.0 ≡ Some a.1
 
 -- ---- entries keep their places
 
-get_front : {X : Type 0} (xs ys : List X) (n : ℕ) (x : X) → slice_get xs n ≡ Some x → slice_get (xs ++ ys) n ≡ Some x
+pub get_front : {X : Type 0} (xs ys : List X) (n : ℕ) (x : X) → slice_get xs n ≡ Some x → slice_get (xs ++ ys) n ≡ Some x
 get_front [] ys n x e = absurd cc
 get_front (y ∷ xs) ys zero x e = e
 get_front (y ∷ xs) ys (suc n) x e = get_front xs ys n x e

@@ -19,6 +19,7 @@ use Rattle.manifest_model.proofs.Derivations.{job_of_parent, derives_first, deri
 use Rattle.reply_model.proofs.Lines.{known_once, GoesOn, line_goes_on, no_line, known_grows, line_grows}
 use Rattle.core_model.proofs.Cores.{Kept, step_kept, started_kept, some_is, when_ok}
 use Rattle.byte_fields.proofs.Lists.{all_push, weaker}
+use Rattle.history_model.proofs.Clashes.{same_some}
 
 -- ---- what holds of a table and of jobs
 
@@ -50,9 +51,6 @@ grows h g jobs table k = record {
 }
 
 -- ---- a job that is taken
-
-same_some : {X : Type 0} (x y : X) → Some x ≡ Some y → x ≡ y
-same_some x y e = ap (λ o. unwrap_or o x) e
 
 settled_by : (ks : List Known) (x : Id) (n : Manifests) (table : List Manifests) (m : Manifests) → IsRight ks n → (find (λ m. bytes_eq m.id x) table ≡ Some m → IsRight ks m × (m.id ≡ x)) → (b : Bool) → bytes_eq n.id x ≡ b → cond b (Some n) (find (λ m. bytes_eq m.id x) table) ≡ Some m → IsRight ks m × (m.id ≡ x)
 settled_by ks x n table m r later true e h = subst (λ m. IsRight ks m × (m.id ≡ x)) (same_some n m h) (r, (bytes_eq-Decides n.id x).0 e)

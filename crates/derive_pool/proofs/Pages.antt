@@ -1,13 +1,26 @@
--- How far a page of the log reaches.
-use Rattle.std.proofs.Common.{◌≡◌, ◌+◌, ◌-◌, ◌^◌, ◌∙◌, min, ℕ, List, length, sym, ap}
-use Rattle.std.proofs.lemmas.List.{length-map}
+-- Pages of the log that are read one after another.
+use Rattle.std.proofs.Common.{◌≡◌, ℕ, List, [], ◌∷◌, ◌++◌, refl, subst, sym, ap}
 use Rattle.history_model.specs.History.{Entry}
-use Rattle.reply_model.specs.Log.{lines_of}
-use Rattle.reply_model.specs.Reply.{SeenLog}
-use Rattle.reply_model.specs.After.{Answer, Shows}
-use Rattle.repo_calls.specs.declared.log.LogEntry.{LogEntry}
-use Rattle.repo_calls.specs.Calls.{line_seen, lines_seen}
-use Rattle.derive_pool.specs.Pages.{next_after}
+use Rattle.history_model.specs.Journal.{Header}
+use Rattle.reply_model.specs.Reply.{LogFrom}
+use Rattle.reply_model.specs.After.{Relation, Looks, Answer}
+use Rattle.derive_pool.specs.Pages.{ReadsPages, next_after}
 
-pub page_ends : (from : ℕ) (told : List LogEntry) (page : List Entry) (total : ℕ) (answer : Answer) → answer ≡ Shows (SeenLog page total) → lines_seen told ≡ lines_of page → min (from + length told) (2 ^ 64 - 1) ≡ next_after from answer
-page_ends from told page total answer is same = rw is (ap (λ n. min (from + n) (2 ^ 64 - 1)) (sym (length-map told line_seen) ∙ ap length same))
+pub reads_more : (replies : Relation) (header : Header) (number : ℕ) (before : List Entry) (from : ℕ) (answers : List Answer) (between : List Entry) (next : ℕ) (answer : Answer) (after : List Entry)
+    → ReadsPages replies header number before from answers between next → replies header between number (Looks (LogFrom next)) answer after
+    → ReadsPages replies header number before from (answers ++ answer ∷ []) after (next_after next answer)
+reads_more replies header number before from [] between next answer after read one =
+    let here = subst (λ (b : List Entry). replies header b number (Looks (LogFrom next)) answer after) read.0 one in
+    (after, subst (λ (n : ℕ). replies header before number (Looks (LogFrom n)) answer after) read.1 here, (refl, ap (λ n. next_after n answer) read.1))
+reads_more replies header number before from (first ∷ answers) between next answer after read one =
+    (read.0, read.1, reads_more replies header number read.0 (next_after from first) answers between next answer after read.2 one)
+
+-- the same where the seat has the header and the number that it had
+pub reads_on : (replies : Relation) (header now : Header) (number number_now : ℕ) (before : List Entry) (from : ℕ) (between : List Entry) (next : ℕ) (after : List Entry) (then : ℕ)
+    → now ≡ header → number_now ≡ number → (answers : List Answer) × ReadsPages replies header number before from answers between next
+    → (answer : Answer) × replies now between number_now (Looks (LogFrom next)) answer after × (then ≡ next_after next answer)
+    → (answers : List Answer) × ReadsPages replies header number before from answers after then
+reads_on replies header now number number_now before from between next after then same_header same_number read one =
+    let with_header = subst (λ (h : Header). replies h between number_now (Looks (LogFrom next)) one.0 after) same_header one.1 in
+    let with_number = subst (λ (k : ℕ). replies header between k (Looks (LogFrom next)) one.0 after) same_number with_header in
+    (read.0 ++ one.0 ∷ [], subst (λ (n : ℕ). ReadsPages replies header number before from (read.0 ++ one.0 ∷ []) after n) (sym one.2) (reads_more replies header number before from read.0 between next one.0 after read.1 with_number))

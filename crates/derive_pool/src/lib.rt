@@ -4,6 +4,7 @@
 
 pub mod channel;
 pub mod feed;
+mod heads;
 pub mod pool;
 
 pub use channel::{IdsFrom, IdsTo, ids_channel};

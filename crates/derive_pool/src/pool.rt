@@ -7,7 +7,7 @@ ghost use Rattle.derive_pool.specs.Pool.{DerivesAll};
 
 use crate::channel::IdsFrom;
 use object_id::Id;
-use seat_calls::AskFault;
+use repo_calls::AskFault;
 use std::alloc::Global;
 use std::sync::Wait;
 

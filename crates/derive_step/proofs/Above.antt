@@ -8,27 +8,22 @@ use Rattle.std.proofs.lemmas.Bool.{and_parts, or_left, or_right, ne_eqb, ltb-tru
 use Rattle.std.proofs.lemmas.List.{length_push}
 use Rattle.changeset_model.specs.Path.{Path, path_cmp, is_prefix, is_strict_prefix}
 use Rattle.manifest_model.proofs.Derivations.{tied_same}
-use Rattle.manifest_laws.proofs.Lists.{or_either, true_and_false}
+use Rattle.manifest_laws.proofs.Lists.{true_and_false}
+use Rattle.manifest_model.proofs.Derivations.{or_case as or_either}
 use Rattle.manifest_laws.proofs.Names.{same_name}
 use Rattle.manifest_laws.proofs.Changes.{prefix_itself, prefix_trans}
 use Rattle.manifest_laws.proofs.Flat.{prefix_length, strict_parts, strict_from, strict_then, is_strict_or_same, tied_self}
-use Rattle.manifest_laws.proofs.Unodes.{prefix_self}
+use Rattle.history_model.proofs.Landings.{prefix_self}
 use Rattle.derive_step.specs.Touched.{is_above, IsWhole}
+use Rattle.changeset_model.proofs.Texts.{or_true}
+use Rattle.manifest_laws.proofs.Steps.{both_ways}
+use Rattle.tree_fold.proofs.Trees.{both as and_both}
 
 -- ---- truth values
-
-pub both_ways : (a b : Bool) → (a ≡ true → b ≡ true) → (b ≡ true → a ≡ true) → a ≡ b
-both_ways true true f g = refl
-both_ways true false f g = sym (f refl)
-both_ways false true f g = g refl
-both_ways false false f g = refl
 
 pub by_test : {P : Type 0} (b : Bool) → (b ≡ true → P) → (b ≡ false → P) → P
 by_test true f g = f refl
 by_test false f g = g refl
-
-and_both : (a b : Bool) → a ≡ true → b ≡ true → (a && b) ≡ true
-and_both a b h g = λ i. h i && g i
 
 -- ---- paths
 
@@ -170,10 +165,6 @@ module _ (old : BTreeSet Path) (whole : IsWhole old) (p : Path) where
       let low = above_parts d q under in
       let high = above_parts q p g in
       above_from d p low.0 (strict_then d q p low.1 (strict_parts q p high.1).0))) (sym (added q) ∙ has)
-
-pub or_true : (b : Bool) → true ≡ (b || true)
-or_true true = refl
-or_true false = refl
 
 pub added_more : (o x y b : Bool) → x ≡ (o || y) → cond b true x ≡ (o || cond b true y)
 added_more o x y true e = or_true o

@@ -22,15 +22,16 @@ use Rattle.manifest_laws.proofs.Directories.{directories_are}
 use Rattle.manifest_laws.proofs.Flat.{dir_from}
 use Rattle.manifest_laws.proofs.Fsnodes.{unrenewed_was_there, unrenewed_node}
 use Rattle.manifest_laws.proofs.Unodes.{chain_more, kept_is}
-use Rattle.entry_laws.proofs.Seen.{one_more as under_dir}
+use Rattle.manifest_laws.proofs.Seen.{one_more as under_dir}
 use Rattle.derive_step.specs.Jobs.{IsRight, all_nodes_on}
-use Rattle.derive_step.specs.Steps.{name_in}
+use Rattle.derive_step.specs.Walk.{name_in}
 use Rattle.derive_step.specs.Renewal.{files_set_in, nodes_there, dir_nodes}
 use Rattle.derive_step.proofs.Above.{by_test}
 use Rattle.derive_step.proofs.Edits.{name_here}
 use Rattle.derive_step.proofs.Laws.{rise, clear_all, alone, set_now}
 use Rattle.derive_step.proofs.FileNodes.{all_found}
-use Rattle.derive_step.proofs.Members.{Has, has_contains, contains_has, has_left, has_right, has_either, has_map, map_has, has_flat, all_append, all_flat, all_map, all_has, found_has}
+use Rattle.derive_step.proofs.Members.{Has, has_contains, contains_has, has_left, has_right, has_either, has_map, map_has, has_flat, all_flat, all_map, all_has, found_has}
+use Rattle.byte_fields.proofs.Lists.{all_both as all_append}
 
 -- ---- of any changeset
 

@@ -16,11 +16,16 @@ use Rattle.changeset_model.proofs.Rising.{path_lt_irreflexive, path_lt_asymmetri
 use Rattle.bonsai.proofs.Rules.{changes_rise}
 use Rattle.manifest_model.proofs.Derivations.{tied_same}
 use Rattle.manifest_laws.specs.Changes.{covers, is_covered}
-use Rattle.manifest_laws.proofs.Lists.{true_and_false, none_first, none_found, no_map}
+use Rattle.manifest_laws.proofs.Lists.{true_and_false}
+use Rattle.byte_fields.proofs.Lists.{none_first, none_found}
+use Rattle.byte_fields.proofs.Booleans.{unmapped as no_map}
 use Rattle.manifest_laws.proofs.Flat.{sets_in, is_strict_or_same, tied_self}
-use Rattle.entry_laws.proofs.Folded.{under_is_more}
+use Rattle.manifest_laws.proofs.Folded.{under_is_more}
 use Rattle.derive_step.specs.Covering.{paths_seen, paths_set}
-use Rattle.derive_step.proofs.Together.{not_true, later_or_same}
+use Rattle.derive_step.proofs.Together.{later_or_same}
+use Rattle.changeset_model.proofs.Spelling.{is_false as not_true}
+use Rattle.byte_fields.proofs.Booleans.{or_false}
+use Rattle.byte_fields.proofs.Lists.{weaker as all_by}
 
 abbrev Edits : Type 0
 Edits = List (Path × FileChange)
@@ -40,10 +45,6 @@ covers_sets d ((p, Delete) ∷ es) = covers_sets d es
 abbrev AreOuter : List Path → Type 0
 AreOuter [] = Unit {0}
 AreOuter (p ∷ ps) = AllByRecursion (λ q. (path_lt p q ≡ true) × (is_strict_prefix p q ≡ false)) ps × AreOuter ps
-
-all_by : {X : Type 0} (P Q : X → Type 0) → ((x : X) → P x → Q x) → (xs : List X) → AllByRecursion P xs → AllByRecursion Q xs
-all_by P Q f [] h = tt
-all_by P Q f (x ∷ xs) h = (f x h.0, all_by P Q f xs h.1)
 
 firsts : (p : Path) (es : Edits) → below_all path_cmp p es ≡ true → AllByRecursion (λ (long : Path × File). is_strict_prefix p long.0 ≡ false) (sets_in es) → AllByRecursion (λ q. (path_lt p q ≡ true) × (is_strict_prefix p q ≡ false)) (paths_set es)
 firsts p [] below h = tt
@@ -105,10 +106,6 @@ Shown = List (Bor Path)
 none_covers : (d : Path) (ps : Shown) → ((k : ℕ) (z : Bor Path) → k < length ps → path_lt d (get_or ps k z).now ≡ true) → list_any (λ p. is_prefix p d) (paths_seen ps) ≡ false
 none_covers d [] h = refl
 none_covers d (p ∷ ps) h = λ i. later_no_front d p.now (h zero p (omega arith)) i || none_covers d ps (λ k z less. h (suc k) z (omega arith)) i
-
-or_false : (b : Bool) → (b || false) ≡ b
-or_false true = refl
-or_false false = refl
 
 last_covers : (d : Path) (ps : Shown) (i : ℕ) (y : Bor Path) → AreOuter (paths_seen ps) → i < length ps → ((k : ℕ) (z : Bor Path) → k ≤ i → path_lt d (get_or ps k z).now ≡ false) → ((k : ℕ) (z : Bor Path) → i < k → k < length ps → path_lt d (get_or ps k z).now ≡ true)
     → list_any (λ p. is_prefix p d) (paths_seen ps) ≡ is_prefix (get_or ps i y).now d

@@ -1,22 +1,25 @@
 -- A derivation from its directories.
 use Rattle.std.proofs.Common.{◌≡◌, ◌⊎◌, inl, inr, ℕ, Bool, true, false, ◌||◌, List, [], ◌∷◌, ◌++◌, length, reverse, refl, sym, ap, subst, ◌∙◌, arith, append-nil}
-use Rattle.std.specs.Prelude.{Contains, flat_map, Some, ◌==◌}
+use Rattle.std.specs.Prelude.{Contains, flat_map, Some, option_map, ◌==◌}
 use mathlib.Core.List.{reverse-cons}
 use Rattle.std.specs.List.{AllByRecursion, list_any}
 use Rattle.std.specs.List.Sorted.{IsStrictlySortedBy}
-use Rattle.std.specs.BTreeMap.{BTreeMap}
+use Rattle.std.specs.Arc.{arc_value}
+use Rattle.std.specs.BTreeMap.{BTreeMap, get}
 use Rattle.std.specs.BTreeSet.{BTreeSet}
 use Rattle.std.proofs.lemmas.Bool.{ne_eqb}
 use Rattle.std.proofs.lemmas.Grind.{flat_map-append}
 use Rattle.changeset_model.specs.Path.{Path, path_cmp, is_strict_prefix}
+use Rattle.changeset_model.specs.Changeset.{Changeset}
 use Rattle.history_model.specs.History.{Known}
 use Rattle.manifest_model.specs.Unode.{is_renewed}
+use Rattle.derive_step.specs.declared.job.DirNodes.{DirNodes}
 use Rattle.derive_step.specs.declared.job.Job.{Job}
 use Rattle.derive_step.specs.declared.done.Done.{Done}
 use Rattle.derive_step.specs.declared.made.Made.{Made}
-use Rattle.derive_step.specs.Views.{roots_before}
+use Rattle.derive_step.specs.Views.{before_seen, nodes_before, roots_before}
 use Rattle.derive_step.specs.Jobs.{IsJobOf, IsDoneOf, all_nodes_on}
-use Rattle.derive_step.specs.Renewal.{dir_nodes, roots_at, AreTouched, AreRenewed, IsMadeUnder}
+use Rattle.derive_step.specs.Renewal.{dir_nodes, roots_at, AreBefore, AreTouched, AreRenewed, IsDue, IsMadeUnder}
 use Rattle.derive_step.proofs.Gone.{above_any, renewed_there, above_some}
 use Rattle.derive_step.proofs.Members.{Has, any_has, has_left, has_right}
 use Rattle.derive_step.proofs.AllNodes.{all_right, all_whole}
@@ -30,6 +33,14 @@ has_reverse (y ∷ xs) x (inr h) = subst (λ ys. Has ys x) (sym (reverse-cons y 
 under_root : (b c : Bool) → b ≡ false → (b || c) ≡ true → c ≡ true
 under_root true c none h = absurd (cc)
 under_root false c none h = h
+
+module _ (c : Known) (older : List Known) (job : Job) (of : IsJobOf c older job) where
+  pub is_due : (commit : Changeset) → commit ≡ arc_value job.commit → IsDue c older commit
+  is_due commit is = record { right = of.right; changeset = is ∙ of.changeset; id = of.id }
+
+  pub are_before : (dirs : BTreeMap Path DirNodes) → ((n : List ℕ) (d : Path) → option_map before_seen (get path_cmp dirs (n ∷ d)) ≡ nodes_before job.parent (n ∷ d)) → AreBefore c older dirs
+  are_before dirs told [] some renewed = absurd (omega arith)
+  are_before dirs told (n ∷ d) some renewed = told n d ∙ of.nodes (n ∷ d) renewed
 
 module _ (c : Known) (older : List Known) (job : Job) (of : IsJobOf c older job) (dirs : BTreeSet Path) (touched : AreTouched c dirs) where
   abbrev ds : List Path

@@ -1,7 +1,6 @@
 -- An edit, seen from a directory, as it is put in under the name that it reaches.
 use Rattle.std.proofs.Common.{◌≡◌, ℕ, ◌<◌, length, drop, arith, append-nil, Bool, true, false, cond, List, [], ◌∷◌, ◌++◌, refl, sym, ap, ◌∙◌}
 use Rattle.std.specs.Prelude.{Option, Some, None, bytes_eq}
-use Rattle.std.specs.BTreeMap.{BTreeMap}
 use Rattle.std.proofs.lemmas.Bool.{and_parts}
 use Rattle.std.specs.declared.cmp.Ordering.{Ordering}
 use Rattle.std.specs.declared.cmp.Ordering.TheVariants.{Less, Equal, Greater}
@@ -14,14 +13,10 @@ use Rattle.changeset_model.specs.Changeset.{File, FileChange, Set, Delete}
 use Rattle.manifest_laws.proofs.Names.{same_name}
 use Rattle.manifest_laws.proofs.Changes.{prefix_itself}
 use Rattle.manifest_laws.proofs.Flat.{strict_parts, strict_from}
-use Rattle.byte_fields.specs.Bytes.{Id}
-use Rattle.manifest_model.specs.Unode.{UnodeEntry}
-use Rattle.entry_laws.specs.Entries.{without_dir, edited, renewed, after_edit, after_edits, unode_set, is_unode_file}
-use Rattle.entry_laws.proofs.Seen.{one_more, outside_at, outside_under, here_at, here_under, under_at, under_under}
+use Rattle.manifest_laws.specs.EntryEdits.{without_dir, edited, renewed, after_edit, after_edits}
+use Rattle.manifest_laws.proofs.Seen.{one_more, outside_at, outside_under, here_at, here_under, under_at, under_under}
 use Rattle.tree_fold.proofs.Texts.{drop-front}
-use Rattle.derive_step.specs.declared.made.Made.{Made}
-use Rattle.derive_step.specs.Steps.{sole, name_in, set_node, nodes_of_edit, set_nodes, unode_after, unode_made_in}
-use Rattle.derive_step.specs.Manifests.{edit_nodes}
+use Rattle.derive_step.specs.Walk.{after, all_nodes, name_in, nodes_at, nodes_by, nodes_of, sole}
 use Rattle.derive_step.specs.Slices.{edits_in, past, IsChild, left_after}
 
 -- ---- an edit, seen from a directory
@@ -168,7 +163,7 @@ module _ {E : Type 0} (set_at : Path → Option E → File → E) (is_file : E �
   put_under g f d q m [] change o made h some is right n = absurd (omega arith)
   put_under g f d q m (e ∷ t) change o made h some is right n = h n ∙ under_edit made d q m n e t change f o is right
 
--- ---- the unodes of files
+-- ---- the nodes of files
 
 pub name_here : (d : Path) (m : List ℕ) → name_in d (d ++ m ∷ []) ≡ Some m
 name_here d m = ap (λ b. cond b (sole (drop (length d) (d ++ m ∷ []))) None) (one_more d m) ∙ ap sole (drop-front d (m ∷ []))
@@ -180,56 +175,75 @@ name_under d m e r = by (is_strict_prefix d (d ++ m ∷ e ∷ r)) (ap sole (drop
     by true h = h
     by false h = refl
 
-pub here_nodes : (x : Id) (d q : Path) (m : List ℕ) (change : FileChange) (o : List ℕ → Option UnodeEntry) (before : Option UnodeEntry) → q ≡ d ++ m ∷ [] → before ≡ o m → edit_nodes x q before change ≡ nodes_of_edit x d o (q, change)
-here_nodes x d q m (Set f) o before e is =
-    ap (λ b. set_node x q f (λ _. b) (Some m)) is
-    ∙ ap (set_node x q f o) (sym (ap (name_in d) e ∙ name_here d m))
-here_nodes x d q m Delete o before e is = refl
+module _ {E : Type 0} (own : Path → Option E → File → List (List ℕ)) (d : Path) where
+  pub here_nodes : (q : Path) (m : List ℕ) (change : FileChange) (o : List ℕ → Option E) (before : Option E) → q ≡ d ++ m ∷ [] → before ≡ o m → nodes_of own q before change ≡ nodes_by own d o (q, change)
+  here_nodes q m (Set f) o before e is =
+      ap (λ b. own q b f) is
+      ∙ ap (nodes_at own q f o) (sym (ap (name_in d) e ∙ name_here d m))
+  here_nodes q m Delete o before e is = refl
 
-no_nodes : (x : Id) (d q : Path) (m e : List ℕ) (r : Path) (change : FileChange) (o : List ℕ → Option UnodeEntry) → q ≡ d ++ m ∷ e ∷ r → [] ≡ nodes_of_edit x d o (q, change)
-no_nodes x d q m e r (Set f) o is = ap (set_node x q f o) (sym (ap (name_in d) is ∙ name_under d m e r))
-no_nodes x d q m e r Delete o is = refl
+  no_nodes : (q : Path) (m e : List ℕ) (r : Path) (change : FileChange) (o : List ℕ → Option E) → q ≡ d ++ m ∷ e ∷ r → [] ≡ nodes_by own d o (q, change)
+  no_nodes q m e r (Set f) o is = ap (nodes_at own q f o) (sym (ap (name_in d) is ∙ name_under d m e r))
+  no_nodes q m e r Delete o is = refl
 
-pub under_nodes : (x : Id) (d q : Path) (m : List ℕ) (t : Path) (change : FileChange) (o : List ℕ → Option UnodeEntry) (old : List (List ℕ)) → 0 < length t → q ≡ d ++ m ∷ t → old ≡ old ++ nodes_of_edit x d o (q, change)
-under_nodes x d q m [] change o old some is = absurd (omega arith)
-under_nodes x d q m (e ∷ t) change o old some is = sym (append-nil old) ∙ ap (λ ns. old ++ ns) (no_nodes x d q m e t change o is)
+  pub under_nodes : (q : Path) (m : List ℕ) (t : Path) (change : FileChange) (o : List ℕ → Option E) (old : List (List ℕ)) → 0 < length t → q ≡ d ++ m ∷ t → old ≡ old ++ nodes_by own d o (q, change)
+  under_nodes q m [] change o old some is = absurd (omega arith)
+  under_nodes q m (e ∷ t) change o old some is = sym (append-nil old) ∙ ap (λ ns. old ++ ns) (no_nodes q m e t change o is)
 
--- ---- edits elsewhere put no unodes of files
+  pub outside_nodes : (p : Path) (change : FileChange) (o : List ℕ → Option E) → is_strict_prefix d p ≡ false → [] ≡ nodes_by own d o (p, change)
+  outside_nodes p (Set f) o out = sym (ap (λ b. nodes_at own p f o (cond b (sole (drop (length d) p)) None)) out)
+  outside_nodes p Delete o out = refl
 
-outside_nodes : (x : Id) (d p : Path) (change : FileChange) (o : List ℕ → Option UnodeEntry) → is_strict_prefix d p ≡ false → [] ≡ nodes_of_edit x d o (p, change)
-outside_nodes x d p (Set f) o out = sym (ap (λ b. set_node x p f o (cond b (sole (drop (length d) p)) None)) out)
-outside_nodes x d p Delete o out = refl
+-- ---- edits elsewhere put no nodes of files
 
-in_dir_nodes : (x : Id) (made : BTreeMap Path Made) (d : Path) (es : List (Path × FileChange)) (o : List ℕ → Option UnodeEntry) → set_nodes x made d (edits_in d es) o ≡ set_nodes x made d es o
-in_dir_nodes x made d [] o = refl
-in_dir_nodes x made d ((p, change) ∷ es) o = by (in_dir_nodes x made d es) (is_strict_prefix d p) refl
-  where
-    by : ((o : List ℕ → Option UnodeEntry) → set_nodes x made d (edits_in d es) o ≡ set_nodes x made d es o) → (b : Bool) → is_strict_prefix d p ≡ b → set_nodes x made d (cond b ((p, change) ∷ edits_in d es) (edits_in d es)) o ≡ nodes_of_edit x d o (p, change) ++ set_nodes x made d es (λ n. unode_after x made d ((p, change) ∷ []) o n)
-    by ih true under = ap (λ ns. nodes_of_edit x d o (p, change) ++ ns) (ih (λ n. unode_after x made d ((p, change) ∷ []) o n))
-    by ih false out =
-        ih o
-        ∙ ap (set_nodes x made d es) (λ i n. outside_edit (unode_set x) is_unode_file (unode_made_in made) d p n change (o n) out i)
-        ∙ ap (λ ns. ns ++ set_nodes x made d es (λ n. unode_after x made d ((p, change) ∷ []) o n)) (outside_nodes x d p change o out)
+module _ {E : Type 0} (set_at : Path → Option E → File → E) (made : Path → Option E) (is_file : E → Bool) (own : Path → Option E → File → List (List ℕ)) (d : Path) where
+  abbrev nodes : List (Path × FileChange) → (List ℕ → Option E) → List (List ℕ)
+  nodes es o = all_nodes set_at made is_file own d es o
 
-pub same_in_nodes : (x : Id) (made : BTreeMap Path Made) (d : Path) (es fs : List (Path × FileChange)) (o : List ℕ → Option UnodeEntry) → edits_in d es ≡ edits_in d fs → set_nodes x made d es o ≡ set_nodes x made d fs o
-same_in_nodes x made d es fs o e = sym (in_dir_nodes x made d es o) ∙ ap (λ q. set_nodes x made d q o) e ∙ in_dir_nodes x made d fs o
+  abbrev then : (List ℕ → Option E) → Path × FileChange → List ℕ → Option E
+  then o e = after set_at made is_file d (e ∷ []) o
 
-module _ (x : Id) (made : BTreeMap Path Made) (d q : Path) (a : FileChange) (o : List ℕ → Option UnodeEntry) where
-  abbrev after_first : List ℕ → Option UnodeEntry
-  after_first n = unode_after x made d ((q, a) ∷ []) o n
-
-  past_nodes : (m : List ℕ) → is_strict_prefix (d ++ m ∷ []) q ≡ true → (es : List (Path × FileChange)) → set_nodes x made d (past (d ++ m ∷ []) es) after_first ≡ set_nodes x made d es after_first
-  past_nodes m under [] = refl
-  past_nodes m under ((r, b) ∷ es) = by (past_nodes m under es) (is_strict_prefix (d ++ m ∷ []) r) refl
+  in_dir_nodes : (es : List (Path × FileChange)) (o : List ℕ → Option E) → nodes (edits_in d es) o ≡ nodes es o
+  in_dir_nodes [] o = refl
+  in_dir_nodes (e ∷ es) o = by (in_dir_nodes es) (is_strict_prefix d e.0) refl
     where
-      by : set_nodes x made d (past (d ++ m ∷ []) es) after_first ≡ set_nodes x made d es after_first → (t : Bool) → is_strict_prefix (d ++ m ∷ []) r ≡ t → set_nodes x made d (cond t (past (d ++ m ∷ []) es) ((r, b) ∷ es)) after_first ≡ nodes_of_edit x d after_first (r, b) ++ set_nodes x made d es (λ n. unode_after x made d ((r, b) ∷ []) after_first n)
-      by ih true h =
-          let s = under_shape d m r h in
-          ih
-          ∙ ap (set_nodes x made d es) (sym (λ i n. again (unode_set x) is_unode_file (unode_made_in made) d q r m n a b (o n) under h i))
-          ∙ ap (λ ns. ns ++ set_nodes x made d es (λ n. unode_after x made d ((r, b) ∷ []) after_first n)) (no_nodes x d r m s.0 s.1 b after_first s.2)
-      by ih false h = refl
+      by : ((o : List ℕ → Option E) → nodes (edits_in d es) o ≡ nodes es o) → (b : Bool) → is_strict_prefix d e.0 ≡ b → nodes (cond b (e ∷ edits_in d es) (edits_in d es)) o ≡ nodes_by own d o e ++ nodes es (then o e)
+      by ih true under = ap (λ ns. nodes_by own d o e ++ ns) (ih (then o e))
+      by ih false out =
+          ih o
+          ∙ ap (nodes es) (λ i n. outside_edit set_at is_file made d e.0 n e.1 (o n) out i)
+          ∙ ap (λ ns. ns ++ nodes es (then o e)) (outside_nodes own d e.0 e.1 o out)
 
-  pub left_nodes : (child : Option Path) → IsChild child d q → (es : List (Path × FileChange)) → set_nodes x made d (left_after child es) after_first ≡ set_nodes x made d es after_first
-  left_nodes None is es = refl
-  left_nodes (Some c) is es = ap (λ y. set_nodes x made d (past y es) after_first) is.1 ∙ past_nodes is.0 (ap (λ y. is_strict_prefix y q) (sym is.1) ∙ is.2) es
+  pub same_in_nodes : (es fs : List (Path × FileChange)) (o : List ℕ → Option E) → edits_in d es ≡ edits_in d fs → nodes es o ≡ nodes fs o
+  same_in_nodes es fs o e = sym (in_dir_nodes es o) ∙ ap (λ q. nodes q o) e ∙ in_dir_nodes fs o
+
+  module _ (q : Path) (a : FileChange) (o : List ℕ → Option E) where
+    past_nodes : (m : List ℕ) → is_strict_prefix (d ++ m ∷ []) q ≡ true → (es : List (Path × FileChange)) → nodes (past (d ++ m ∷ []) es) (then o (q, a)) ≡ nodes es (then o (q, a))
+    past_nodes m under [] = refl
+    past_nodes m under (e ∷ es) = by (past_nodes m under es) (is_strict_prefix (d ++ m ∷ []) e.0) refl
+      where
+        by : nodes (past (d ++ m ∷ []) es) (then o (q, a)) ≡ nodes es (then o (q, a)) → (t : Bool) → is_strict_prefix (d ++ m ∷ []) e.0 ≡ t → nodes (cond t (past (d ++ m ∷ []) es) (e ∷ es)) (then o (q, a)) ≡ nodes_by own d (then o (q, a)) e ++ nodes es (then (then o (q, a)) e)
+        by ih true h =
+            let s = under_shape d m e.0 h in
+            ih
+            ∙ ap (nodes es) (sym (λ i n. again set_at is_file made d q e.0 m n a e.1 (o n) under h i))
+            ∙ ap (λ ns. ns ++ nodes es (then (then o (q, a)) e)) (no_nodes own d e.0 m s.0 s.1 e.1 (then o (q, a)) s.2)
+        by ih false h = refl
+
+    pub left_nodes : (child : Option Path) → IsChild child d q → (es : List (Path × FileChange)) → nodes (left_after child es) (then o (q, a)) ≡ nodes es (then o (q, a))
+    left_nodes None is es = refl
+    left_nodes (Some c) is es = ap (λ y. nodes (past y es) (then o (q, a))) is.1 ∙ past_nodes is.0 (ap (λ y. is_strict_prefix y q) (sym is.1) ∙ is.2) es
+
+-- ---- where files have no nodes of their own
+
+none_by : {E : Type 0} (d p : Path) (change : FileChange) (o : List ℕ → Option E) → nodes_by (λ _ _ _. []) d o (p, change) ≡ []
+none_by d p (Set f) o = by (name_in d p)
+  where
+    by : (x : Option (List ℕ)) → nodes_at (λ _ _ _. []) p f o x ≡ []
+    by None = refl
+    by (Some n) = refl
+none_by d p Delete o = refl
+
+pub no_own_nodes : {E : Type 0} (set_at : Path → Option E → File → E) (made : Path → Option E) (is_file : E → Bool) (d : Path) (es : List (Path × FileChange)) (o : List ℕ → Option E) → all_nodes set_at made is_file (λ _ _ _. []) d es o ≡ []
+no_own_nodes set_at made is_file d [] o = refl
+no_own_nodes set_at made is_file d (e ∷ es) o = ap (λ ns. ns ++ all_nodes set_at made is_file (λ _ _ _. []) d es (after set_at made is_file d (e ∷ []) o)) (none_by d e.0 e.1 o) ∙ no_own_nodes set_at made is_file d es (after set_at made is_file d (e ∷ []) o)

@@ -3,13 +3,13 @@ use Rattle.std.proofs.Common.{◌≡◌, ℕ, ◌≤◌, ◌^◌, suc, Bool, tru
 use Rattle.std.specs.Prelude.{Option, Some, None, Result, Ok, Err, IfOk, option_map}
 use Rattle.std.specs.declared.alloc.AllocError.{AllocError}
 use Rattle.std.specs.declared.cmp.Ordering.{Ordering}
-use Rattle.std.specs.declared.cmp.Ordering.TheVariants.{Less, Equal, Greater}
+use Rattle.std.specs.declared.cmp.Ordering.TheVariants.{Less}
 use Rattle.std.specs.List.{list_all, AllByRecursion}
 use Rattle.std.specs.List.Sorted.{IsStrictlySortedBy}
 use Rattle.std.specs.Map.{keys_of, lookup}
 use Rattle.std.specs.BTreeMap.{is_at}
 use Rattle.std.specs.Option.{option_or}
-use Rattle.std.specs.Ordering.{nat_cmp, eq_by_cmp, is_lt, is_eq}
+use Rattle.std.specs.Ordering.{nat_cmp, eq_by_cmp, is_lt}
 use Rattle.std.specs.Cmp.Lexicographic.{slice_cmp}
 use Rattle.std.specs.FinMap.{is_sorted, find as find_key}
 use Rattle.std.specs.FinMap.Entries.{below_all}
@@ -19,20 +19,16 @@ use Rattle.changeset_model.specs.Path.{is_element}
 use Rattle.manifest_model.specs.Fsnode.{are_entries}
 use Rattle.manifest_laws.proofs.Lists.{list_all_append}
 use Rattle.derive_step.proofs.Edits.{tied_name, name_swap}
+use Rattle.manifest_laws.proofs.Summaries.{later_differ as less_apart}
 
 abbrev pub by_name : List ℕ → List ℕ → Ordering
 by_name = slice_cmp nat_cmp
-
-less_apart : (o : Ordering) → is_lt o ≡ true → is_eq o ≡ false
-less_apart Less h = refl
-less_apart Equal h = absurd (cc)
-less_apart Greater h = absurd (cc)
 
 pub list_all_push : {X : Type 0} (t : X → Bool) (xs : List X) (x : X) → list_all t xs ≡ true → t x ≡ true → list_all t (xs ++ x ∷ []) ≡ true
 list_all_push t xs x all here = list_all_append t xs (x ∷ []) all (λ i. here i && true)
 
 module _ {E : Type 0} where
-  none_below : (k n : List ℕ) (es : List (List ℕ × E)) → eq_by_cmp by_name k n ≡ true → below_all by_name k es ≡ true → find_key by_name n es ≡ None
+  pub none_below : (k n : List ℕ) (es : List (List ℕ × E)) → eq_by_cmp by_name k n ≡ true → below_all by_name k es ≡ true → find_key by_name n es ≡ None
   none_below k n [] same below = refl
   none_below k n (e ∷ es) same below =
       let parts = and_parts (is_lt (by_name k e.0)) (below_all by_name k es) below in

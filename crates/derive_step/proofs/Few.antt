@@ -20,7 +20,7 @@ use Rattle.manifest_laws.specs.Changes.{files_in, renewed_dirs}
 use Rattle.manifest_laws.proofs.Directories.{renewed_are}
 use Rattle.manifest_laws.proofs.Flat.{tied_self}
 use Rattle.manifest_laws.proofs.Lists.{true_and_false}
-use Rattle.derive_step.specs.Steps.{name_in}
+use Rattle.derive_step.specs.Walk.{name_in}
 use Rattle.derive_step.specs.Renewal.{files_set_in, nodes_there, dir_nodes}
 use Rattle.derive_step.proofs.FileNodes.{named}
 use Rattle.derive_step.proofs.Members.{Has, contains_has, has_any, any_has, any_all}

@@ -1,6 +1,6 @@
 -- The unodes of the files that a changeset sets directly in a directory.
 use Rattle.std.proofs.Common.{◌≡◌, ℕ, Bool, true, false, cond, List, [], ◌∷◌, ◌++◌, map, length, drop, refl, sym, ap, ◌∙◌}
-use Rattle.std.specs.Prelude.{Option, Some, None, is_some, bytes_eq}
+use Rattle.std.specs.Prelude.{Option, Some, None, is_some}
 use mathlib.Core.Bool.{true≢false}
 use Rattle.std.specs.List.{AllByRecursion, list_any}
 use Rattle.std.specs.Option.{option_and_then}
@@ -10,26 +10,28 @@ use Rattle.std.specs.FinMap.{is_sorted, find as find_key}
 use Rattle.std.specs.FinMap.Entries.{below_all}
 use Rattle.std.proofs.lemmas.Bool.{and_parts, or_left, or_right, false_from_ne_true}
 use Rattle.sha2.specs.Sha256.{sha256}
-use Rattle.changeset_model.specs.Path.{Path, path_cmp, path_lt, text_of, is_prefix, is_strict_prefix}
+use Rattle.changeset_model.specs.Path.{Path, path_cmp, path_lt, text_of, is_strict_prefix}
 use Rattle.changeset_model.specs.Changeset.{File, FileChange, Set, Delete, file_of, set_at}
-use Rattle.changeset_model.proofs.Rising.{path_lt_irreflexive, path_lt_asymmetric}
+use Rattle.changeset_model.proofs.Rising.{path_lt_irreflexive}
 use Rattle.history_model.specs.History.{Known}
 use Rattle.history_model.specs.Tree.{is_dir}
 use Rattle.manifest_model.specs.Unode.{UnodeEntry, FileUnode, unode, unode_bytes, unode_id}
 use Rattle.manifest_model.proofs.Derivations.{tied_same}
 use Rattle.manifest_laws.specs.Changes.{tree_at, files_in}
-use Rattle.manifest_laws.proofs.Lists.{or_either, true_and_false}
-use Rattle.manifest_laws.proofs.Names.{same_name}
+use Rattle.manifest_laws.proofs.Lists.{true_and_false}
+use Rattle.manifest_model.proofs.Derivations.{or_case as or_either}
 use Rattle.manifest_laws.proofs.Flat.{tied_self, strict_parts}
 use Rattle.manifest_laws.proofs.Unodes.{since_set}
-use Rattle.entry_laws.specs.Entries.{unode_entry_on, unode_set, file_parents, is_unode_file, edited, renewed}
-use Rattle.entry_laws.proofs.Folded.{under_is_more}
-use Rattle.entry_laws.proofs.UnodeSide.{entry_on, parents_of_entry}
+use Rattle.manifest_laws.specs.EntryEdits.{unode_entry_on, unode_set, file_parents, is_unode_file, edited, renewed}
+use Rattle.manifest_laws.proofs.UnodeSide.{entry_on, parents_of_entry}
 use Rattle.derive_step.specs.declared.made.Made.{Made}
 use Rattle.derive_step.specs.Jobs.{IsRight}
-use Rattle.derive_step.specs.Steps.{sole, name_in, set_unode, set_node, set_nodes, unode_after, unode_made_in}
+use Rattle.derive_step.specs.Walk.{name_in, nodes_at, sole}
+use Rattle.derive_step.specs.Steps.{own_unode, set_unode, set_nodes, unode_after, unode_made_in}
 use Rattle.derive_step.specs.Renewal.{files_set_in}
 use Rattle.derive_step.proofs.Laws.{set_now, alone_before}
+use Rattle.bonsai.proofs.Between.{not_above as not_over}
+use Rattle.tree_fold.proofs.Texts.{front_rest}
 
 abbrev Edits : Type 0
 Edits = List (Path × FileChange)
@@ -48,9 +50,6 @@ later_is_more q p (e ∷ es) below h =
 not_same : (q p : Path) → path_lt q p ≡ true → eq_by_cmp path_cmp p q ≡ false
 not_same q p more = false_from_ne_true (eq_by_cmp path_cmp p q) (λ same. true_and_false (path_lt q p) more (ap (path_lt q) (tied_same p q same) ∙ path_lt_irreflexive q))
 
-not_over : (q p : Path) → path_lt q p ≡ true → is_strict_prefix p q ≡ false
-not_over q p more = false_from_ne_true (is_strict_prefix p q) (λ under. true_and_false (path_lt q p) more (path_lt_asymmetric p q (under_is_more p q under)))
-
 still_found : {V : Type 0} (k : Path) (v : V) (es xs : List (Path × V)) → below_all path_cmp k xs ≡ true → AllByRecursion (λ e. find_key path_cmp e.0 es ≡ Some e.1) xs → AllByRecursion (λ e. find_key path_cmp e.0 ((k, v) ∷ es) ≡ Some e.1) xs
 still_found k v es [] below all = tt
 still_found k v es (x ∷ xs) below all =
@@ -64,13 +63,6 @@ all_found (e ∷ es) rise =
     (ap (λ b. cond b (Some e.1) (find_key path_cmp e.0 es)) (tied_self e.0), still_found e.0 e.1 es es parts.0 (all_found es parts.1))
 
 -- ---- names
-
-front_rest : (d p : Path) → is_prefix d p ≡ true → p ≡ d ++ drop (length d) p
-front_rest [] p h = refl
-front_rest (e ∷ d) [] h = absurd (true≢false (sym h))
-front_rest (e ∷ d) (f ∷ p) h =
-    let parts = and_parts (bytes_eq e f) (is_prefix d p) h in
-    λ i. sym (same_name e f parts.0) i ∷ front_rest d p parts.1 i
 
 sole_is : (p : Path) (n : List ℕ) → sole p ≡ Some n → p ≡ n ∷ []
 sole_is [] n h = absurd (cc)
@@ -133,6 +125,6 @@ module _ (c : Known) (older : List Known) (right : IsRight (c ∷ older)) (d : P
           ∙ set_is n f (ap (λ q. find_key path_cmp q c.changeset.changes) (sym is) ∙ found.0)
           ∙ ap node (sym is)
 
-      by : set_nodes c.id made d es (after_one o (p, Set f)) ≡ map node (files_set_in d es) → (x : Option (List ℕ)) → name_in d p ≡ x → set_node c.id p f o x ++ set_nodes c.id made d es (after_one o (p, Set f)) ≡ map node (cond (is_some x) (p ∷ files_set_in d es) (files_set_in d es))
+      by : set_nodes c.id made d es (after_one o (p, Set f)) ≡ map node (files_set_in d es) → (x : Option (List ℕ)) → name_in d p ≡ x → nodes_at (own_unode c.id) p f o x ++ set_nodes c.id made d es (after_one o (p, Set f)) ≡ map node (cond (is_some x) (p ∷ files_set_in d es) (files_set_in d es))
       by rest None e = rest
       by rest (Some n) e = λ i. here n (named d p n e) i ∷ rest i

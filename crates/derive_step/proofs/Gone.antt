@@ -13,14 +13,15 @@ use Rattle.changeset_model.specs.Changeset.{FileChange}
 use Rattle.history_model.specs.History.{Known}
 use Rattle.manifest_model.specs.Unode.{is_renewed}
 use Rattle.manifest_model.proofs.Derivations.{tied_same}
-use Rattle.manifest_laws.proofs.Lists.{or_either, true_and_false}
-use Rattle.entry_laws.proofs.Seen.{one_more}
-use Rattle.entry_laws.proofs.Folded.{under_is_more}
+use Rattle.manifest_laws.proofs.Lists.{true_and_false}
+use Rattle.manifest_model.proofs.Derivations.{or_case as or_either}
+use Rattle.manifest_laws.proofs.Seen.{one_more}
+use Rattle.manifest_laws.proofs.Folded.{under_is_more}
 use Rattle.fsnode.specs.Parts.{entry_seen as fs_entry_seen}
 use Rattle.unode.specs.Parts.{entry_seen as unode_entry_seen}
 use Rattle.derive_step.specs.declared.made.Made.{Made}
 use Rattle.manifest_laws.specs.Changes.{files_in}
-use Rattle.entry_laws.specs.Entries.{fs_made, unode_made}
+use Rattle.manifest_laws.specs.EntryEdits.{fs_made, unode_made}
 use Rattle.derive_step.specs.Steps.{fs_made_in, unode_made_in}
 use Rattle.derive_step.specs.Touched.{is_above}
 use Rattle.derive_step.specs.Renewal.{IsMadeAt, IsMadeUnder, dir_nodes, IsRenewed, IsGoneThrough, AreRenewed, AreTouched}
@@ -84,6 +85,12 @@ module _ (c : Known) (older : List Known) (dirs : BTreeSet Path) (touched : AreT
       noted = λ p there. gone.noted p there (ap (λ ks. list_any (eq_by_cmp path_cmp p) ks) none);
       nodes = sym (gone.nodes ∙ ap (λ ks. put ++ flat_map (dir_nodes c older) (reverse ks)) none ∙ append-nil put);
     }
+
+-- with the directory d taken out
+pub still_left : (left rest : BTreeSet Path) (d : Path) → SetUpdates path_cmp left rest d false → (p : Path) → contains path_cmp rest p ≡ true → (eq_by_cmp path_cmp d p ≡ false) × (contains path_cmp left p ≡ true)
+still_left left rest d updates p in_rest = by_test (eq_by_cmp path_cmp d p)
+    (λ same. true_and_false (contains path_cmp rest p) in_rest (updates.0 p ∙ ap (λ b. cond b false (contains path_cmp left p)) same))
+    (λ apart. (apart, sym (updates.2 p apart) ∙ in_rest))
 
 pub none_left : (ks : List Path) → (0 < length ks → ⊥) → ks ≡ []
 none_left [] h = refl

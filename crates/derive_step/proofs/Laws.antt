@@ -3,8 +3,7 @@ use Rattle.std.proofs.Common.{◌≡◌, ℕ, ◌<◌, ◌^◌, Bool, true, fals
 use Rattle.std.specs.Prelude.{Option, Some, None, option_map, ◌==◌, nat_lt}
 use mathlib.Core.Bool.{true≢false}
 use Rattle.std.specs.List.{AllByRecursion, list_any, list_all}
-use Rattle.std.specs.Option.{option_to_list, option_copied}
-use Rattle.std.specs.Borrow.{Bor}
+use Rattle.std.specs.Option.{option_to_list}
 use Rattle.std.specs.BTreeMap.{BTreeMap, get}
 use Rattle.std.specs.FinMap.{is_sorted, find as find_key}
 use Rattle.std.proofs.lemmas.Bool.{and_parts, ne_eqb, false_from_ne_true}
@@ -28,101 +27,66 @@ use Rattle.manifest_laws.proofs.Rules.{fsnode_kept}
 use Rattle.manifest_laws.proofs.Steps.{set_there}
 use Rattle.manifest_laws.proofs.Summaries.{summary_of_tree}
 use Rattle.manifest_laws.proofs.Unodes.{chain_more, clear_chain, renewed_is}
-use Rattle.entry_laws.specs.Entries.{fs_made, fs_entry_after, unode_entry_after, unode_entry_on}
-use Rattle.entry_laws.proofs.Reach.{cover_found}
-use Rattle.entry_laws.proofs.FsSide.{fs_after as fs_told}
-use Rattle.entry_laws.proofs.UnodeSide.{unode_after as unode_told}
+use Rattle.manifest_laws.specs.EntryEdits.{fs_made, fs_entry_after, unode_entry_after, unode_entry_on}
+use Rattle.manifest_laws.proofs.Reach.{cover_found}
+use Rattle.manifest_laws.proofs.FsSide.{fs_after as fs_told}
+use Rattle.manifest_laws.proofs.UnodeSide.{unode_after as unode_told}
 use Rattle.fsnode.specs.declared.node.Fsnode.{Fsnode as RustFsnode}
 use Rattle.fsnode.specs.Parts.{summary_seen, children_seen as fs_children_seen}
 use Rattle.fsnode.specs.Views.{fsnode_seen}
 use Rattle.unode.specs.declared.manifest.UnodeManifest.{UnodeManifest}
 use Rattle.unode.specs.Parts.{children_seen as unode_children_seen}
 use Rattle.unode.specs.Views.{manifest_seen}
-use Rattle.derive_step.specs.declared.job.DirNodes.{DirNodes}
-use Rattle.derive_step.specs.declared.job.Parent.{Parent}
 use Rattle.derive_step.specs.declared.made.Made.{Made}
-use Rattle.derive_step.specs.Views.{Before, before_seen, nodes_before}
+use Rattle.derive_step.specs.Views.{Before}
 use Rattle.derive_step.specs.Jobs.{IsRight, nodes_at, nodes_on}
 use Rattle.derive_step.specs.Steps.{fs_made_in, fs_before, fs_after, unode_made_in, unode_before, unode_after}
-use Rattle.derive_step.specs.Manifests.{parent_before}
-use Rattle.derive_step.specs.Renewal.{IsMadeUnder, before_of, IsBefore}
+use Rattle.derive_step.specs.Renewal.{IsMadeUnder, IsBefore, fsnode_part, parent_part, unode_part}
 use Rattle.derive_step.proofs.Entries.{by_name}
 
--- ---- the nodes of a job
-
-pub dirs_before : (p : Parent) (d : Path) → 0 < length d → option_map before_seen (get path_cmp p.dirs d) ≡ nodes_before (Some p) d
-dirs_before p [] some = absurd (omega arith)
-dirs_before p (e ∷ d) some = refl
-
-abbrev fs_of : Option Before → List ℕ → Option FsEntry
-fs_of None n = None
-fs_of (Some b) n = fs_entry_at b.fsnode n
-
-abbrev unode_of : Option Before → List ℕ → Option UnodeEntry
-unode_of None n = None
-unode_of (Some b) n = unode_entry_at b.unode n
-
-abbrev parent_of : Option Before → List (List ℕ)
-parent_of None = []
-parent_of (Some b) = b.unode_id ∷ []
-
-fs_seen : (b : Option (Bor DirNodes)) (n : List ℕ) → fs_before b n ≡ fs_of (before_of b) n
-fs_seen None n = refl
-fs_seen (Some b) n = refl
-
-unode_seen : (b : Option (Bor DirNodes)) (n : List ℕ) → unode_before b n ≡ unode_of (before_of b) n
-unode_seen None n = refl
-unode_seen (Some b) n = refl
-
-parent_seen : (b : Option (Bor DirNodes)) → parent_before b ≡ parent_of (before_of b)
-parent_seen None = refl
-parent_seen (Some b) = refl
+-- ---- the nodes of a parent
 
 no_root : (e : List ℕ) (d : Path) → (length (e ∷ d) == 0) ≡ false
 no_root e d = ne_eqb (length (e ∷ d)) 0 (λ h. absurd (omega arith))
-
-pub seen_copied : (b : Option (Bor DirNodes)) (o : Option DirNodes) → option_copied b ≡ o → before_of b ≡ option_map before_seen o
-seen_copied None o e = ap (option_map before_seen) e
-seen_copied (Some b) o e = ap (option_map before_seen) e
 
 -- a directory that isn't there has no entries
 no_entry : (fs : List (Path × File)) (d : Path) (n : List ℕ) → is_dir fs d ≡ false → fs_entry_at (fsnode fs d) n ≡ None
 no_entry fs [] n h = absurd (true≢false h)
 no_entry fs (e ∷ d) n h = ap (find_key by_name n) ((empty_is fs (e ∷ d) (no_root e d)).1 h)
 
-fs_on : (older : List Known) (d : Path) (n : List ℕ) → fs_of (nodes_on older d) n ≡ fs_entry_at (fsnode (files_in older) d) n
+fs_on : (older : List Known) (d : Path) (n : List ℕ) → fs_before (fsnode_part (nodes_on older d)) n ≡ fs_entry_at (fsnode (files_in older) d) n
 fs_on [] [] n = refl
 fs_on [] (e ∷ d) n = sym (no_entry (files_in []) (e ∷ d) n (λ i. no_root e d i || false))
 fs_on (k ∷ older) d n = by (is_dir (files_in (k ∷ older)) d) refl
   where
-    by : (b : Bool) → is_dir (files_in (k ∷ older)) d ≡ b → fs_of (cond b (Some (nodes_at (k ∷ older) d)) None) n ≡ fs_entry_at (fsnode (files_in (k ∷ older)) d) n
+    by : (b : Bool) → is_dir (files_in (k ∷ older)) d ≡ b → fs_before (fsnode_part (cond b (Some (nodes_at (k ∷ older) d)) None)) n ≡ fs_entry_at (fsnode (files_in (k ∷ older)) d) n
     by true h = refl
     by false h = sym (no_entry (files_in (k ∷ older)) d n h)
 
-unode_on : (older : List Known) (d : Path) (n : List ℕ) → unode_of (nodes_on older d) n ≡ unode_entry_on older d n
+unode_on : (older : List Known) (d : Path) (n : List ℕ) → unode_before (unode_part (nodes_on older d)) n ≡ unode_entry_on older d n
 unode_on [] d n = refl
 unode_on (k ∷ older) d n = by (is_dir (files_in (k ∷ older)) d)
   where
-    by : (b : Bool) → unode_of (cond b (Some (nodes_at (k ∷ older) d)) None) n ≡ cond b (unode_entry_at (unode (k ∷ older) d) n) None
+    by : (b : Bool) → unode_before (unode_part (cond b (Some (nodes_at (k ∷ older) d)) None)) n ≡ cond b (unode_entry_at (unode (k ∷ older) d) n) None
     by true = refl
     by false = refl
 
-parent_on : (older : List Known) (d : Path) → parent_of (nodes_on older d) ≡ parents_on older d
+parent_on : (older : List Known) (d : Path) → parent_part (nodes_on older d) ≡ parents_on older d
 parent_on [] d = refl
 parent_on (k ∷ older) d = by (is_dir (files_in (k ∷ older)) d)
   where
-    by : (b : Bool) → parent_of (cond b (Some (nodes_at (k ∷ older) d)) None) ≡ cond b (unode_id (unode (k ∷ older) d) ∷ []) []
+    by : (b : Bool) → parent_part (cond b (Some (nodes_at (k ∷ older) d)) None) ≡ cond b (unode_id (unode (k ∷ older) d) ∷ []) []
     by true = refl
     by false = refl
 
-pub is_before : (c : Known) (older : List Known) (d : Path) (b : Option (Bor DirNodes)) → before_of b ≡ cond (is_covered c.changeset d) None (nodes_on older d) → IsBefore c older d b
+pub is_before : (c : Known) (older : List Known) (d : Path) (b : Option Before) → b ≡ cond (is_covered c.changeset d) None (nodes_on older d) → IsBefore c older d b
 is_before c older d b e = record {
-  fsnode = λ n. fs_seen b n ∙ ap (λ o. fs_of o n) e ∙ fs_by n (is_covered c.changeset d);
-  unode = λ out n. unode_seen b n ∙ ap (λ o. unode_of o n) e ∙ ap (λ v. unode_of (cond v None (nodes_on older d)) n) out ∙ unode_on older d n;
-  parent = λ out. parent_seen b ∙ ap parent_of e ∙ ap (λ v. parent_of (cond v None (nodes_on older d))) out ∙ parent_on older d;
+  fsnode = λ n. ap (λ o. fs_before (fsnode_part o) n) e ∙ fs_by n (is_covered c.changeset d);
+  unode = λ out n. ap (λ o. unode_before (unode_part o) n) e ∙ ap (λ v. unode_before (unode_part (cond v None (nodes_on older d))) n) out ∙ unode_on older d n;
+  parent = λ out. ap parent_part e ∙ ap (λ v. parent_part (cond v None (nodes_on older d))) out ∙ parent_on older d;
 }
   where
-    fs_by : (n : List ℕ) (v : Bool) → fs_of (cond v None (nodes_on older d)) n ≡ cond v None (fs_entry_at (fsnode (files_in older) d) n)
+    fs_by : (n : List ℕ) (v : Bool) → fs_before (fsnode_part (cond v None (nodes_on older d))) n ≡ cond v None (fs_entry_at (fsnode (files_in older) d) n)
     fs_by n true = refl
     fs_by n false = fs_on older d n
 
@@ -186,7 +150,7 @@ module _ (c : Known) (older : List Known) (right : IsRight (c ∷ older)) where
       fs_told (changesets (reverse older)) c.changeset d n (subst AreClear e clear) rise made (λ u. under u ∙ ap (λ cs. fs_made (files cs) (d ++ n ∷ [])) e)
       ∙ ap (λ cs. fs_entry_at (fsnode (files cs) d) n) (sym e)
 
-  pub fs_entries : (d : Path) (made : BTreeMap Path Made) (b : Option (Bor DirNodes)) → IsBefore c older d b → IsMadeUnder c older made d → (n : List ℕ) → fs_after made d es (fs_before b) n ≡ fs_entry_at (fsnode now d) n
+  pub fs_entries : (d : Path) (made : BTreeMap Path Made) (b : Option Before) → IsBefore c older d b → IsMadeUnder c older made d → (n : List ℕ) → fs_after made d es (fs_before (fsnode_part b)) n ≡ fs_entry_at (fsnode now d) n
   fs_entries d made b before under n =
       ap (fs_entry_after (fs_made_in made (d ++ n ∷ [])) (d ++ n ∷ []) es) (before.fsnode n)
       ∙ fs_along d n (fs_made_in made (d ++ n ∷ [])) (changesets (reverse (c ∷ older))) (chain_more c older) clear_all (λ u. (under n u).0)
@@ -210,7 +174,7 @@ module _ (c : Known) (older : List Known) (right : IsRight (c ∷ older)) where
 
   -- ---- the unode
 
-  pub unode_entries : (d : Path) (made : BTreeMap Path Made) (b : Option (Bor DirNodes)) → IsBefore c older d b → IsMadeUnder c older made d → is_dir now d ≡ true → (n : List ℕ) → unode_after c.id made d es (unode_before b) n ≡ unode_entry_at (unode (c ∷ older) d) n
+  pub unode_entries : (d : Path) (made : BTreeMap Path Made) (b : Option Before) → IsBefore c older d b → IsMadeUnder c older made d → is_dir now d ≡ true → (n : List ℕ) → unode_after c.id made d es (unode_before (unode_part b)) n ≡ unode_entry_at (unode (c ∷ older) d) n
   unode_entries d made b before under dir n =
       let out = uncovered_dir d dir in
       ap (unode_entry_after c.id (unode_made_in made (d ++ n ∷ [])) (d ++ n ∷ []) es) (before.unode out n)

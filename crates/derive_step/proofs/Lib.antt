@@ -13,3 +13,4 @@ pub mod Members
 pub mod AllNodes
 pub mod Few
 pub mod Derived
+pub mod Merged

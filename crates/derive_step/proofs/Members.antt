@@ -8,8 +8,10 @@ use Rattle.std.specs.FinMap.{find as find_key}
 use Rattle.std.proofs.lemmas.Bool.{or_left, or_right}
 use Rattle.changeset_model.specs.Path.{Path, path_cmp}
 use Rattle.manifest_model.proofs.Derivations.{tied_same}
-use Rattle.manifest_laws.proofs.Lists.{or_either, same_some}
+use Rattle.manifest_model.proofs.Derivations.{or_case as or_either}
+use Rattle.byte_fields.proofs.Booleans.{same_some}
 use Rattle.manifest_laws.proofs.Flat.{tied_self}
+use Rattle.byte_fields.proofs.Lists.{all_both as all_append}
 
 abbrev pub Has : {X : Type 0} → List X → X → Type 0
 Has [] x = ⊥
@@ -66,10 +68,6 @@ has_flat f (z ∷ xs) x y (inr h) g = has_right (f z) (flat_map f xs) y (has_fla
 
 -- ---- each element
 
-pub all_append : {X : Type 0} (P : X → Type 0) (xs ys : List X) → AllByRecursion P xs → AllByRecursion P ys → AllByRecursion P (xs ++ ys)
-all_append P [] ys h g = g
-all_append P (x ∷ xs) ys h g = (h.0, all_append P xs ys h.1 g)
-
 pub all_flat : {X Y : Type 0} (P : Y → Type 0) (f : X → List Y) → ((x : X) → AllByRecursion P (f x)) → (xs : List X) → AllByRecursion P (flat_map f xs)
 all_flat P f each [] = tt
 all_flat P f each (x ∷ xs) = all_append P (f x) (flat_map f xs) (each x) (all_flat P f each xs)
@@ -77,10 +75,6 @@ all_flat P f each (x ∷ xs) = all_append P (f x) (flat_map f xs) (each x) (all_
 pub all_map : {X Y : Type 0} (P : Y → Type 0) (f : X → Y) (xs : List X) → AllByRecursion (λ x. P (f x)) xs → AllByRecursion P (map f xs)
 all_map P f [] h = tt
 all_map P f (x ∷ xs) h = (h.0, all_map P f xs h.1)
-
-pub all_as : {X : Type 0} (P Q : X → Type 0) → ((x : X) → P x → Q x) → (xs : List X) → AllByRecursion P xs → AllByRecursion Q xs
-all_as P Q f [] h = tt
-all_as P Q f (x ∷ xs) h = (f x h.0, all_as P Q f xs h.1)
 
 pub all_has : {X : Type 0} (P : X → Type 0) (xs : List X) (x : X) → AllByRecursion P xs → Has xs x → P x
 all_has P [] x all h = absurd h

@@ -6,17 +6,16 @@ use Rattle.std.proofs.lemmas.Bool.{and_parts, lt-ltb, ltb-true, le-leb, leb-true
 use Rattle.std.proofs.lemmas.List.{length-append, append_cancel_right, take-append-drop}
 use Rattle.changeset_model.specs.Path.{Path, text_of, elements, is_element, is_path, path_eq, is_prefix, is_strict_prefix}
 use Rattle.manifest_laws.proofs.Lists.{one_longer}
-use Rattle.repo_path.proofs.Elements.{some_elements, text_of-elements}
+use Rattle.changeset_model.proofs.Accepting.{elements_some as some_elements, text_of-elements}
 use Rattle.tree_fold.proofs.Texts.{elements-joined, elements-unbroken}
+use Rattle.changeset_model.proofs.Spelling.{path_elements as elements_kept}
+use Rattle.tree_fold.proofs.Texts.{text_of-joined}
 
 -- ---- elements
 
 element_of : (d : Path) (n : List ℕ) (q : Path) → list_all is_element (d ++ n ∷ q) ≡ true → is_element n ≡ true
 element_of [] n q h = (and_parts (is_element n) (list_all is_element q) h).0
 element_of (e ∷ d) n q h = element_of d n q (and_parts (is_element e) (list_all is_element (d ++ n ∷ q)) h).1
-
-elements_kept : (p : Path) → is_path p ≡ true → list_all is_element p ≡ true
-elements_kept p h = (and_parts (nat_lt 0 (length p)) (list_all is_element p) (and_parts (nat_lt 0 (length p) && list_all is_element p) (nat_le (length (text_of p)) 4096) h).0).1
 
 front_all : (d q : Path) → list_all is_element (d ++ q) ≡ true → list_all is_element d ≡ true
 front_all [] q h = refl
@@ -53,12 +52,6 @@ rest_gives t n (Some x) r e h = h ∙ ap (λ b. n ∷ elements b.now) (ap (λ o.
 pub inside_of : (o : Option (Bor (List ℕ))) (d p : Path) (a t rest : List ℕ) → elements a ≡ d → elements t ≡ p → t ≡ a ++ rest → MatchOption o ((r : List ℕ) → rest ≢ 0x2F ∷ r) (λ x. rest ≡ 0x2F ∷ x.now) → IfSome o (λ x. p ≡ d ++ elements x.now)
 inside_of None d p a t rest dir path cut h = tt
 inside_of (Some x) d p a t rest dir path cut h = sym path ∙ ap elements (cut ∙ ap (λ r. a ++ r) h) ∙ elements-joined a x.now ∙ ap (λ d. d ++ elements x.now) dir
-
-pub text_of-joined : (p q : Path) → 0 < length p → 0 < length q → text_of (p ++ q) ≡ text_of p ++ 0x2F ∷ text_of q
-text_of-joined [] q some other = absurd (omega arith)
-text_of-joined (e ∷ []) [] some other = absurd (omega arith)
-text_of-joined (e ∷ []) (f ∷ q) some other = refl
-text_of-joined (e ∷ f ∷ p) q some other = ap (λ t. e ++ 0x2F ∷ t) (text_of-joined (f ∷ p) q (omega arith) other) ∙ sym (append_assoc e (0x2F ∷ text_of (f ∷ p)) (0x2F ∷ text_of q))
 
 -- the text t of a path that goes on from a directory by the text r
 pub cut_text : (p d : Path) (t r : List ℕ) → t ≡ text_of p → 0 < length d → p ≡ d ++ elements r → t ≡ (text_of d ++ 0x2F ∷ []) ++ r

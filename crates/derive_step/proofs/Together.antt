@@ -1,7 +1,6 @@
 -- The edits under a directory stand together.
-use Rattle.std.proofs.Common.{◌≡◌, ℕ, zero, suc, ◌<◌, ◌≤◌, Bool, true, false, cond, not, ◌&&◌, List, [], ◌∷◌, length, take, drop, get_or, refl, sym, ap, ◌∙◌, arith}
+use Rattle.std.proofs.Common.{◌≡◌, ℕ, zero, suc, ◌<◌, ◌≤◌, true, false, cond, not, List, [], ◌∷◌, length, take, drop, get_or, refl, sym, ap, ◌∙◌, arith}
 use Rattle.std.specs.Prelude.{nat_lt}
-use mathlib.Core.Bool.{true≢false}
 use Rattle.std.specs.List.Sorted.{IsPartitionedBy}
 use Rattle.std.specs.FinMap.{is_sorted}
 use Rattle.std.specs.FinMap.Entries.{below_all}
@@ -12,22 +11,13 @@ use Rattle.bonsai.proofs.Between.{under_between}
 use Rattle.changeset_model.specs.Path.{Path, path_cmp, path_lt, is_strict_prefix}
 use Rattle.changeset_model.proofs.Rising.{path_lt-trans}
 use Rattle.manifest_laws.proofs.Lists.{true_and_false}
-use Rattle.entry_laws.proofs.Folded.{under_is_more}
+use Rattle.manifest_laws.proofs.Folded.{under_is_more}
 use Rattle.derive_step.specs.Slices.{edits_in}
 use Rattle.derive_step.proofs.Above.{by_test}
+use Rattle.changeset_model.proofs.Spelling.{is_false as not_true}
+use Rattle.tree_fold.proofs.Trees.{both as both_true}
 
 -- ---- truth values
-
-pub not_true : (b : Bool) → not b ≡ true → b ≡ false
-not_true true h = absurd (true≢false (sym h))
-not_true false h = refl
-
-pub not_false : (b : Bool) → not b ≡ false → b ≡ true
-not_false true h = refl
-not_false false h = absurd (true≢false h)
-
-both_true : (a b : Bool) → a ≡ true → b ≡ true → (a && b) ≡ true
-both_true a b h g = λ i. h i && g i
 
 -- ---- by rising paths
 

@@ -2,9 +2,10 @@ pub mod Places
 pub mod Views
 pub mod Jobs
 pub mod Summing
+pub mod Walk
+pub mod Merge
 pub mod Steps
 pub mod Touched
-pub mod Manifests
 pub mod Renewal
 pub mod Slices
 pub mod Covering

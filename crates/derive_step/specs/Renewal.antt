@@ -1,38 +1,40 @@
 -- A directory that a changeset renews, and what is made of it.
 --     IsMadeAt c older made p, IsMadeUnder c older made d      the directory p was made as the definitions have it;  so were those directly in d under which changes lie
---     before_of nodes      the nodes of a directory at the parent, if it was there and no file is set at it or above it
---     IsBefore c older d nodes      they are the definitions' of the parent
---     IsStep c older job d made nodes      what a directory's nodes are made from
+--     before_of nodes      how contracts see the nodes of a directory, if it was there;  fsnode_part b, unode_part b, parent_part b      their parts
+--     IsDue c older commit      the changeset c, whose ancestors are the older ones, is the one that is committed
+--     AreBefore c older dirs      of the directories other than the root that are renewed, the nodes of those that were there
+--     IsBefore c older d b      of a directory at the parent, unless a file is set at it or above it, the definitions' nodes
+--     IsStep c older commit d made b      what a directory's nodes are made from
 --     files_set_in d es      the paths that edits set directly in a directory
 --     dir_nodes c older d      of a directory after a changeset, if it is there: the unodes of the files that are set in it, and its own nodes
 --     roots_at ks d      the ids of its nodes
 --     AreRenewed c older dirs made had put      the nodes of directories are put to the nodes, from the last on, and what is made of each is noted
 --     IsGoneThrough c older dirs left made had put      those that aren't left were gone through
 --     IsRenewed c older d made after had put      its nodes are put to the nodes, and what is made of it is noted
-use Rattle.std.specs.Prelude.{◌≡◌, ℕ, true, false, if◌then◌else◌, List, [], ◌∷◌, ◌++◌, map, flat_map, reverse, is_some, Option, None, option_map}
+use Rattle.std.specs.Prelude.{◌≡◌, ℕ, ◌<◌, length, true, false, if◌then◌else◌, List, [], ◌∷◌, ◌++◌, map, flat_map, reverse, is_some, Option, None, option_map}
 use Rattle.std.specs.Borrow.{Bor}
 use Rattle.std.specs.List.{list_any}
-use Rattle.std.specs.Arc.{arc_value}
+use Rattle.std.specs.Option.{option_to_list}
 use Rattle.std.specs.BTreeMap.{BTreeMap, get}
 use Rattle.std.specs.BTreeSet.{BTreeSet, contains}
 use Rattle.std.specs.Ordering.{eq_by_cmp}
+use Rattle.byte_fields.specs.Bytes.{Id}
 use Rattle.changeset_model.specs.Path.{Path, path_cmp, is_strict_prefix}
-use Rattle.changeset_model.specs.Changeset.{FileChange, Set, Delete, id_of}
+use Rattle.changeset_model.specs.Changeset.{Changeset, FileChange, Set, Delete, id_of}
 use Rattle.history_model.specs.History.{Known}
 use Rattle.history_model.specs.Tree.{is_dir}
-use Rattle.manifest_model.specs.Fsnode.{fsnode, fsnode_bytes, fsnode_id}
-use Rattle.manifest_model.specs.Unode.{unode, unode_bytes, unode_id, is_renewed}
+use Rattle.manifest_model.specs.Fsnode.{Fsnode, fsnode, fsnode_bytes, fsnode_id}
+use Rattle.manifest_model.specs.Unode.{Unode, unode, unode_bytes, unode_id, is_renewed}
 use Rattle.manifest_laws.specs.Changes.{is_covered, files_in}
 use Rattle.manifest_laws.specs.Entries.{fs_entry_at, parents_on}
-use Rattle.entry_laws.specs.Entries.{fs_made, unode_made, unode_entry_on}
+use Rattle.manifest_laws.specs.EntryEdits.{fs_made, unode_made, unode_entry_on}
 use Rattle.node_table.specs.declared.roots.Roots.{Roots}
-use Rattle.derive_step.specs.declared.job.Job.{Job}
 use Rattle.derive_step.specs.declared.job.DirNodes.{DirNodes}
 use Rattle.derive_step.specs.declared.made.Made.{Made}
 use Rattle.derive_step.specs.Views.{Before, before_seen}
-use Rattle.derive_step.specs.Jobs.{IsRight}
-use Rattle.derive_step.specs.Steps.{fs_made_in, unode_made_in, fs_before, unode_before, name_in}
-use Rattle.derive_step.specs.Manifests.{parent_before}
+use Rattle.derive_step.specs.Jobs.{IsRight, nodes_on}
+use Rattle.derive_step.specs.Walk.{name_in}
+use Rattle.derive_step.specs.Steps.{fs_made_in, unode_made_in, fs_before, unode_before}
 use Rattle.derive_step.specs.Touched.{is_above}
 
 -- ---- what there is
@@ -46,17 +48,32 @@ IsMadeUnder c older made d = (n : List ℕ) → list_any (λ e. is_strict_prefix
 abbrev pub before_of : Option (Bor DirNodes) → Option Before
 before_of nodes = option_map (λ n. before_seen n.now) nodes
 
-pub record IsBefore (c : Known) (older : List Known) (d : Path) (nodes : Option (Bor DirNodes)) : Type 0 where
-  pub fsnode : (n : List ℕ) → fs_before nodes n ≡ (if is_covered c.changeset d then None else fs_entry_at (fsnode (files_in older) d) n)
-  pub unode : is_covered c.changeset d ≡ false → (n : List ℕ) → unode_before nodes n ≡ unode_entry_on older d n
-  pub parent : is_covered c.changeset d ≡ false → parent_before nodes ≡ parents_on older d
+abbrev pub fsnode_part : Option Before → Option Fsnode
+fsnode_part b = option_map (λ n. n.fsnode) b
 
-pub record IsStep (c : Known) (older : List Known) (job : Job) (d : Path) (made : BTreeMap Path Made) (nodes : Option (Bor DirNodes)) : Type 0 where
+abbrev pub unode_part : Option Before → Option Unode
+unode_part b = option_map (λ n. n.unode) b
+
+abbrev pub parent_part : Option Before → List Id
+parent_part b = option_to_list (option_map (λ n. n.unode_id) b)
+
+pub record IsDue (c : Known) (older : List Known) (commit : Changeset) : Type 0 where
   pub right : IsRight (c ∷ older)
-  pub changeset : arc_value job.commit ≡ c.changeset
+  pub changeset : commit ≡ c.changeset
   pub id : c.id ≡ id_of c.changeset
+
+abbrev pub AreBefore : Known → List Known → BTreeMap Path DirNodes → Type 0
+AreBefore c older dirs = (d : Path) → 0 < length d → is_renewed c.changeset d ≡ true → option_map before_seen (get path_cmp dirs d) ≡ nodes_on older d
+
+pub record IsBefore (c : Known) (older : List Known) (d : Path) (b : Option Before) : Type 0 where
+  pub fsnode : (n : List ℕ) → fs_before (fsnode_part b) n ≡ (if is_covered c.changeset d then None else fs_entry_at (fsnode (files_in older) d) n)
+  pub unode : is_covered c.changeset d ≡ false → (n : List ℕ) → unode_before (unode_part b) n ≡ unode_entry_on older d n
+  pub parent : is_covered c.changeset d ≡ false → parent_part b ≡ parents_on older d
+
+pub record IsStep (c : Known) (older : List Known) (commit : Changeset) (d : Path) (made : BTreeMap Path Made) (b : Option Before) : Type 0 where
+  pub due : IsDue c older commit
   pub renewed : is_renewed c.changeset d ≡ true
-  pub before : IsBefore c older d nodes
+  pub before : IsBefore c older d b
   pub under : IsMadeUnder c older made d
 
 -- ---- what is made

@@ -1,12 +1,14 @@
 //! Derivation from the touched directories.
-ghost use Rattle.std.specs.Prelude.{◌≡◌, List, IfOk};
+ghost use Rattle.std.specs.Prelude.{◌≡◌, ◌∷◌, [], ℕ, List, option_map, IfOk};
+ghost use Rattle.std.specs.BTreeMap.{get};
+ghost use Rattle.changeset_model.specs.Path.{Path, path_cmp};
 ghost use Rattle.history_model.specs.History.{Known};
 ghost use Rattle.derive_step.specs.Jobs.{IsJobOf, IsDoneOf};
-ghost use Rattle.derive_step.specs.Views.{roots_before};
+ghost use Rattle.derive_step.specs.Views.{before_seen, nodes_before, roots_before};
 
 use crate::done::Done;
-use crate::job::Job;
-use crate::renewal::{renew_dirs, renew_root};
+use crate::job::{DirNodes, Job, Parent};
+use crate::renewal::{Dirs, renew_dirs, renew_root};
 use crate::touched::touched_dirs;
 use node_table::Roots;
 use std::alloc::{AllocError, Global};
@@ -17,25 +19,43 @@ use std::collections::BTreeMap;
 pub fn derive(alloc: Global, job: Job) -> Result<Done, AllocError>
     ensures { (c : Known) (older : List Known) → IsJobOf c older job → IfOk result (λ done. IsDoneOf c older job done) }
 {
-    let dirs = touched_dirs(alloc, job.commit.changeset().edits())?;
+    let Job {
+        number,
+        commit,
+        parent,
+    } = job;
+    let touched = touched_dirs(alloc, commit.changeset().edits())?;
+    let parent_roots = roots_of(&parent);
+    let (root, dirs) = dirs_of(alloc, parent);
     let mut made = BTreeMap::new(alloc);
-    let mut nodes = Vec::with_capacity(alloc, dirs.len())?;
-    renew_dirs(alloc, &job, dirs, &mut made, &mut nodes)?;
-    let roots = renew_root(alloc, &job, &made, &mut nodes)?;
+    let mut nodes = Vec::with_capacity(alloc, touched.len())?;
+    renew_dirs(alloc, &commit, dirs, touched, &mut made, &mut nodes)?;
+    let roots = renew_root(alloc, &commit, root, &made, &mut nodes)?;
     Ok(Done {
-        number: job.number,
-        parent: roots_of(&job),
+        number,
+        parent: parent_roots,
         roots,
         nodes,
     })
 }
 
 // The roots of the parent, if there is one.
-fn roots_of(job: &Job) -> Option<Roots>
-    ensures { result ≡ roots_before job.now.parent }
+fn roots_of(parent: &Option<Parent>) -> Option<Roots>
+    ensures { result ≡ roots_before parent.now }
 {
-    match &job.parent {
+    match parent {
         Some(parent) => Some(parent.roots),
         None => None,
+    }
+}
+
+// The nodes of the parent, if there is one: of the root, and of other directories.
+fn dirs_of(alloc: Global, parent: Option<Parent>) -> (Option<DirNodes>, Dirs)
+    ensures root { option_map before_seen result.0 ≡ nodes_before parent [] }
+    ensures dirs { (n : List ℕ) (d : Path) → option_map before_seen (get path_cmp result.1 (n ∷ d)) ≡ nodes_before parent (n ∷ d) }
+{
+    match parent {
+        Some(parent) => (Some(parent.root), parent.dirs),
+        None => (None, BTreeMap::new(alloc)),
     }
 }

@@ -7,7 +7,9 @@ pub mod derivation;
 pub mod done;
 mod fsnodes;
 pub mod job;
+mod kind;
 mod made;
+mod merge;
 mod nodes;
 mod place;
 mod renewal;
@@ -15,6 +17,7 @@ mod slices;
 mod summing;
 mod touched;
 mod unodes;
+mod walk;
 
 pub use derivation::derive;
 pub use done::Done;

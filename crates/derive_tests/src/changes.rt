@@ -1,6 +1,5 @@
 //! Changesets of a few edits. An edit is told as `a/b=22`, which sets the file `a/b` to `22`, or as `a/b`, which deletes it.
-use bonsai::{Change, Changeset, Commit, Edit, Fields};
-use file_kind::FileKind;
+use bonsai::{Change, Changeset, Commit, Edit, Fields, FileKind};
 use object_id::Id;
 use repo_path::RepoPath;
 use std::alloc::{AllocError, Global};

@@ -9,6 +9,7 @@ use Rattle.std.proofs.lemmas.Bool.{cases_lt, le-leb, lt-ltb, and_from}
 use mathlib.Core.Bool.{true≢false}
 use Rattle.byte_fields.specs.Bytes.{IsBytes}
 use Rattle.disk_model.specs.Images.{Disk, DiskCall, Writes, Syncs, IsCall, holding, write_at, marked, after_write, after_call, disks, is_written, IsImage}
+use Rattle.byte_fields.proofs.Booleans.{neither as either_false}
 
 pub write_at_len : (at : ℕ) (bytes file : List ℕ) → length file ≤ length (write_at at bytes file)
 write_at_len at bytes file =
@@ -74,10 +75,6 @@ untouched at bytes file i in_file out =
         | inr after ↦ write_at_back at bytes file i in_file after
       ]
     ]
-
-either_false : (a b : Bool) → (a || b) ≡ false → (a ≡ false) × (b ≡ false)
-either_false true b h = absurd (true≢false h)
-either_false false b h = (refl, h)
 
 -- a place that isn't written once a range more is isn't in the range, and wasn't written before
 pub not_marked : (d : Disk) (at len i : ℕ) → is_written (marked at len d) i ≡ false → (is_written d i ≡ false) × (covers at len i ≡ false)

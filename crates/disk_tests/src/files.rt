@@ -6,13 +6,14 @@ use blob_disk::Disk;
 use file_disk::{FileDisk, FileOpener};
 use ports::Opener;
 use std::fs;
+use std::io::Eprint;
 use std::process::Abort;
 use std::test::Fail;
 
 const NAME: &str = "disk_tests.bin";
 
 // What is called goes through the bounds.
-fn opened<O: Opener<FileDisk>>(opener: &mut O, create: bool) -> Option<FileDisk> {
+fn opened<R, O: Opener<FileDisk<R>>>(opener: &mut O, create: bool) -> Option<FileDisk<R>> {
     opener.open(NAME, create).ok()
 }
 
@@ -38,7 +39,7 @@ fn read<D: Disk>(disk: &mut D, at: u64) -> Option<[u8; 4]>
 }
 
 // A new file gets five bytes.
-fn write_parts(rt: &impl Abort, mut disk: FileDisk) {
+fn write_parts<R: Eprint + Copy>(rt: &impl Abort, mut disk: FileDisk<R>) {
     assert_eq!(rt; size(&mut disk), Some(0));
     write(rt, &mut disk, 0, b"abc");
     write(rt, &mut disk, 2, b"XYZ");
@@ -47,7 +48,7 @@ fn write_parts(rt: &impl Abort, mut disk: FileDisk) {
 }
 
 // They are there. Past the end there is nothing to read, and that counts.
-fn read_parts(rt: &impl Abort, mut disk: FileDisk) {
+fn read_parts<R: Eprint + Copy>(rt: &impl Abort, mut disk: FileDisk<R>) {
     assert_eq!(rt; size(&mut disk), Some(5));
     assert_eq!(rt; read(&mut disk, 1), Some(*b"bXYZ"));
     assert_eq!(rt; read(&mut disk, 3), None);
@@ -57,9 +58,9 @@ fn read_parts(rt: &impl Abort, mut disk: FileDisk) {
 #[test]
 fn a_file_keeps_what_was_written(rt: HostRuntime) -> Result<(), Fail> {
     let _ = fs::remove_file(&rt, NAME);
-    let mut opener = FileOpener::new(rt.clone()?);
+    let mut opener = FileOpener::new(&rt);
     assert!(rt;
-        opened(&mut opener, false).is_none(),
+        opened::<&HostRuntime, _>(&mut opener, false).is_none(),
         "there is no such file"
     );
     write_parts(&rt, opened(&mut opener, true).ok_or("a new file")?);

@@ -1,4 +1,4 @@
-//! Tests of the outside world over memory, of disks, of the journal and of the turn lock, by subject.
+//! Tests of the outside world over memory, of disks and of the journal, by subject.
 #![tactic(auto)]
 
 #[cfg(test)]
@@ -17,5 +17,3 @@ mod rows;
 mod scans;
 #[cfg(test)]
 mod streams;
-#[cfg(test)]
-mod threads;

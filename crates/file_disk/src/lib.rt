@@ -1,9 +1,11 @@
-//! A disk over a real file. It counts its failures, and tells nothing of what the file holds.
+//! A disk over a real file. It counts its failures, says their causes on standard error, and tells nothing of what the file
+//! holds.
 #![tactic(auto)]
 
 pub mod disk;
 pub mod opener;
 mod tally;
+mod telling;
 
 pub use disk::FileDisk;
 pub use opener::FileOpener;

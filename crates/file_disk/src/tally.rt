@@ -1,8 +1,6 @@
 //! Counts the calls of the outside world that fail.
-ghost use Rattle.std.specs.Prelude.{◌≡◌, Ok, OnOk, OnErr, is_err, IfOk};
+ghost use Rattle.std.specs.Prelude.{◌≡◌, true};
 ghost use Rattle.ports.specs.Faults.{Counts};
-
-use ports::Failed;
 
 /// How many calls failed. It stands at the last value of its type.
 #[derive(Clone, Copy)]
@@ -25,17 +23,10 @@ impl Tally {
         self.faults
     }
 
-    /// Counts a call that failed, and passes on what one gave that was done.
-    pub(crate) fn count<T, E: Drop>(&mut self, answer: Result<T, E>) -> Result<T, Failed>
-        ensures given { IfOk result (λ x. answer ≡ Ok x) }
-        ensures faults { Counts self.old.faults self.new.faults (is_err result) }
+    /// Counts one that failed.
+    pub(crate) fn rise(&mut self)
+        ensures { Counts self.old.faults self.new.faults true }
     {
-        match answer {
-            Ok(given) => Ok(given),
-            Err(_) => {
-                self.faults = self.faults.saturating_add(1);
-                Err(Failed)
-            }
-        }
+        self.faults = self.faults.saturating_add(1);
     }
 }

@@ -1,8 +1,8 @@
 //! What a directory has under a name.
 
 use crate::summary::Summary;
-use file_kind::FileKind;
-use node_fields::Name;
+use bonsai::FileKind;
+use node_fields::Child;
 use object_id::Id;
 
 /// A file or a directory.
@@ -23,8 +23,4 @@ pub enum FsEntry {
 }
 
 /// An entry and its name.
-#[derive(Debug, Drop)]
-pub struct FsChild {
-    pub name: Name,
-    pub entry: FsEntry,
-}
+pub type FsChild = Child<FsEntry>;

@@ -3,12 +3,14 @@
 #![tactic(auto)]
 
 pub mod entry;
+mod lookup;
 pub mod node;
 mod reading;
 pub mod summary;
 mod writing;
 
 pub use entry::{FsChild, FsEntry};
+pub use lookup::entry_in;
 pub use node::Fsnode;
 pub use reading::decode;
 pub use summary::Summary;

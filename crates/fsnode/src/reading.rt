@@ -13,9 +13,9 @@ ghost use Rattle.fsnode.specs.Views.{fsnode_seen};
 use crate::entry::{FsChild, FsEntry};
 use crate::node::Fsnode;
 use crate::summary::Summary;
+use bonsai::kind_at;
 use byte_fields::fields::{exactly_at, id_at, u8_below, u32_at, u64_at};
 use byte_fields::{BadField, FieldFault};
-use file_kind::kind_at;
 use node_fields::field::{bad_node, name_at};
 use node_fields::{Name, NodeFault};
 use object_id::Id;
@@ -98,7 +98,7 @@ fn named_at<'a>(
     }
 }
 
-fn entry_at(bytes: &[u8]) -> Result<(FsEntry, &[u8]), BadField>
+pub(crate) fn entry_at(bytes: &[u8]) -> Result<(FsEntry, &[u8]), BadField>
     ensures { Gives (λ x. (entry_seen x.0, x.1.now)) result (fs_entry bytes.now) }
 {
     let (tag, rest) = u8_below(bytes, 2)?;
@@ -136,7 +136,7 @@ fn directory_at(bytes: &[u8]) -> Result<(FsEntry, &[u8]), BadField>
 }
 
 // The five numbers of a summary as one field.
-fn summary_at(bytes: &[u8]) -> Result<(Summary, &[u8]), BadField>
+pub(crate) fn summary_at(bytes: &[u8]) -> Result<(Summary, &[u8]), BadField>
     ensures { Gives (λ x. (summary_seen x.0, x.1.now)) result (summary_field bytes.now) }
 {
     summary_numbers_at(bytes).map_err(|_| BadField { left: bytes.len() })

@@ -3,16 +3,18 @@
 //! `hg_cli fsck FILE` opens it and counts what it holds, and `hg_cli gen SEED STACKS CLIENTS` lands a generated load in memory.
 #![tactic(auto)]
 
-use command_line::{refuse_words, run};
-use file_commands::Status;
+mod streams;
+
+use command_line::{Status, refuse_words, run};
 use file_disk::FileOpener;
 use net_ports::{ReaderSource, TcpAccept, WriterSink};
 use ports::{NoGate, Pair};
-use program_words::{Command, read_words};
+use program_words::{Command, number_fault, read_words};
 use std::alloc::Global;
 use std::hash::RandomState;
 use std::process::ExitCode;
 use std::{env, io};
+use streams::{HeldStreams, hold_streams};
 
 // The words of the command line, the program's name first.
 fn words(rt: &HostRuntime) -> io::Result<Vec<String>> {
@@ -31,19 +33,12 @@ fn serve_address<'a>(alloc: Global, words: &'a [String]) -> Option<&'a str> {
     }
 }
 
-// Listens there, and says on standard error at which address and port.
-fn listen(rt: &HostRuntime, address: &str) -> io::Result<TcpAccept> {
-    let accept = TcpAccept::bind(rt, address)?;
-    eprintln!(rt; "listening at {}", accept.local_addr()?)?;
-    Ok(accept)
-}
-
 // What connections come from. Words that serve none listen nowhere.
-fn accept_for(rt: &HostRuntime, words: &[String]) -> TcpAccept {
+fn accept_for<'a>(rt: &'a HostRuntime, words: &[String]) -> TcpAccept<&'a HostRuntime> {
     let Some(address) = serve_address(rt.alloc(), words) else {
         return TcpAccept::absent();
     };
-    match listen(rt, address) {
+    match TcpAccept::bind(rt, rt.alloc(), address) {
         Ok(accept) => accept,
         Err(error) => {
             // where that can't be said either, the status alone says it
@@ -64,7 +59,29 @@ fn new_keys(rt: &HostRuntime) -> Option<RandomState> {
     }
 }
 
+// Says on standard error which number of the words is out of its range.
+fn explain(rt: &HostRuntime, words: &[String]) {
+    if let Some(fault) = number_fault(rt.alloc(), words) {
+        let _ = eprintln!(rt; "{fault}");
+    }
+}
+
+// Holds the numbers of closed standard streams. Where that can't be done, that is said on standard error.
+fn held_streams(rt: &HostRuntime) -> Option<HeldStreams> {
+    match hold_streams(rt) {
+        Ok(held) => Some(held),
+        Err(error) => {
+            let _ = eprintln!(rt; "can't hold the numbers of the standard streams: {error}");
+            None
+        }
+    }
+}
+
 fn main(rt: HostRuntime) -> ExitCode {
+    // first of all, so that no file gets the number of a closed stream
+    let Some(_held) = held_streams(&rt) else {
+        return ExitCode::from(Status::StreamFault.code());
+    };
     let mut link = Pair::new(ReaderSource::new(rt.stdin()), WriterSink::new(rt.stdout()));
     let alloc = rt.alloc();
     let status = match words(&rt) {
@@ -73,7 +90,7 @@ fn main(rt: HostRuntime) -> ExitCode {
                 let words = words.as_slice();
                 let accept = accept_for(&rt, words);
                 let mut opener = FileOpener::new(&rt);
-                run(
+                let ran = run(
                     &rt,
                     alloc,
                     keys,
@@ -82,8 +99,11 @@ fn main(rt: HostRuntime) -> ExitCode {
                     &mut opener,
                     accept,
                     &NoGate,
-                )
-                .status
+                );
+                if ran.status == Status::Usage {
+                    explain(&rt, words);
+                }
+                ran.status
             }
             None => Status::StreamFault,
         },

@@ -84,11 +84,11 @@ all_push : (P : Known → Type 0) (xs : List Known) (k : Known) → AllByRecursi
 all_push P [] k all h = (h, tt)
 all_push P (x ∷ xs) k all h = (all.0, all_push P xs k all.1 h)
 
-all_reverse : (P : Known → Type 0) (xs : List Known) → AllByRecursion P xs → AllByRecursion P (reverse xs)
+pub all_reverse : (P : Known → Type 0) (xs : List Known) → AllByRecursion P xs → AllByRecursion P (reverse xs)
 all_reverse P [] all = tt
 all_reverse P (x ∷ xs) all = subst (AllByRecursion P) (sym (reverse-cons x xs)) (all_push P (reverse xs) x (all_reverse P xs all.1) all.0)
 
-from_reverse : (ks : List Known) (k : Known) → Contains (reverse ks) k → Contains ks k
+pub from_reverse : (ks : List Known) (k : Known) → Contains (reverse ks) k → Contains ks k
 from_reverse ks k c = each_of (Contains ks) (reverse ks) k (all_reverse (Contains ks) ks (recursion_from_All (Contains ks) ks (All-contains_itself ks))) c
 
 pub chain_is_right : (ks : List Known) (x : Id) → HasParents (reverse ks) → is_known (reverse ks) x ≡ true → IsChain ks x (chain ks x)

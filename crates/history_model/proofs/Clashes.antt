@@ -1,17 +1,12 @@
 -- What the search for a clash finds is the least one, and where it finds none there is none.
-use Rattle.std.proofs.Common.{ℕ, ◌+◌, ◌<◌, length, ◌≤◌, drop, slice_index_or, ◌≡◌, suc, Bool, true, false, cond, List, [], ◌∷◌, map, refl, sym, ap, subst, ◌∙◌, arith}
+use Rattle.std.proofs.Common.{ℕ, ◌+◌, ◌<◌, length, ◌≤◌, drop, slice_index_or, ◌≡◌, Bool, true, false, cond, List, [], ◌∷◌, map, refl, sym, ap, subst, ◌∙◌}
 use Rattle.std.specs.Prelude.{Option, Some, None, find, Contains, option_map, unwrap_or}
 use mathlib.Core.Bool.{true≢false}
 use Rattle.std.specs.List.{AllByRecursion}
 use Rattle.std.specs.Option.{option_or}
-use Rattle.std.specs.declared.cmp.Ordering.{Ordering}
-use Rattle.std.specs.declared.cmp.Ordering.TheVariants.{Less, Equal, Greater}
-use Rattle.std.specs.Ordering.{is_lt, ordering_reverse}
-use Rattle.std.specs.Cmp.{tied_itself}
 use Rattle.std.proofs.lemmas.List.Folds.{find-append}
 use Rattle.std.proofs.lemmas.List.{drop_more, drop_all}
-use Rattle.std.proofs.lemmas.List.Elements.{All-from_recursion, All-contains}
-use Rattle.changeset_model.specs.Path.{Path, path_cmp, path_lt, comparable, IsRising}
+use Rattle.changeset_model.specs.Path.{Path, path_lt, comparable, IsRising}
 use Rattle.history_model.specs.Pushrebase.{pairs, clash, IsLeastClash}
 use Rattle.changeset_model.proofs.Rising.{path_lt_irreflexive, path_lt_asymmetric}
 use Rattle.byte_fields.proofs.Lists.{weaker, each_of, contains_head, contains_tail}
@@ -26,10 +21,10 @@ record IsFirst (l : Path) (right : List Path) (x : Path) : Type 0 where
   clashes : comparable l x ≡ true
   least : AllByRecursion (NoLess l x) right
 
-same_some : {X : Type 0} (x y : X) → Some x ≡ Some y → x ≡ y
+pub same_some : {X : Type 0} (x y : X) → Some x ≡ Some y → x ≡ y
 same_some x y e = ap (λ o. unwrap_or o x) e
 
-not_both : (b : Bool) → b ≡ true → b ≡ false → ⊥
+pub not_both : (b : Bool) → b ≡ true → b ≡ false → ⊥
 not_both b h g = true≢false (sym h ∙ g)
 
 first_by : (l r : Path) (right : List Path) (x : Path) → AllByRecursion (λ q. path_lt r q ≡ true) right → (find (comparable l) right ≡ Some x → IsFirst l right x) → (b : Bool) → comparable l r ≡ b → cond b (Some r) (find (comparable l) right) ≡ Some x → IsFirst l (r ∷ right) x

@@ -10,7 +10,6 @@ use Rattle.std.specs.declared.cmp.Ordering.{Ordering}
 use Rattle.std.specs.declared.cmp.Ordering.TheVariants.{Less, Equal, Greater}
 use Rattle.std.specs.Ordering.{is_eq}
 use Rattle.std.specs.FinMap.{find as find_key}
-use Rattle.std.proofs.lemmas.List.Elements.{recursion_from_All, All-contains_itself}
 use Rattle.byte_fields.specs.Bytes.{Id}
 use Rattle.changeset_model.specs.Path.{Path, path_cmp, is_prefix, comparable}
 use Rattle.changeset_model.specs.Changeset.{File, FileChange, Set, Delete, Changeset, file_of, set_at, touched_paths}
@@ -21,10 +20,13 @@ use Rattle.byte_fields.proofs.Lists.{weaker, each_of}
 use Rattle.history_model.proofs.Touched.{nothing_decides}
 use Rattle.changeset_model.proofs.Rising.{each_rising, from_rising}
 use Rattle.history_model.proofs.Trees.{tree-append, tree-landed}
+use Rattle.byte_fields.proofs.Lists.{all_both, both_parts}
+use Rattle.changeset_model.proofs.Rising.{itself as members}
+use Rattle.history_model.proofs.Trees.{tree-one as one_tree}
 
 -- ---- what is touched is decided
 
-prefix_self : (p : Path) → is_prefix p p ≡ true
+pub prefix_self : (p : Path) → is_prefix p p ≡ true
 prefix_self [] = refl
 prefix_self (e ∷ p) = (λ i. (lists_equiv nat_eq_equiv).refl e i && prefix_self p i)
 
@@ -32,11 +34,11 @@ self_decides : (c : FileChange) (p : Path) → decides_at c p p ≡ true
 self_decides (Set f) p = (λ i. prefix_self p i || is_prefix p p)
 self_decides Delete p = (lists_equiv (lists_equiv nat_eq_equiv)).refl p
 
-or_true : (a b : Bool) → b ≡ true → (a || b) ≡ true
+pub or_true : (a b : Bool) → b ≡ true → (a || b) ≡ true
 or_true true b h = refl
 or_true false b h = h
 
-or_left : (a b : Bool) → a ≡ true → (a || b) ≡ true
+pub or_left : (a b : Bool) → a ≡ true → (a || b) ≡ true
 or_left true b h = refl
 or_left false b h = absurd (true≢false (sym h))
 
@@ -46,10 +48,6 @@ edits_decide (e ∷ es) = (
   or_left (decides_at e.1 e.0 e.0) (list_any (λ f. decides_at f.1 f.0 e.0) es) (self_decides e.1 e.0),
   weaker _ _ (λ p h. or_true (decides_at e.1 e.0 p) (list_any (λ f. decides_at f.1 f.0 p) es) h) (map (λ e. e.0) es) (edits_decide es),
 )
-
-all_both : {X : Type 0} (P : X → Type 0) (xs ys : List X) → AllByRecursion P xs → AllByRecursion P ys → AllByRecursion P (xs ++ ys)
-all_both P [] ys a b = b
-all_both P (x ∷ xs) ys a b = (a.0, all_both P xs ys a.1 b)
 
 abbrev paths : List Changeset → List Path
 paths cs = flat_map (λ c. map (λ e. e.0) c.changes) cs
@@ -72,9 +70,6 @@ landed_as_drafted root of_head stack head p touched =
     ∙ ap (λ b. cond b (tree stack p) (tree of_head p)) decided
     ∙ sym (tree-append root stack p ∙ ap (λ b. cond b (tree stack p) (tree root p)) decided)
 
-members : (ps : List Path) → AllByRecursion (Contains ps) ps
-members ps = recursion_from_All (Contains ps) ps (All-contains_itself ps)
-
 -- at a path that is comparable to no touched one it has what the old head had
 pub landed_as_head : (of_head stack : List Changeset) (head : Id) (p : Path) → ((q : Path) → Contains (touched_paths stack) q → comparable p q ≡ false) → tree (of_head ++ rewrite stack head) p ≡ tree of_head p
 landed_as_head of_head stack head p apart =
@@ -93,10 +88,6 @@ not_found : (p : Path) (es : List (Path × FileChange)) → AllByRecursion (λ q
 not_found p [] others = refl
 not_found p (e ∷ es) others = not_found_by p e es others.0 (not_found p es others.1) (path_cmp p e.0) refl
 
-both_parts : {X : Type 0} (P : X → Type 0) (xs ys : List X) → AllByRecursion P (xs ++ ys) → AllByRecursion P xs × AllByRecursion P ys
-both_parts P [] ys all = (tt, all)
-both_parts P (x ∷ xs) ys all = let rest = both_parts P xs ys all.1 in ((all.0, rest.0), rest.1)
-
 either_none : (b : Bool) (o : Option File) → o ≡ None → cond b None o ≡ None
 either_none true o h = refl
 either_none false o h = h
@@ -104,9 +95,6 @@ either_none false o h = h
 nothing_by : (c : Changeset) (p : Path) (b : Bool) (o : Option File) → set_at c p ≡ None → o ≡ None → cond b (set_at c p) o ≡ None
 nothing_by c p true o h g = h
 nothing_by c p false o h g = g
-
-one_tree : (c : Changeset) (p : Path) → tree (c ∷ []) p ≡ cond (decides c p) (set_at c p) None
-one_tree c p = elim (decides c p) as (λ b. option_and_then (λ c. set_at c p) (cond b (Some c) None) ≡ cond b (set_at c p) None) [ true ↦ refl | false ↦ refl ]
 
 -- changesets that don't touch a path set nothing there
 nothing_set : (p : Path) (cs : List Changeset) → AllByRecursion (λ q. p ≡ q → ⊥) (paths cs) → tree cs p ≡ None

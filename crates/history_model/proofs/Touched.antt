@@ -1,14 +1,9 @@
 -- A landing without a clash finds the paths that it touches as the root has them.
-use Rattle.std.proofs.Common.{◌≡◌, Bool, true, false, cond, ◌||◌, ◌&&◌, List, [], ◌∷◌, ◌++◌, map, refl, sym, ap, subst, ◌∙◌}
-use Rattle.std.specs.Prelude.{None, Contains, flat_map, bytes_eq, ◌↔◌}
+use Rattle.std.proofs.Common.{◌≡◌, Bool, true, false, cond, ◌||◌, ◌&&◌, List, [], ◌∷◌, ◌++◌, map, refl, ap, ◌∙◌}
+use Rattle.std.specs.Prelude.{None, Contains, flat_map, bytes_eq}
 use mathlib.Core.Bool.{true≢false}
 use Rattle.std.specs.List.{AllByRecursion, list_any}
-use Rattle.std.specs.declared.cmp.Ordering.{Ordering}
-use Rattle.std.specs.declared.cmp.Ordering.TheVariants.{Less, Equal, Greater}
-use Rattle.std.specs.Ordering.{is_lt, ordering_reverse}
-use Rattle.std.specs.FinMap.Entries.{by_order}
-use Rattle.std.proofs.lemmas.List.Elements.{recursion_from_All, All-contains_itself}
-use Rattle.changeset_model.specs.Path.{Path, path_cmp, path_lt, path_eq, is_prefix, comparable, in_place, rising, IsRising}
+use Rattle.changeset_model.specs.Path.{Path, path_eq, is_prefix, comparable}
 use Rattle.changeset_model.specs.Changeset.{FileChange, Set, Delete, Changeset, touched_paths}
 use Rattle.history_model.specs.Tree.{decides_at, decides, tree}
 use Rattle.history_model.specs.Pushrebase.{clash}
@@ -17,12 +12,9 @@ use Rattle.changeset_model.proofs.Rising.{from_rising}
 use Rattle.byte_fields.proofs.Lists.{each_of, both_parts}
 use Rattle.history_model.proofs.Clashes.{all_apart}
 use Rattle.history_model.proofs.Trees.{tree-append}
+use Rattle.byte_fields.proofs.Booleans.{neither as either_false}
 
 -- ---- what isn't comparable isn't decided
-
-either_false : (a b : Bool) → (a || b) ≡ false → (a ≡ false) × (b ≡ false)
-either_false true b h = absurd (true≢false h)
-either_false false b h = (refl, h)
 
 and_false : (b x y : Bool) → (x ≡ false → y ≡ false) → (b && x) ≡ false → (b && y) ≡ false
 and_false true x y f h = f h

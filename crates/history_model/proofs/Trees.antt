@@ -40,7 +40,7 @@ tree-append cs ds p =
     ∙ either (λ c. set_at c p) (last_that (λ c. decides c p) ds) (last_that (λ c. decides c p) cs)
     ∙ ap (λ b. cond b (tree ds p) (tree cs p)) (is_some-last_that (λ c. decides c p) ds)
 
-tree-one : (c : Changeset) (p : Path) → tree (c ∷ []) p ≡ cond (decides c p) (set_at c p) None
+pub tree-one : (c : Changeset) (p : Path) → tree (c ∷ []) p ≡ cond (decides c p) (set_at c p) None
 tree-one c p = elim (decides c p) as (λ b. option_and_then (λ c. set_at c p) (cond b (Some c) None) ≡ cond b (set_at c p) None) [ true ↦ refl | false ↦ refl ]
 
 -- ---- a rewritten stack

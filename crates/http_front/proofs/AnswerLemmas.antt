@@ -10,29 +10,29 @@ use Rattle.repo_calls.specs.declared.log.LogEntry.{LogEntry}
 use Rattle.repo_calls.specs.declared.refusal.Refusal as calls
 use Rattle.repo_calls.specs.declared.refusal.Refusal.TheVariants as refusals
 use Rattle.repo_calls.specs.Calls.{refused, line_seen, lines_seen}
-use Rattle.seat_calls.specs.declared.calls.AskFault.{AskFault}
-use Rattle.seat_calls.specs.declared.calls.Question.{Question}
-use Rattle.seat_calls.specs.declared.calls.Question.TheVariants as questions
-use Rattle.seat_calls.specs.declared.calls.Seen.{Seen}
-use Rattle.seat_calls.specs.declared.calls.Seen.TheVariants as seen
-use Rattle.seat_calls.specs.Asking.{fault_answer, question_seen, IsAnswer}
-use Rattle.seat_calls.specs.Replying as replying
-use Rattle.seat_calls.specs.Replying.{MakesNothing, Shown, IsReplying}
+use Rattle.repo_calls.specs.declared.calls.AskFault.{AskFault}
+use Rattle.repo_calls.specs.declared.calls.Question.{Question}
+use Rattle.repo_calls.specs.declared.calls.Question.TheVariants as questions
+use Rattle.repo_calls.specs.declared.calls.Seen.{Seen}
+use Rattle.repo_calls.specs.declared.calls.Seen.TheVariants as seen
+use Rattle.repo_calls.specs.Asking.{fault_answer, question_seen, IsAnswer}
+use Rattle.repo_calls.specs.Replying as replying
+use Rattle.repo_calls.specs.Replying.{MakesNothing, SeenKind, HeadKind, BytesKind, PageKind, IdsKind, kind_of, IsReplying}
 use Rattle.session_model.specs.declared.status.Status.TheVariants.{Fine}
 use Rattle.session_model.specs.Responses.{Response, text_of}
 use Rattle.session_model.specs.Bodies.{json, octets, log_body, memory}
 use Rattle.http_model.specs.Stream.{Request, is_head_only}
 use Rattle.session_model.specs.Asking as model
-use Rattle.session_model.specs.Asking.{Asked, asked, change_response, read_response}
+use Rattle.session_model.specs.Asking.{asked, change_response, read_response}
 use Rattle.session_model.specs.Session.{Answers, AnswersAsked}
 use Rattle.routes.specs.declared.route_refusal.RouteRefusal.{RouteRefusal}
 use Rattle.routes.specs.declared.route_refusal.RouteRefusal.TheVariants as route_refusals
 use Rattle.routes.specs.Failed.{failed, unless_memory}
 use Rattle.repo_text.specs.Refusing.{response_to}
 use Rattle.repo_text.proofs.Answered.{change_response-refused}
-use Rattle.http_front.specs.Answered.{Replied, AnswersFor}
+use Rattle.http_front.specs.Answered.{Replied}
 use Rattle.http_front.specs.Reading as reading
-use Rattle.http_front.specs.Reading.{seen_response, Suits}
+use Rattle.http_front.specs.Reading.{seen_response, Suits, SuitsKind}
 
 -- a refusal makes nothing
 makes_nothing : (refusal : calls.Refusal) → MakesNothing (refused refusal)
@@ -96,14 +96,11 @@ suits_ids (seen.Bytes bytes) answer is shown = shown (reply.SeenBytes bytes.item
 suits_ids (seen.Log page) answer is shown = shown (reply.SeenLog is.0 page.total) is.1
 suits_ids (seen.Ids ids) answer is shown = tt
 
-suits : (question : Question) (s : Seen) (answer : Answer) → IsAnswer (Ok s) answer → ((x : reply.Seen) → answer ≡ Shows x → Shown (question_seen question) x) → Suits question s
-suits (questions.Head name) s answer is shown = suits_head s answer is shown
-suits (questions.Content id) s answer is shown = suits_bytes s answer is shown
-suits (questions.Changeset id) s answer is shown = suits_bytes s answer is shown
-suits (questions.Log from) s answer is shown = suits_page from s answer is shown
-suits (questions.Fsnode id dir) s answer is shown = suits_bytes s answer is shown
-suits (questions.Unode id path) s answer is shown = suits_bytes s answer is shown
-suits (questions.History id path) s answer is shown = suits_ids s answer is shown
+suits : (kind : SeenKind) (s : Seen) (answer : Answer) → IsAnswer (Ok s) answer → ((x : reply.Seen) → answer ≡ Shows x → replying.IsOfKind kind x) → SuitsKind kind s
+suits HeadKind s answer is shown = suits_head s answer is shown
+suits BytesKind s answer is shown = suits_bytes s answer is shown
+suits (PageKind from) s answer is shown = suits_page from s answer is shown
+suits IdsKind s answer is shown = suits_ids s answer is shown
 
 -- a read that is answered by bytes as they are
 answers_bytes : (question : Question) (s : Seen) (answer : Answer) → ((bytes : List ℕ) → read_response (question_seen question) (Shows (reply.SeenBytes bytes)) ≡ octets bytes)
@@ -151,7 +148,7 @@ module _ (replies : Relation) (lawful : IsReplying replies) (header : Header) (h
   -- what is seen is what was asked for
   pub seen_suits : (question : Question) (s : Seen) (answer : Answer) → IsAnswer (Ok s) answer → replies header h who (Looks (question_seen question)) answer after → Suits question s
   seen_suits question s answer is answered =
-      suits question s answer is (λ x e. lawful.shown header h who (question_seen question) x after (subst (λ a. replies header h who (Looks (question_seen question)) a after) e answered))
+      suits (kind_of (question_seen question)) s answer is (λ x e. lawful.shown header h who (question_seen question) x after (subst (λ a. replies header h who (Looks (question_seen question)) a after) e answered))
 
   -- a read that sees something is answered by that, or by want of memory
   pub seen_answers : (question : Question) (s : Seen) (answer : Answer) (close head_only : Bool) (text : List ℕ)
@@ -173,14 +170,15 @@ module _ (replies : Relation) (header : Header) (h : List Entry) (who : ℕ) whe
   fault_answers question fault answer close head_only text after is answered e =
       record { answer = answer; answered = answered; text = e (question_seen question) ∙ ap (λ a. text_of (read_response (question_seen question) a) close head_only) (sym is) }
 
-  answered_for : (q : Request) (a : Asked) (text : List ℕ) (after : List Entry) → AnswersFor replies header who h a q.close (is_head_only q) text after → AnswersAsked replies header who h a q text after
-  answered_for q (model.Changes ask) text after r = record { answer = r.answer; answered = r.answered; text = r.text }
-  answered_for q (model.Looks question) text after r = record { answer = r.answer; answered = r.answered; text = r.text }
-  answered_for q (model.Fails r) text after never = absurd never
+  -- a request is answered by the change that it asks for
+  pub change_answers : (q : Request) (ask : reply.Ask) (text : List ℕ) (after : List Entry) → asked q ≡ model.Change ask
+      → Replied replies header who h (Asks ask) (change_response ask) q.close (is_head_only q) text after → Answers replies header who h q text after
+  change_answers q ask text after asks r = inl (subst (λ b. AnswersAsked replies header who h b q text after) (sym asks) (record { answer = r.answer; answered = r.answered; text = r.text }))
 
-  -- a request is answered by what it asks for
-  pub asked_answers : (q : Request) (a : Asked) (text : List ℕ) (after : List Entry) → asked q ≡ a → AnswersFor replies header who h a q.close (is_head_only q) text after → Answers replies header who h q text after
-  asked_answers q a text after asks answers = inl (subst (λ b. AnswersAsked replies header who h b q text after) (sym asks) (answered_for q a text after answers))
+  -- or by the read
+  pub read_answers : (q : Request) (question : reply.Question) (text : List ℕ) (after : List Entry) → asked q ≡ model.Read question
+      → Replied replies header who h (Looks question) (read_response question) q.close (is_head_only q) text after → Answers replies header who h q text after
+  read_answers q question text after asks r = inl (subst (λ b. AnswersAsked replies header who h b q text after) (sym asks) (record { answer = r.answer; answered = r.answered; text = r.text }))
 
   fails_by : (q : Request) (r : Response) (text : List ℕ) → asked q ≡ model.Fails r → text ≡ text_of r q.close (is_head_only q) → Answers replies header who h q text h
   fails_by q r text asks e = inl (subst (λ b. AnswersAsked replies header who h b q text h) (sym asks) (record { same = refl; text = e }))

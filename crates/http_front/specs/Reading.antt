@@ -4,11 +4,11 @@
 use Rattle.std.specs.Prelude.{ℕ, ◌-◌, ◌≤◌, length}
 use Rattle.reply_model.specs.Reply as reply
 use Rattle.repo_calls.specs.Calls.{lines_seen}
-use Rattle.seat_calls.specs.Asking.{question_seen}
-use Rattle.seat_calls.specs.declared.calls.Question.{Question}
-use Rattle.seat_calls.specs.declared.calls.Question.TheVariants as questions
-use Rattle.seat_calls.specs.declared.calls.Seen.{Seen}
-use Rattle.seat_calls.specs.declared.calls.Seen.TheVariants as seen
+use Rattle.repo_calls.specs.Asking.{question_seen}
+use Rattle.repo_calls.specs.Replying.{SeenKind, HeadKind, BytesKind, PageKind, IdsKind, kind_of}
+use Rattle.repo_calls.specs.declared.calls.Question.{Question}
+use Rattle.repo_calls.specs.declared.calls.Seen.{Seen}
+use Rattle.repo_calls.specs.declared.calls.Seen.TheVariants as seen
 use Rattle.session_model.specs.declared.status.Status.TheVariants.{Fine}
 use Rattle.session_model.specs.Responses.{Response}
 use Rattle.session_model.specs.Bodies.{json, octets, log_body, history_body}
@@ -38,27 +38,24 @@ AreIds (seen.Bytes bytes) = ⊥
 AreIds (seen.Log page) = ⊥
 AreIds (seen.Ids ids) = Unit {0}
 
+abbrev pub SuitsKind : SeenKind → Seen → Type 0
+SuitsKind HeadKind s = IsHead s
+SuitsKind BytesKind s = AreBytes s
+SuitsKind (PageKind n) s = IsPageFrom n s
+SuitsKind IdsKind s = AreIds s
+
 abbrev pub Suits : Question → Seen → Type 0
-Suits (questions.Head name) s = IsHead s
-Suits (questions.Content id) s = AreBytes s
-Suits (questions.Changeset id) s = AreBytes s
-Suits (questions.Log from) s = IsPageFrom from s
-Suits (questions.Fsnode id dir) s = AreBytes s
-Suits (questions.Unode id path) s = AreBytes s
-Suits (questions.History id path) s = AreIds s
+Suits question s = SuitsKind (kind_of (question_seen question)) s
 
 -- the first entry of a page of the log
-abbrev pub first_number : Question → ℕ
-first_number (questions.Head name) = 0
-first_number (questions.Content id) = 0
-first_number (questions.Changeset id) = 0
-first_number (questions.Log from) = from
-first_number (questions.Fsnode id dir) = 0
-first_number (questions.Unode id path) = 0
-first_number (questions.History id path) = 0
+abbrev pub first_number : SeenKind → ℕ
+first_number HeadKind = 0
+first_number BytesKind = 0
+first_number (PageKind n) = n
+first_number IdsKind = 0
 
 abbrev pub seen_response : Question → Seen → Response
 seen_response question (seen.Head head) = asking.seen (question_seen question) (reply.SeenHead head)
 seen_response question (seen.Bytes bytes) = octets bytes.items
 seen_response question (seen.Ids ids) = json Fine (history_body ids.items)
-seen_response question (seen.Log page) = json Fine (log_body (first_number question) (lines_seen page.entries.items) page.total)
+seen_response question (seen.Log page) = json Fine (log_body (first_number (kind_of (question_seen question))) (lines_seen page.entries.items) page.total)

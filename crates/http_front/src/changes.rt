@@ -2,16 +2,15 @@
 ghost use Rattle.std.specs.Prelude.{◌≡◌};
 ghost use Rattle.reply_model.specs.After.{Asks};
 ghost use Rattle.repo_calls.specs.Calls.{ask_seen, granted_seen};
-ghost use Rattle.seat_calls.specs.Replying.{Fits};
+ghost use Rattle.repo_calls.specs.Replying.{Fits};
 ghost use Rattle.session_model.specs.Asking.{change_response, granted as granted_response};
 ghost use Rattle.session_model.specs.Responses.{text_of};
 ghost use Rattle.http_front.specs.Answered.{Replied};
 
 use crate::refusing::put_refusal;
 use crate::response_buffer::{ResponseBuffer, ResponseForm};
-use repo_calls::{Ask, Granted};
+use repo_calls::{Ask, ChangeFault, Granted, Seat};
 use repo_text::Body;
-use seat_calls::{ChangeFault, Seat};
 use session_model::Status;
 use std::alloc::Global;
 

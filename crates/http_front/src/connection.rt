@@ -6,8 +6,8 @@ ghost use Rattle.http_front.specs.Serving.{Finished};
 use crate::ended::Ended;
 use crate::session::serve_routed;
 use ports::Link;
+use repo_calls::Seat;
 use routes::Routes;
-use seat_calls::Seat;
 use std::alloc::Global;
 use std::marker::{Model, PhantomData};
 

@@ -6,19 +6,19 @@ ghost use Rattle.session_model.specs.Asking.{read_response, seen as response_to}
 ghost use Rattle.reply_model.specs.Reply as reply;
 ghost use Rattle.reply_model.specs.Reply.{HeadOf, SeenHead};
 ghost use Rattle.reply_model.specs.After.{Looks};
-ghost use Rattle.seat_calls.specs.Asking.{fault_answer, question_seen};
+ghost use Rattle.repo_calls.specs.Asking.{fault_answer, question_seen};
 ghost use Rattle.repo_text.specs.Short.{coded_id};
 ghost use Rattle.http_front.specs.Answered.{Replied};
 ghost use Rattle.http_front.specs.Reading.{seen_response, Suits};
 
 use crate::response_buffer::{ResponseBuffer, ResponseForm};
 use object_id::Id;
+use repo_calls::{AskFault, Question, Seat, Seen};
 use repo_path::BookName;
 use repo_text::bodies::MOST_CODE;
 use repo_text::history::history_body;
 use repo_text::log::log_body;
 use repo_text::{Body, Media};
-use seat_calls::{AskFault, Question, Seat, Seen};
 use session_model::Status;
 use std::alloc::{AllocError, Global};
 

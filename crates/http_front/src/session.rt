@@ -16,8 +16,8 @@ use crate::link::{read_more, send};
 use crate::response_buffer::{ResponseBuffer, ResponseForm};
 use http_wire::{Cutter, HeadRefusal, MOST_PIECE, Next, Request};
 use ports::{Failed, Link};
+use repo_calls::Seat;
 use routes::Routes;
-use seat_calls::Seat;
 use session_model::Status;
 use std::alloc::{AllocError, Global};
 

@@ -6,6 +6,7 @@ use Rattle.std.proofs.lemmas.Bool.{cond-true, cond-false}
 use Rattle.std.proofs.lemmas.List.{take_more, take-append-drop, map-append}
 use Rattle.std.proofs.lemmas.List.Elements.{filter-append}
 use Rattle.http_model.specs.Head.{Header, is_named, values_of, are_one_length}
+use Rattle.http_wire.proofs.HeadLemmas.{append_none}
 
 or_true : (b : Bool) → (b || true) ≡ true
 or_true true = refl
@@ -38,10 +39,6 @@ values_more name f xs i d inside named =
 pub values_first : {X : Type 0} (name : List ℕ) (f : X → Header) (xs : List X) (i : ℕ) (d : X) → i < length xs → is_named name (f (get_or xs i d)) ≡ true
     → values_of name (map f (take i xs)) ≡ [] → values_of name (map f (take (i + 1) xs)) ≡ (f (get_or xs i d)).1 ∷ []
 values_first name f xs i d inside named before = values_more name f xs i d inside named ∙ ap (λ vs. vs ++ (f (get_or xs i d)).1 ∷ []) before
-
-append_none : {X : Type 0} (xs : List X) → xs ++ [] ≡ xs
-append_none [] = refl
-append_none (x ∷ xs) = ap (λ ys. x ∷ ys) (append_none xs)
 
 pub values_same : {X : Type 0} (name : List ℕ) (f : X → Header) (xs : List X) (i : ℕ) (d : X) → i < length xs → is_named name (f (get_or xs i d)) ≡ false
     → values_of name (map f (take (i + 1) xs)) ≡ values_of name (map f (take i xs))

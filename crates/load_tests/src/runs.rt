@@ -1,7 +1,6 @@
 //! Loads of the program, by a table: from the words to the status and the line.
 use blob_disk::MemDisk;
-use command_line::{Ran, run};
-use file_commands::Status;
+use command_line::{Ran, Status, run};
 use ports::{Accept, Link, MemAccept, MemLink, MemOpener, NoGate, ZeroBytes};
 use std::alloc::{AllocError, Global};
 use std::hash::RandomState;

@@ -25,7 +25,8 @@ use Rattle.history_model.specs.Tree.{decides, tree, files, files_of}
 use Rattle.history_model.specs.Journal.{payload_len, record_len, size}
 use Rattle.history_model.proofs.Trees.{tree-append}
 use Rattle.manifest_model.specs.Fsnode.{total_size}
-use Rattle.manifest_model.proofs.Derivations.{among, tied_same, rising_has, or_right, or_left}
+use Rattle.manifest_model.proofs.Derivations.{among, tied_same, rising_has}
+use Rattle.history_model.proofs.Landings.{or_true as or_right, or_left}
 use Rattle.manifest_model.proofs.Links.{file_at-files}
 use Rattle.manifest_laws.specs.Bounds.{changesets_of, ChangesetsKeepRules}
 use Rattle.manifest_laws.specs.Rules.{AreFiles}
@@ -35,7 +36,10 @@ use Rattle.manifest_laws.proofs.Totals.{total, total-append, total-map, total-re
 use Rattle.manifest_laws.proofs.Under.{Files}
 use Rattle.manifest_laws.proofs.Flat.{sets_in}
 use Rattle.manifest_laws.proofs.Changes.{same_files, files_rise, filed_rise}
-use Rattle.manifest_laws.proofs.Lists.{none_some, all_filter, all_reverse, fewer_mapped, behind_long}
+use Rattle.manifest_laws.proofs.Lists.{none_some, fewer_mapped, behind_long}
+use Rattle.byte_fields.proofs.Lists.{all_filter, all_reverse}
+use Rattle.history_model.proofs.Trees.{tree-one}
+use Rattle.manifest_model.proofs.Links.{none_either}
 
 -- ---- a changeset's spelling
 
@@ -171,7 +175,7 @@ chain_light h x =
     let d = total-map (λ (k : Known). weight k.changeset) with_id (changesets_of h) in
     omega (arith, a, b, c, d)
 
-all_once : (P : Known → Type 0) (ks : List Known) → AllByRecursion P ks → AllByRecursion P (each_id_once ks)
+pub all_once : (P : Known → Type 0) (ks : List Known) → AllByRecursion P ks → AllByRecursion P (each_id_once ks)
 all_once P [] all = tt
 all_once P (k ∷ ks) all = (all.0, all_filter P (λ later. not (bytes_eq k.id later.id)) (each_id_once ks) (all_once P ks all.1))
 
@@ -187,11 +191,11 @@ pub all_line : (P : Known → Type 0) (ks : List Known) → AllByRecursion P ks 
 all_line P [] all x = tt
 all_line P (k ∷ older) all x = all_line_by P k older x all.0 (all_line P older all.1) (bytes_eq k.id x)
 
-all_with_id : (P : Changeset → Type 0) (cs : List Changeset) → AllByRecursion P cs → AllByRecursion (λ (k : Known). P k.changeset) (map with_id cs)
+pub all_with_id : (P : Changeset → Type 0) (cs : List Changeset) → AllByRecursion P cs → AllByRecursion (λ (k : Known). P k.changeset) (map with_id cs)
 all_with_id P [] all = tt
 all_with_id P (c ∷ cs) all = (all.0, all_with_id P cs all.1)
 
-all_changesets : (P : Changeset → Type 0) (ks : List Known) → AllByRecursion (λ k. P k.changeset) ks → AllByRecursion P (changesets ks)
+pub all_changesets : (P : Changeset → Type 0) (ks : List Known) → AllByRecursion (λ k. P k.changeset) ks → AllByRecursion P (changesets ks)
 all_changesets P [] all = tt
 all_changesets P (k ∷ ks) all = (all.0, all_changesets P ks all.1)
 
@@ -236,10 +240,6 @@ find_first : (p q : Path) (o : Option File) (rest : Files) → find_key path_cmp
 find_first p q None rest = refl
 find_first p q (Some f) rest = refl
 
-none_either : (m : Bool) (o : Option File) → o ≡ None → cond m o None ≡ o
-none_either true o e = refl
-none_either false o e = sym e
-
 found_by : (g : Path → Option File) (p q : Path) (found : Option File) (m : Bool) → found ≡ cond m (g p) None → (b : Bool) → eq_by_cmp path_cmp p q ≡ b → (o : Option File) → g q ≡ o → find_with b o found ≡ cond (b || m) (g p) None
 found_by g p q found m ih true e (Some f) at = sym (ap g (tied_same p q e) ∙ at)
 found_by g p q found m ih true e None at = ih ∙ none_either m (g p) (ap g (tied_same p q e) ∙ at)
@@ -264,9 +264,6 @@ set_among_by p r f Delete es ih false t h = ih h
 set_among : (p : Path) (f : File) (es : List (Path × FileChange)) → option_and_then file_of (find_key path_cmp p es) ≡ Some f → among p (map (λ f. f.0) (sets_in es)) ≡ true
 set_among p f [] h = none_some f h
 set_among p f ((r, change) ∷ es) h = set_among_by p r f change es (set_among p f es) (eq_by_cmp path_cmp p r) refl h
-
-tree-one : (c : Changeset) (p : Path) → tree (c ∷ []) p ≡ cond (decides c p) (set_at c p) None
-tree-one c p = elim (decides c p) as (λ b. option_and_then (λ c. set_at c p) (cond b (Some c) None) ≡ cond b (set_at c p) None) [ true ↦ refl | false ↦ refl ]
 
 decided_some : (b : Bool) (o : Option File) (f : File) → cond b o None ≡ Some f → o ≡ Some f
 decided_some true o f h = h

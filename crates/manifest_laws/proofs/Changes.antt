@@ -16,7 +16,8 @@ use Rattle.manifest_model.proofs.Links.{file_at-files}
 use Rattle.manifest_laws.specs.Changes.{reaches, is_reached}
 use Rattle.manifest_laws.proofs.Under.{Files}
 use Rattle.manifest_laws.proofs.Names.{same_name, name_itself, file_at-below, below_rises}
-use Rattle.manifest_laws.proofs.Lists.{or_either, true_and_false, is_so}
+use Rattle.manifest_laws.proofs.Lists.{true_and_false, is_so}
+use Rattle.manifest_model.proofs.Derivations.{or_case as or_either}
 
 -- ---- paths
 

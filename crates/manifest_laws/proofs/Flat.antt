@@ -21,7 +21,10 @@ use Rattle.manifest_laws.specs.Changes.{AreClear}
 use Rattle.manifest_laws.proofs.Under.{Files}
 use Rattle.manifest_laws.proofs.Names.{same_name, name_itself}
 use Rattle.manifest_laws.proofs.Changes.{prefix_trans, prefixes_compare, equal_prefix, one_more, undecided_kept, same_trees_below}
-use Rattle.manifest_laws.proofs.Lists.{or_either, true_and_false, none_some, same_some, none_found, none_first, no_map}
+use Rattle.manifest_laws.proofs.Lists.{true_and_false, none_some}
+use Rattle.manifest_model.proofs.Derivations.{or_case as or_either}
+use Rattle.byte_fields.proofs.Booleans.{same_some, unmapped as no_map}
+use Rattle.byte_fields.proofs.Lists.{none_found, none_first}
 
 -- ---- what a changeset sets
 
@@ -255,7 +258,7 @@ pub record IsLeft (cs : List Changeset) (c : Changeset) (d : Path) : Type 0 wher
   pub no_file_after : tree (cs ++ c ∷ []) d ≡ None
   pub same : (p : Path) → is_prefix d p ≡ true → tree (cs ++ c ∷ []) p ≡ tree cs p
 
-clear_front : (cs : List Changeset) (c : Changeset) → AreClear (cs ++ c ∷ []) → AreClear cs
+pub clear_front : (cs : List Changeset) (c : Changeset) → AreClear (cs ++ c ∷ []) → AreClear cs
 clear_front [] c h = tt
 clear_front (b ∷ cs) c h = (h.0, clear_front cs c h.1)
 

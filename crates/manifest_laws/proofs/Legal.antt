@@ -22,7 +22,7 @@ use Rattle.manifest_laws.specs.Rules.{AreFiles}
 use Rattle.manifest_laws.proofs.Flat.{file_under, no_file_above}
 use Rattle.manifest_laws.proofs.Rules.{fsnode_kept, directory_kept, file_kept}
 use Rattle.manifest_laws.proofs.Bounds.{FileRules, rules_tree, chain_right, line_ids, line_clear, chain_clear, files_counted}
-use Rattle.manifest_laws.proofs.Lists.{or_comm}
+use Rattle.byte_fields.proofs.Booleans.{or_turned as or_comm}
 
 -- ---- no directory is a file
 

@@ -13,3 +13,8 @@ pub mod Steps
 pub mod Entries
 pub mod Bounds
 pub mod Legal
+pub mod Folded
+pub mod Reach
+pub mod FsSide
+pub mod Seen
+pub mod UnodeSide

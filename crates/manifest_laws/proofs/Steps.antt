@@ -24,9 +24,11 @@ use Rattle.manifest_laws.proofs.Names.{Name, file_at-below, among_names}
 use Rattle.manifest_laws.proofs.Changes.{prefix_trans, prefixes_compare, equal_prefix, one_more, undecided_kept}
 use Rattle.manifest_laws.proofs.Flat.{set_decides, prefix_short, strict_then, strict_parts, unset_under, file_under, dir_from, has_under}
 use Rattle.manifest_laws.proofs.Fsnodes as fsnodes
-use Rattle.manifest_laws.proofs.Unodes.{keyed_same, prefix_self, chain_more, clear_snoc, clear_chain}
+use Rattle.manifest_laws.proofs.Unodes.{keyed_same, chain_more, clear_snoc, clear_chain}
+use Rattle.history_model.proofs.Landings.{prefix_self}
 use Rattle.manifest_laws.proofs.Summaries.{summary_of_tree}
-use Rattle.manifest_laws.proofs.Lists.{or_either, true_and_false, map_map, none_some, and_true}
+use Rattle.manifest_laws.proofs.Lists.{true_and_false, map_map, none_some, and_true}
+use Rattle.manifest_model.proofs.Derivations.{or_case as or_either}
 
 -- ---- which directories are there
 

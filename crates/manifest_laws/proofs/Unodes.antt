@@ -1,10 +1,10 @@
 -- The unode of a directory, by its entries, its linknode and its parent.
-use Rattle.std.proofs.Common.{◌≡◌, ℕ, zero, suc, ◌+◌, ◌-◌, ◌<◌, ◌≤◌, Bool, true, false, cond, ◌||◌, List, [], ◌∷◌, ◌++◌, map, length, drop, reverse, refl, sym, ap, subst, ◌∙◌, arith, add-one, append-nil, ◌&&◌}
+use Rattle.std.proofs.Common.{◌≡◌, ℕ, zero, suc, ◌+◌, ◌-◌, ◌<◌, ◌≤◌, Bool, true, false, cond, ◌||◌, List, [], ◌∷◌, ◌++◌, map, length, drop, reverse, refl, sym, ap, subst, ◌∙◌, arith, add-one, ◌&&◌}
 use Rattle.std.specs.Prelude.{Option, Some, None, find, bytes_eq, is_some, nat_lt, ◌==◌, option_map, unwrap_or}
 use mathlib.Core.Bool.{true≢false}
 use mathlib.Core.List.{reverse-cons}
 use Rattle.std.specs.List.{AllByRecursion, list_any, cons_option}
-use Rattle.std.specs.Option.{option_map_or, option_to_list}
+use Rattle.std.specs.Option.{option_map_or}
 use Rattle.std.specs.FinMap.{find as find_key}
 use Rattle.std.proofs.lemmas.Bool.{or_left, or_right, or_parts, ltb-true, ltb-false, false_from_ne_true, ne_eqb}
 use Rattle.std.proofs.lemmas.List.{map-append, length-drop, length_push}
@@ -22,7 +22,10 @@ use Rattle.manifest_laws.proofs.Under.{Files, IsWithin, within_depth, no_childre
 use Rattle.manifest_laws.proofs.Names.{Name, name_cmp, looked_up, file_by_below, dir_by_below, name_itself, is_among, keyed, file_at-below, among_names}
 use Rattle.manifest_laws.proofs.Changes.{prefix_itself, none_decides, unreached}
 use Rattle.manifest_laws.proofs.Flat.{IsLeft, set_decides, strict_under, is_left, left_below, unset_under, strict_from}
-use Rattle.manifest_laws.proofs.Lists.{or_either, true_and_false, map_map}
+use Rattle.manifest_laws.proofs.Lists.{true_and_false, map_map}
+use Rattle.manifest_model.proofs.Derivations.{or_case as or_either}
+use Rattle.history_model.proofs.Landings.{prefix_self}
+use Rattle.manifest_model.proofs.Links.{parents_are}
 
 -- ---- how many elements more are allowed
 
@@ -91,10 +94,6 @@ clear_chain (c ∷ older) h = subst AreClear (sym (chain_more c older)) (clear_s
 
 file_none : (ks : List Known) (d : Path) → tree_at ks d ≡ None → file_at (files_in ks) d ≡ None
 file_none ks d e = file_at-files (changesets (reverse ks)) d ∙ e
-
-parents_are : (b : Bool) (n : Unode) → option_to_list (option_map unode_id (cond b (Some n) None)) ≡ cond b (unode_id n ∷ []) []
-parents_are true n = refl
-parents_are false n = refl
 
 pub renewed_is : (c : Known) (older : List Known) (d : Path) → tree_at (c ∷ older) d ≡ None → is_renewed c.changeset d ≡ true → unode (c ∷ older) d ≡ Manifest (parents_on older d) c.id (unode_entries (c ∷ older) d)
 renewed_is c older d none renewed =
@@ -270,9 +269,6 @@ since_set (k ∷ newer) c older p f g at later sets =
     ∙ since_set newer c older p f g (was_there (changesets (reverse (newer ++ c ∷ older))) k.changeset p f later.0 (sym (tree_on-cons k (newer ++ c ∷ older) p) ∙ at)) later.1 sets
 
 -- ---- an entry that a changeset doesn't reach
-
-pub prefix_self : (p : Path) → is_prefix p p ≡ true
-prefix_self p = ap (is_prefix p) (sym (append-nil p)) ∙ prefix_itself p []
 
 unset : (c : Changeset) (p : Path) → is_reached c p ≡ false → set_at c p ≡ None
 unset c p h = by (set_at c p) refl

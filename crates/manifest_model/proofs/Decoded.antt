@@ -2,8 +2,6 @@
 use Rattle.std.proofs.Common.{◌≡◌, ℕ, zero, suc, ◌^◌, ◌%◌, ◌<◌, Bool, true, false, cond, ◌&&◌, List, [], ◌∷◌, ◌++◌, length, refl, sym, ap, subst, ◌∙◌, arith}
 use Rattle.std.specs.Prelude.{Option, Some, None, Result, Ok, Err, flat_map, nat_lt, nat_le, ◌==◌, ◌||◌, if◌then◌else◌, ◌↔◌}
 use Rattle.std.specs.List.{list_all, concat}
-use Rattle.std.specs.declared.cmp.Ordering.{Ordering}
-use Rattle.std.specs.declared.cmp.Ordering.TheVariants.{Less, Equal, Greater}
 use Rattle.std.specs.Ordering.{nat_cmp, is_lt}
 use Rattle.std.specs.Cmp.Lexicographic.{slice_cmp, nat_list_cmp_total}
 use Rattle.std.specs.FinMap.{is_sorted}
@@ -21,6 +19,7 @@ use Rattle.manifest_model.specs.Unode.{Unode, Manifest, FileUnode, UnodeEntry, u
 use Rattle.manifest_model.specs.NodeReading.{is_after_name, entry, entries, summary_fields, summary, fs_entry_of, fs_entry, fsnode_fields, fsnode_of, unode_entry_for, one_unode_entry, node_parents, manifest, file_unode, unode_fields, unode_of}
 use Rattle.changeset_model.proofs.Accepting.{IsWide, Took, took_then, took_end, bind_ok, kind_byte-kind_of, value_ok, whole_ok, keeping_ok, wide32, wide64, number_ok, byte_ok, id_ok, exactly_ok, file_ok, with_len_ok}
 use Rattle.manifest_model.proofs.Nodes.{fsnode_is_read, unode_is_read}
+use Rattle.changeset_model.proofs.Rising.{less_of}
 
 wide8 : IsWide w8 256
 wide8 [] len fits = absurd (omega arith)
@@ -34,11 +33,6 @@ wide8 (b ∷ c ∷ bs) len fits = absurd (omega arith)
 
 abbrev name_lt : List ℕ → List ℕ → Bool
 name_lt m n = is_lt (slice_cmp nat_cmp m n)
-
-less_of : (o : Ordering) → is_lt o ≡ true → o ≡ Less
-less_of Less h = refl
-less_of Equal h = absurd (cc)
-less_of Greater h = absurd (cc)
 
 name_lt-trans : (l m n : List ℕ) → name_lt l m ≡ true → name_lt m n ≡ true → name_lt l n ≡ true
 name_lt-trans l m n h g = ap is_lt (nat_list_cmp_total.trans l m n (less_of (slice_cmp nat_cmp l m) h) (less_of (slice_cmp nat_cmp m n) g))

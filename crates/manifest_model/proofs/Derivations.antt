@@ -23,19 +23,12 @@ use Rattle.manifest_model.specs.Unode.{Unode, no_unode, unode_within, unode}
 use Rattle.manifest_model.specs.Manifests.{above, dirs_of, paths_of, Manifests, manifests_by, manifests_on, Job, unode_in, derive}
 use Rattle.changeset_model.proofs.Paths.{path_cmp-IsAntisymmetric}
 use Rattle.changeset_model.proofs.Rising.{from_rising}
+use Rattle.history_model.proofs.Landings.{or_left, or_true as or_right}
 
 -- ---- paths among others
 
 abbrev pub among : Path → List Path → Bool
 among p ps = list_any (eq_by_cmp path_cmp p) ps
-
-pub or_right : (a b : Bool) → b ≡ true → (a || b) ≡ true
-or_right true b h = refl
-or_right false b h = h
-
-pub or_left : (a b : Bool) → a ≡ true → (a || b) ≡ true
-or_left true b h = refl
-or_left false b h = absurd (true≢false (sym h))
 
 pub or_case : {P : Type 0} (a b : Bool) → (a ≡ true → P) → (b ≡ true → P) → (a || b) ≡ true → P
 or_case true b f g h = f refl

@@ -18,7 +18,9 @@ use Rattle.history_model.specs.Chain.{changesets}
 use Rattle.history_model.specs.Tree.{decides, tree, files, file_at, is_file, below, children, depth}
 use Rattle.manifest_model.specs.Unode.{Unode, Manifest, FileUnode, is_renewed, unode_entry, no_unode, parents_by, file_unode, unode_within, was_file, was_dir, unode, unode_id, linknode_of, files_at}
 use Rattle.history_model.proofs.Trees.{tree-append}
-use Rattle.manifest_model.proofs.Derivations.{among, or_right, or_left, tied_same, rising_has}
+use Rattle.manifest_model.proofs.Derivations.{among, tied_same, rising_has}
+use Rattle.history_model.proofs.Landings.{or_true as or_right, or_left}
+use Rattle.history_model.proofs.Trees.{tree-one}
 
 -- ---- the files of a tree
 
@@ -33,7 +35,7 @@ find_first : (p q : Path) (o : Option File) (rest : List (Path × File)) → fin
 find_first p q None rest = refl
 find_first p q (Some f) rest = refl
 
-none_either : (m : Bool) (o : Option File) → o ≡ None → cond m o None ≡ o
+pub none_either : (m : Bool) (o : Option File) → o ≡ None → cond m o None ≡ o
 none_either true o e = refl
 none_either false o e = sym e
 
@@ -49,9 +51,6 @@ found_in g p [] = refl
 found_in g p (q ∷ qs) =
     find_first p q (g q) (filter_map (with_file g) qs)
     ∙ found_by g p q (find_key path_cmp p (filter_map (with_file g) qs)) (among p qs) (found_in g p qs) (eq_by_cmp path_cmp p q) refl (g q) refl
-
-tree-one : (c : Changeset) (p : Path) → tree (c ∷ []) p ≡ cond (decides c p) (set_at c p) None
-tree-one c p = elim (decides c p) as (λ b. option_and_then (λ c. set_at c p) (cond b (Some c) None) ≡ cond b (set_at c p) None) [ true ↦ refl | false ↦ refl ]
 
 set_some : (o : Option FileChange) → is_some (option_and_then file_of o) ≡ true → is_some o ≡ true
 set_some None h = h
@@ -88,7 +87,7 @@ file_at-files cs p = found_in (tree cs) p (touched_paths cs) ∙ nothing_by cs p
 
 -- ---- one changeset more
 
-none_some : (f : File) → ◌≡◌ {A = Option File} None (Some f) → ⊥
+pub none_some : (f : File) → ◌≡◌ {A = Option File} None (Some f) → ⊥
 none_some f e = absurd cc
 
 undecided : (b : Bool) (o : Option File) (f : File) → o ≡ None → cond b o None ≡ Some f → ⊥
@@ -142,7 +141,7 @@ unode_kept c older p f e n =
     ∙ (λ i. cond (is_some (n i)) (FileUnode (parents_by c (files_on (c ∷ older)) (was_file (files_at older) (unode older)) (was_dir (files_at older) (unode older)) (was_file (files_at older) (unode older) p)) f.content f.kind (sha256 (text_of p)) c.id) (unwrap_or (was_file (files_at older) (unode older) p) no_unode))
     ∙ kept_by (was_before older p) (unode older p) (file_before older p f was)
 
-parents_are : (b : Bool) (n : Unode) → option_to_list (option_map unode_id (cond b (Some n) None)) ≡ cond b (unode_id n ∷ []) []
+pub parents_are : (b : Bool) (n : Unode) → option_to_list (option_map unode_id (cond b (Some n) None)) ≡ cond b (unode_id n ∷ []) []
 parents_are true n = refl
 parents_are false n = refl
 

@@ -10,7 +10,7 @@ use Rattle.std.proofs.lemmas.Bool.{and_parts, and_from, leb-true, ltb-true}
 use Rattle.std.proofs.lemmas.List.{append-nil}
 use Rattle.byte_fields.specs.Bytes.{Id, sized, is_bytes, is_line}
 use Rattle.changeset_model.specs.Path.{is_element}
-use Rattle.changeset_model.specs.Changeset.{file_bytes, Kind, Regular, Executable, Symlink, kind_byte}
+use Rattle.changeset_model.specs.Changeset.{file_bytes, kind_byte}
 use Rattle.byte_fields.specs.Reading.{Reader, value, ◌>>=◌, number, with_len, keeping, exactly, as_one, one_field, any, id, whole, times}
 use Rattle.changeset_model.specs.Decoding.{file, kind_of}
 use Rattle.manifest_model.specs.Fsnode.{Summary, FsEntry, FsFile, FsDir, Fsnode, summary_bytes, fs_entry_bytes, fsnode_bytes, are_entries, is_summary, is_fs_entry, is_fsnode}
@@ -20,11 +20,12 @@ use Rattle.manifest_model.specs.Unode.{Unode, Manifest, FileUnode, UnodeEntry, U
 use Rattle.byte_fields.proofs.FieldLemmas.{Reads, reads_then, reads_last, reads_number, reads_with_len, keeps, Spelled, spelled_8, spelled_32, spelled_64}
 use Rattle.std.specs.Cmp.{first_so, second_so}
 use Rattle.changeset_model.proofs.Spelling.{reads_exactly, reads_file, reads_id}
+use Rattle.changeset_model.proofs.Spelling.{below_3 as small_kind}
 
 reads_one_field : {A : Type 0} (r : Reader A) (s : List ℕ) (x : A) → Reads r s x → Reads (one_field r) s x
 reads_one_field r s x a rest = ap (as_one (length (s ++ rest))) (a rest)
 
-spelled_small : (n : ℕ) → n < 256 → Spelled w8 (to_be_bytes w8 n) n
+pub spelled_small : (n : ℕ) → n < 256 → Spelled w8 (to_be_bytes w8 n) n
 spelled_small n h = record { len = refl; back = omega arith }
 
 -- ---- names and entries
@@ -169,11 +170,6 @@ reads_unode_entry (UnodeFile x) h =
 reads_unode_entry (UnodeDir x) h =
     reads_then (number w8 (λ n. nat_lt n 2)) (λ tag. id >>= λ x. value (unode_entry_for tag x)) (1 ∷ []) x 1 (UnodeDir x)
     (reads_number w8 (λ n. nat_lt n 2) (1 ∷ []) 1 (spelled_8 1) refl) (reads_last id (unode_entry_for 1) x x (reads_id x h))
-
-small_kind : (k : Kind) → nat_lt (kind_byte k) 3 ≡ true
-small_kind Regular = refl
-small_kind Executable = refl
-small_kind Symlink = refl
 
 abbrev either_mark : ℕ → Bool
 either_mark n = n == 0x55 || n == 0x56

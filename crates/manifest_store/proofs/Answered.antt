@@ -11,7 +11,7 @@ use Rattle.history_model.specs.Journal.{Header}
 use Rattle.manifest_model.specs.Fsnode.{fsnode, fsnode_id}
 use Rattle.manifest_model.specs.Unode.{unode, unode_id}
 use Rattle.manifest_laws.specs.Changes.{files_in}
-use Rattle.manifest_laws.proofs.Lists.{same_some}
+use Rattle.byte_fields.proofs.Booleans.{same_some}
 use Rattle.reply_model.specs.After.{Answers, Derives, nothing}
 use Rattle.reply_model.specs.After as after
 use Rattle.node_table.specs.declared.roots.Roots.{Roots}

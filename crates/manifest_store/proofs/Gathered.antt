@@ -18,6 +18,7 @@ use Rattle.derive_step.proofs.Paths.{path_front}
 use Rattle.manifest_store.specs.Nodes.{child_under, dir_from}
 use Rattle.manifest_store.specs.Dirs.{found, IsFull, AreDirs, IsMore, AreFull, left}
 use Rattle.manifest_store.specs.Reads.{dir_of}
+use Rattle.manifest_laws.proofs.Reach.{prefix_push as prefix_snoc}
 
 abbrev pub Dirs : Type 0
 Dirs = BTreeMap Path DirNodes
@@ -55,20 +56,6 @@ module _ (m : Nodes) where
       by later (Some c) h = later c p h
 
 -- ---- prefixes
-
--- a prefix of a path with one more element is one of the path, or all of it
-pub prefix_snoc : (d a : Path) (n : List ℕ) → is_prefix d (a ++ n ∷ []) ≡ true → (is_prefix d a ≡ true) ⊎ (d ≡ a ++ n ∷ [])
-prefix_snoc [] a n h = inl refl
-prefix_snoc (e ∷ []) [] n h = inr (λ i. same_name e n (and_parts (bytes_eq e n) true h).0 i ∷ [])
-prefix_snoc (e ∷ f ∷ d) [] n h = absurd (true≢false (sym (and_parts (bytes_eq e n) false h).1))
-prefix_snoc (e ∷ d) (x ∷ a) n h = by (prefix_snoc d a n parts.1)
-  where
-    parts : (bytes_eq e x ≡ true) × (is_prefix d (a ++ n ∷ []) ≡ true)
-    parts = and_parts (bytes_eq e x) (is_prefix d (a ++ n ∷ [])) h
-
-    by : (is_prefix d a ≡ true) ⊎ (d ≡ a ++ n ∷ []) → (is_prefix (e ∷ d) (x ∷ a) ≡ true) ⊎ (e ∷ d ≡ x ∷ a ++ n ∷ [])
-    by (inl g) = inl (λ i. parts.0 i && g i)
-    by (inr g) = inr (λ i. same_name e x parts.0 i ∷ g i)
 
 -- a prefix of a longer path is one of its front, or goes on from it
 prefix_beyond : (d a q : Path) → is_prefix d (a ++ q) ≡ true → (is_prefix d a ≡ true) ⊎ ((r : Path) × (d ≡ a ++ r))

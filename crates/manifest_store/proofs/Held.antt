@@ -3,6 +3,9 @@ use Rattle.std.proofs.Common.{◌≡◌, ℕ, ◌<◌, Bool, true, false, cond, 
 use Rattle.std.specs.Prelude.{Option, Some, None, option_map, ◌==◌}
 use Rattle.std.specs.Option.{option_and_then}
 use Rattle.std.specs.Result.{result_ok}
+use Rattle.std.specs.Ordering.{nat_cmp}
+use Rattle.std.specs.Cmp.Lexicographic.{slice_cmp}
+use Rattle.std.specs.FinMap.{find as find_key}
 use mathlib.Core.Bool.{true≢false}
 use Rattle.std.proofs.lemmas.Bool.{false_from_ne_true, ne_eqb}
 use Rattle.std.proofs.lemmas.List.{append-nil, length-append}
@@ -13,18 +16,23 @@ use Rattle.history_model.specs.History.{Known}
 use Rattle.history_model.specs.Chain.{changesets}
 use Rattle.history_model.specs.Tree.{tree, files, is_dir}
 use Rattle.manifest_model.specs.Fsnode.{fsnode, fsnode_bytes, fsnode_id}
-use Rattle.manifest_model.specs.Unode.{UnodeEntry, UnodeFile, UnodeDir, unode, unode_bytes, unode_id}
+use Rattle.manifest_model.specs.Unode.{Unode, Manifest, FileUnode, UnodeEntry, UnodeFile, UnodeDir, unode, unode_bytes, unode_id}
 use Rattle.manifest_model.specs.NodeReading.{fsnode_of, unode_of}
 use Rattle.manifest_model.proofs.Links.{file_at-files}
 use Rattle.manifest_model.proofs.Nodes.{fsnode_is_read, unode_is_read}
 use Rattle.manifest_laws.specs.Changes.{tree_at, files_in}
-use Rattle.manifest_laws.specs.Entries.{fs_entry_at, unode_entry_at}
+use Rattle.manifest_laws.specs.Entries.{entries_of, fs_entry_at, unode_entry_at}
 use Rattle.manifest_laws.proofs.Changes.{prefix_itself}
 use Rattle.manifest_laws.proofs.Flat.{strict_from, strict_under, file_under, dir_from}
 use Rattle.manifest_laws.proofs.Fsnodes as fsnodes
 use Rattle.manifest_laws.proofs.Unodes as unodes
-use Rattle.manifest_laws.proofs.Lists.{none_some, same_some}
+use Rattle.manifest_laws.proofs.Lists.{none_some}
+use Rattle.byte_fields.proofs.Booleans.{same_some}
 use Rattle.manifest_laws.proofs.Rules.{fsnode_kept, directory_kept, manifest_is}
+use Rattle.fsnode.specs.Lookup.{entry_named as fs_named}
+use Rattle.fsnode.proofs.Named.{found_in as fs_found}
+use Rattle.unode.specs.Lookup.{entries_in, entry_named as unode_named}
+use Rattle.unode.proofs.Named.{found_in as unode_found}
 use Rattle.node_table.specs.Table.{Nodes}
 use Rattle.node_table.specs.declared.roots.Roots.{Roots}
 use Rattle.derive_step.specs.Views.{Before}
@@ -96,6 +104,10 @@ module _ (cs : List Changeset) (look : Id → List ℕ → Option UnodeEntry) (n
 
 -- ---- the two manifests
 
+listed : (u : Unode) → entries_in u ≡ entries_of u
+listed (Manifest parents linknode entries) = refl
+listed (FileUnode parents content kind path_hash linknode) = refl
+
 abbrev pub fs_node : List Known → Path → Id
 fs_node line d = fsnode_id (fsnode (files_in line) d)
 
@@ -142,7 +154,9 @@ module _ (m : Nodes) (c : Known) (older : List Known) (right : IsRight (c ∷ ol
 
   fs_steps : Steps (chained all) (fs_entry_under m) (fs_node all) fs_leaf
   fs_steps d n dir =
-      ap (option_and_then (λ node. option_map entry_of (fs_entry_at node n))) (fsnode_there d dir) ∙ by (is_dir now (d ++ n ∷ [])) refl (tree_at all (d ++ n ∷ [])) refl
+      ap (option_and_then (λ bytes. option_map entry_of (fs_named bytes n))) (held (fsnode_bytes (fsnode now d)) (has_contains (all_nodes_on all) (fsnode_bytes (fsnode now d)) (has_fsnode c older d dir)))
+      ∙ ap (option_map entry_of) (fs_found (fsnode_bytes (fsnode now d)) n (fsnode now d) (fsnode_is_read (fsnode now d) (fsnode_kept now d right.counted)))
+      ∙ by (is_dir now (d ++ n ∷ [])) refl (tree_at all (d ++ n ∷ [])) refl
     where
       by : (b : Bool) → is_dir now (d ++ n ∷ []) ≡ b → (o : Option File) → tree_at all (d ++ n ∷ []) ≡ o → option_map entry_of (fs_entry_at (fsnode now d) n) ≡ entry_if (chained all) (fs_entry_under m) (fs_node all) fs_leaf b o (d ++ n ∷ [])
       by true here (Some f) e = no_both (d ++ n ∷ []) f e here
@@ -152,7 +166,10 @@ module _ (m : Nodes) (c : Known) (older : List Known) (right : IsRight (c ∷ ol
 
   un_steps : Steps (chained all) (unode_entry_under m) (un_node all) (un_leaf all)
   un_steps d n dir =
-      ap (option_and_then (λ node. unode_entry_at node n)) (unode_there d dir) ∙ by (is_dir now (d ++ n ∷ [])) refl (tree_at all (d ++ n ∷ [])) refl
+      ap (option_and_then (λ bytes. unode_named bytes n)) (held (unode_bytes (unode all d)) (has_contains (all_nodes_on all) (unode_bytes (unode all d)) (has_dir c older d dir)))
+      ∙ unode_found (unode_bytes (unode all d)) n (unode all d) (unode_is_read (unode all d) (directory_kept c older d right.clear right.ids right.counted dir (alone c older right d dir)))
+      ∙ ap (find_key (slice_cmp nat_cmp) n) (listed (unode all d))
+      ∙ by (is_dir now (d ++ n ∷ [])) refl (tree_at all (d ++ n ∷ [])) refl
     where
       by : (b : Bool) → is_dir now (d ++ n ∷ []) ≡ b → (o : Option File) → tree_at all (d ++ n ∷ []) ≡ o → unode_entry_at (unode all d) n ≡ entry_if (chained all) (unode_entry_under m) (un_node all) (un_leaf all) b o (d ++ n ∷ [])
       by true here (Some f) e = no_both (d ++ n ∷ []) f e here

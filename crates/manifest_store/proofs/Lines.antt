@@ -13,12 +13,13 @@ use Rattle.history_model.specs.History.{Entry, Change, Known, with_id, each_id_o
 use Rattle.history_model.specs.Chain.{first_parent, HasParents, changesets, line_among, line}
 use Rattle.history_model.proofs.Chains.{first_of_all}
 use Rattle.reply_model.proofs.Lines.{AreOnce, known_once, line_grows}
-use Rattle.manifest_laws.proofs.Lists.{or_either}
+use Rattle.manifest_model.proofs.Derivations.{or_case as or_either}
 use Rattle.changeset_store.specs.Store.{number_in, parent_at, known_at, changeset_at}
 use Rattle.changeset_store.specs.Fork.{IsAncestor}
 use Rattle.changeset_store.specs.Numbers.{AreApart, parents_among}
 use Rattle.changeset_store.proofs.Places.{known_at-changeset, known_at-append, changeset_at-append, id_at, number_in-push}
-use Rattle.changeset_store.proofs.Numbering.{known_reverse, at_older, at_newest}
+use Rattle.changeset_store.proofs.Numbering.{at_older, at_newest}
+use Rattle.reply_model.proofs.Parents.{known_reverse}
 use Rattle.changeset_store.proofs.Ancestors.{AreKnown}
 use Rattle.changeset_store.proofs.Forks.{is_its_number, has_its_id}
 use Rattle.changeset_store.proofs.Parents.{parents_at, number_is_some, number_below}
@@ -36,7 +37,7 @@ told (k ∷ ks) = ap (λ cs. k.changeset ∷ cs) (told ks)
 known_story : (ks : List Known) → map with_id (changesets ks) ≡ ks → each_id_once ks ≡ ks → known (story ks) ≡ ks
 known_story ks ids once = ap each_id_once (ap (map with_id) (told ks) ∙ ids) ∙ once
 
-apart_of : (ks : List Known) → AreOnce ks → AreApart ks
+pub apart_of : (ks : List Known) → AreOnce ks → AreApart ks
 apart_of [] u = tt
 apart_of (k ∷ ks) u = (false_from_ne_true (is_known ks k.id) u.0, apart_of ks u.1)
 

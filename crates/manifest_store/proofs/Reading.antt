@@ -18,7 +18,7 @@ use Rattle.manifest_model.specs.FileHistory.{file_history}
 use Rattle.manifest_model.proofs.Links.{file_at-files, unode_made, was_there, tree_on-cons}
 use Rattle.manifest_model.proofs.Nodes.{unode_is_read}
 use Rattle.manifest_laws.specs.Changes.{tree_at, files_in}
-use Rattle.manifest_laws.proofs.Lists.{same_some}
+use Rattle.byte_fields.proofs.Booleans.{same_some}
 use Rattle.manifest_laws.proofs.Rules.{file_kept, found_has}
 use Rattle.unode.specs.Views.{file_in, file_of}
 use Rattle.unode.specs.History.{IsLine, HasLine, file_unodes}

@@ -10,14 +10,13 @@ use Rattle.std.proofs.lemmas.Bool.{and_parts, or_left, or_right, eqb-true, eq-eq
 use Rattle.std.proofs.lemmas.List.Folds.{list_any-append}
 use Rattle.std.proofs.lemmas.List.{length-append}
 use Rattle.std.proofs.lemmas.Option.{same_Some}
-use Rattle.std.specs.Cmp.{nat_cmp_total, unsigned_tied}
-use Rattle.std.proofs.lemmas.Cmp.{eq_by_cmp_equiv}
+use Rattle.std.specs.Cmp.{nat_cmp_total}
 use Rattle.std.specs.Cmp.Lexicographic.{slice_cmp}
 use Rattle.sha2.specs.Sha256.{sha256}
 use Rattle.byte_fields.specs.Bytes.{Id}
 use Rattle.history_model.specs.History.{Known}
 use Rattle.manifest_model.specs.Manifests.{manifests_on, nodes_in}
-use Rattle.manifest_laws.proofs.Lists.{or_either}
+use Rattle.manifest_model.proofs.Derivations.{or_case as or_either}
 use Rattle.reply_model.specs.After.{IsNode}
 use Rattle.node_table.specs.declared.fault.TableFault.{TableFault}
 use Rattle.node_table.specs.declared.fault.TableFault.TheVariants as faults
@@ -32,9 +31,7 @@ use Rattle.manifest_store.specs.Manifests.{AreRight, AreManifests, HoldsAll, IsS
 use Rattle.manifest_store.specs.Jobs.{IsDoneOn, is_ready}
 use Rattle.manifest_store.specs.Settling.{IsCollision, IsNodeBeside, IsCollisionBeside}
 use Rattle.manifest_store.proofs.Lines.{known_here, line_step, line_stays, parent_stays}
-
-number_tied : (k number : ℕ) → eq_by_cmp nat_cmp k number ≡ (number == k)
-number_tied k number = (eq_by_cmp_equiv nat_cmp_total).symm k number ∙ unsigned_tied number k
+use Rattle.node_table.proofs.Tables.{number_tied}
 
 nat_tie : (m n : ℕ) → eq_by_cmp nat_cmp m n ≡ true → m ≡ n
 nat_tie m n e = sym (eqb-true n m (sym (number_tied m n) ∙ e))

@@ -14,7 +14,8 @@ use Rattle.bonsai.specs.declared.edit.Edit.{Edit}
 use Rattle.bonsai.specs.View.{edits_view}
 use Rattle.history_model.specs.History.{Known}
 use Rattle.manifest_model.specs.Unode.{is_renewed}
-use Rattle.manifest_laws.proofs.Lists.{or_either, same_some}
+use Rattle.manifest_model.proofs.Derivations.{or_case as or_either}
+use Rattle.byte_fields.proofs.Booleans.{same_some}
 use Rattle.node_table.specs.Table.{Nodes, Table, is_settled}
 use Rattle.node_table.specs.declared.roots.Roots.{Roots}
 use Rattle.changeset_store.specs.Store.{known_at, changeset_at, parent_at}
@@ -32,7 +33,8 @@ use Rattle.manifest_store.specs.Parents.{root_in, IsParentIn, IsParentOf}
 use Rattle.manifest_store.specs.Jobs.{IsJobOn, is_ready}
 use Rattle.manifest_store.proofs.Lines.{line_step, own_id}
 use Rattle.manifest_store.proofs.Held.{root_there, dirs_are, both}
-use Rattle.manifest_store.proofs.Gathered.{Dirs, prefix_snoc}
+use Rattle.manifest_store.proofs.Gathered.{Dirs}
+use Rattle.manifest_laws.proofs.Reach.{prefix_push as prefix_snoc}
 
 -- ---- edit by edit
 

@@ -1,7 +1,7 @@
 -- What stands in a table under the ids of nodes, whatever the table has. What can't be read as a node of its kind isn't there.
 --     fsnode_under m x, manifest_under m x, file_under m x      the fsnode, the unode of a directory, and that of a file, under an id
 --     entry_of e, entry_id e      an entry of an fsnode as a file's or a directory's;  the id in such an entry
---     fs_entry_under m x n, unode_entry_under m x n      the entry of a name in the fsnode and in the unode of a directory
+--     fs_entry_under m x n, unode_entry_under m x n      the entry of a name, found in the bytes of the fsnode and of the unode of a directory
 --     walk look e p      the entry of a path from an entry on, where look gives those of names in directories by their ids
 --     dir_under m r      both nodes of a directory by their ids
 --     child_under m b n, dir_from m b d      those of a directory in it, and of one at any depth
@@ -15,6 +15,8 @@ use Rattle.manifest_model.specs.Fsnode.{FsEntry, FsFile, FsDir, Fsnode}
 use Rattle.manifest_model.specs.Unode.{Unode, Manifest, FileUnode, UnodeEntry, UnodeFile, UnodeDir}
 use Rattle.manifest_model.specs.NodeReading.{fsnode_of, unode_of}
 use Rattle.manifest_laws.specs.Entries.{fs_entry_at, unode_entry_at}
+use Rattle.fsnode.specs.Lookup.{entry_named as fs_named}
+use Rattle.unode.specs.Lookup.{entry_named as unode_named}
 use Rattle.unode.specs.Views.{file_in}
 use Rattle.node_table.specs.Table.{Nodes}
 use Rattle.node_table.specs.declared.roots.Roots.{Roots}
@@ -44,10 +46,10 @@ entry_id (UnodeFile x) = x
 entry_id (UnodeDir x) = x
 
 abbrev pub fs_entry_under : Nodes → Id → List ℕ → Option UnodeEntry
-fs_entry_under m x n = option_and_then (λ node. option_map entry_of (fs_entry_at node n)) (fsnode_under m x)
+fs_entry_under m x n = option_and_then (λ bytes. option_map entry_of (fs_named bytes n)) (map.get m x)
 
 abbrev pub unode_entry_under : Nodes → Id → List ℕ → Option UnodeEntry
-unode_entry_under m x n = option_and_then (λ node. unode_entry_at node n) (manifest_under m x)
+unode_entry_under m x n = option_and_then (λ bytes. unode_named bytes n) (map.get m x)
 
 abbrev pub walk : (Id → List ℕ → Option UnodeEntry) → UnodeEntry → Path → Option UnodeEntry
 walk look e [] = Some e

@@ -39,7 +39,7 @@ impl ManifestStore {
             unreachable!()
         };
         let unodes = Unodes { table: &self.table };
-        let Some(entry) = walk(alloc, &unodes, roots.unode, Some(path))? else {
+        let Some(entry) = walk(&unodes, roots.unode, Some(path)) else {
             return Err(ManifestFault::NoPath);
         };
         match entry {

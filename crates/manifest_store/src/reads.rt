@@ -33,7 +33,7 @@ impl ManifestStore {
             unreachable!()
         };
         let fsnodes = Fsnodes { table: &self.table };
-        let Some(entry) = walk(alloc, &fsnodes, roots.fsnode, dir)? else {
+        let Some(entry) = walk(&fsnodes, roots.fsnode, dir) else {
             return Err(ManifestFault::NoPath);
         };
         match entry {
@@ -58,7 +58,7 @@ impl ManifestStore {
             unreachable!()
         };
         let unodes = Unodes { table: &self.table };
-        let Some(entry) = walk(alloc, &unodes, roots.unode, path)? else {
+        let Some(entry) = walk(&unodes, roots.unode, path) else {
             return Err(ManifestFault::NoPath);
         };
         Ok(self.bytes_of(alloc, &id_of(entry))?)

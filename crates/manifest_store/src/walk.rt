@@ -1,5 +1,5 @@
 //! From the root of a manifest down a path, by the nodes on the path alone.
-ghost use Rattle.std.specs.Prelude.{◌≡◌, ℕ, List, Option, IfOk, option_map};
+ghost use Rattle.std.specs.Prelude.{◌≡◌, ℕ, List, Option, option_map};
 ghost use Rattle.byte_fields.specs.Bytes.{Id as IdBytes};
 ghost use Rattle.manifest_model.specs.Unode.{UnodeEntry as ModelEntry, UnodeDir};
 ghost use Rattle.fsnode.specs.Parts.{entry_seen as fs_entry_seen};
@@ -8,13 +8,11 @@ ghost use Rattle.manifest_store.specs.Nodes.{entry_of as entry_of_fs, fs_entry_u
 ghost use Rattle.manifest_store.specs.Dirs.{left};
 ghost use Rattle.manifest_store.specs.Reads.{dir_of};
 
-use crate::nodes::{fs_entry, fsnode_under, manifest_under, unode_entry};
 use crate::place::parted;
 use fsnode::FsEntry;
 use node_table::NodeTable;
 use object_id::Id;
 use repo_path::RepoPath;
-use std::alloc::{AllocError, Global};
 use unode::UnodeEntry;
 
 /// Manifests whose directories tell what they have under a name: a file or a directory, by the id of its node or, for a
@@ -22,8 +20,8 @@ use unode::UnodeEntry;
 pub(crate) trait Tree {
     ghost look: { Self → IdBytes → List ℕ → Option ModelEntry };
 
-    fn entry(&self, alloc: Global, dir: &Id, name: &str) -> Result<Option<UnodeEntry>, AllocError>
-        ensures { IfOk result (λ entry. option_map entry_seen entry ≡ look self.now dir.now name.now) };
+    fn entry(&self, dir: &Id, name: &str) -> Option<UnodeEntry>
+        ensures { option_map entry_seen result ≡ look self.now dir.now name.now };
 }
 
 /// The fsnodes of a table.
@@ -41,13 +39,10 @@ pub(crate) struct Unodes<'a> {
 impl<'a> Tree for Fsnodes<'a> {
     ghost look = { λ t x n. fs_entry_under t.table.now.nodes x n };
 
-    fn entry(&self, alloc: Global, dir: &Id, name: &str) -> Result<Option<UnodeEntry>, AllocError> {
-        let Some(node) = fsnode_under(alloc, self.table, dir)? else {
-            return Ok(None);
-        };
-        match fs_entry(&node, name) {
-            Some(entry) => Ok(Some(entry_of(entry))),
-            None => Ok(None),
+    fn entry(&self, dir: &Id, name: &str) -> Option<UnodeEntry> {
+        match self.table.get(dir) {
+            Some(bytes) => entry_of_fsnode(fsnode::entry_in(bytes, name)),
+            None => None,
         }
     }
 }
@@ -55,11 +50,20 @@ impl<'a> Tree for Fsnodes<'a> {
 impl<'a> Tree for Unodes<'a> {
     ghost look = { λ t x n. unode_entry_under t.table.now.nodes x n };
 
-    fn entry(&self, alloc: Global, dir: &Id, name: &str) -> Result<Option<UnodeEntry>, AllocError> {
-        let Some(node) = manifest_under(alloc, self.table, dir)? else {
-            return Ok(None);
-        };
-        Ok(unode_entry(&node, name))
+    fn entry(&self, dir: &Id, name: &str) -> Option<UnodeEntry> {
+        match self.table.get(dir) {
+            Some(bytes) => unode::entry_in(bytes, name),
+            None => None,
+        }
+    }
+}
+
+fn entry_of_fsnode(entry: Option<FsEntry>) -> Option<UnodeEntry>
+    ensures { option_map entry_seen result ≡ option_map entry_of_fs (option_map fs_entry_seen entry) }
+{
+    match entry {
+        Some(entry) => Some(entry_of(entry)),
+        None => None,
     }
 }
 
@@ -73,28 +77,23 @@ fn entry_of(entry: FsEntry) -> UnodeEntry
 }
 
 /// The entry of a path, from the root on.
-pub(crate) fn walk<T: Tree>(
-    alloc: Global,
-    tree: &T,
-    root: Id,
-    path: Option<&RepoPath>,
-) -> Result<Option<UnodeEntry>, AllocError>
-    ensures { IfOk result (λ entry. option_map entry_seen entry ≡ walked (T.look tree.now) (UnodeDir root) (dir_of path.entry)) }
+pub(crate) fn walk<T: Tree>(tree: &T, root: Id, path: Option<&RepoPath>) -> Option<UnodeEntry>
+    ensures { option_map entry_seen result ≡ walked (T.look tree.now) (UnodeDir root) (dir_of path.entry) }
 {
     let mut at = UnodeEntry::Directory(root);
     let mut rest = text_of(path);
     while let Some(text) = rest {
         let UnodeEntry::Directory(dir) = at else {
-            return Ok(None);
+            return None;
         };
         let (name, after) = parted(text);
-        let Some(entry) = tree.entry(alloc, &dir, name)? else {
-            return Ok(None);
+        let Some(entry) = tree.entry(&dir, name) else {
+            return None;
         };
         at = entry;
         rest = after;
     }
-    Ok(Some(at))
+    Some(at)
 }
 
 // The text of a path, if it isn't the root.

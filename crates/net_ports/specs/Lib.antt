@@ -1,0 +1,3 @@
+pub mod Asking
+pub mod Errors
+pub mod Silence

@@ -3,12 +3,18 @@
 //! They count their failures and tell nothing of their bytes.
 #![tactic(auto)]
 
+mod asking;
+mod concern;
+mod porch;
 pub mod reader_source;
+mod silent;
 pub mod tcp_accept;
 pub mod tcp_link;
 pub mod writer_sink;
 
+pub use porch::PAUSE;
 pub use reader_source::ReaderSource;
+pub use silent::{MOST_SILENT, SILENCE};
 pub use tcp_accept::TcpAccept;
-pub use tcp_link::{PATIENCE, TcpLink};
+pub use tcp_link::{READ_PATIENCE, REQUEST_PATIENCE, TcpLink, WRITE_PATIENCE};
 pub use writer_sink::WriterSink;

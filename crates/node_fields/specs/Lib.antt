@@ -1,1 +1,3 @@
 pub mod Answers
+pub mod Children
+pub mod Lookup

@@ -47,7 +47,7 @@ rooted_by false true r o e s h = absurd (true≢false (sym e))
 rooted_by false false r o e true h = h
 rooted_by false false r o e false h = h
 
-number_tied : (k number : ℕ) → eq_by_cmp nat_cmp k number ≡ (number == k)
+pub number_tied : (k number : ℕ) → eq_by_cmp nat_cmp k number ≡ (number == k)
 number_tied k number = (eq_by_cmp_equiv nat_cmp_total).symm k number ∙ unsigned_tied number k
 
 pub noted_is : (t : Table) (number : ℕ) (r : Roots) → IsTable t → is_settled t number ≡ false → IsTable (record { nodes = t.nodes; roots = insert t.roots number r; settled = t.settled ++ number ∷ [] })

@@ -1,7 +1,7 @@
 //! Fsnodes of the worked tree.
 use crate::bytes::of_hex;
 use crate::nodes::{DIRECTORY, ROOT};
-use file_kind::FileKind;
+use bonsai::FileKind;
 use fsnode::{FsEntry, Summary, decode, encode};
 use object_id::Id;
 use std::alloc::Global;

@@ -2,7 +2,7 @@
 ghost use Rattle.std.specs.Prelude.{◌≡◌, ◌==◌, if◌then◌else◌, Some, slice_index};
 ghost use Rattle.unode.specs.Parts.{file_seen};
 
-use file_kind::FileKind;
+use bonsai::FileKind;
 use object_id::Id;
 use std::test::Fail;
 use unode::{FileUnode, Nodes, file_history};

@@ -1,7 +1,7 @@
 //! Unodes of files and directories.
 use crate::bytes::of_hex;
 use crate::nodes::{FILE, FILE_WITH_PARENT, MANIFEST};
-use file_kind::FileKind;
+use bonsai::FileKind;
 use object_id::Id;
 use std::alloc::Global;
 use unode::{FileUnode, Unode, UnodeEntry, decode, decode_file, encode};

@@ -1,6 +1,8 @@
 //! An id and its hex text.
-ghost use Rattle.std.specs.Prelude.{◌≡◌, not, length, position, Some, None, Ok, IfOk, IfErr, IsTrue, string_bytes};
+ghost use Rattle.std.specs.Prelude.{◌≡◌, ◌∷◌, [], not, length, take, position, Some, None, Ok, IfOk, IfErr, IsTrue, string_bytes};
 ghost use Rattle.std.specs.Char.{is_ascii_hexdigit};
+ghost use Rattle.std.specs.Cmp.Lexicographic.{same_text};
+ghost use mathlib.Core.Path.{sym};
 ghost use Rattle.sha2.specs.Sha256.{sha256};
 ghost use Rattle.byte_fields.specs.Bytes.{is_bytes};
 ghost use Rattle.hex.specs.Hex.{decode_of, encode_lower};
@@ -9,11 +11,15 @@ ghost use Rattle.object_id.specs.Hex.{hex_fault};
 use hex::FromHex;
 use sha2::{Digest, Sha256};
 use std::alloc::{AllocError, Global};
+use std::hash::{Hash, Hasher};
 use std::marker::Model;
 use thiserror::Error;
 
 /// The length of an id's hex text in bytes.
 pub const HEX_LENGTH: usize = 64;
+
+// How many of an id's bytes tables are hashed by.
+const HASHED: usize = 8;
 
 /// A text that is no id in hex.
 #[derive(Clone, Copy, Debug, PartialEq, Eq, Error)]
@@ -25,7 +31,7 @@ pub struct BadHex {
 }
 
 /// The SHA-256 (FIPS 180-4) of some bytes. Contracts see the list of its 32 bytes.
-#[derive(Clone, Copy, Debug, PartialEq, Eq, PartialOrd, Ord, Hash)]
+#[derive(Clone, Copy, Debug, PartialEq, Eq, PartialOrd, Ord)]
 pub struct Id([u8; 32]);
 
 impl Model for Id {
@@ -36,6 +42,17 @@ impl Model for Id {
     ghost view = { λ id. id.0 };
 
     ghost inverse = { λ bytes. record { 0 = bytes } };
+}
+
+/// The first eight bytes stand for all: whoever wants ids that agree there has to look for them among 2^64 digests.
+impl Hash for Id {
+    ghost hash_input = { λ id. take 8 id ∷ [] };
+
+    ghost respects_eq = { λ x y e i. take 8 (same_text x y (sym e) i) ∷ [] };
+
+    fn hash<H: Hasher>(&self, state: &mut H) {
+        state.write(&self.0[..HASHED]);
+    }
 }
 
 impl Id {

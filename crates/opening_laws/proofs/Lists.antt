@@ -1,29 +1,13 @@
 -- Lists, bytes and options of any kind.
-use Rattle.std.proofs.Common.{◌≡◌, ℕ, zero, suc, Bool, true, false, cond, ◌&&◌, List, [], ◌∷◌, ◌++◌, length, ap, subst, ◌∙◌, arith}
-use Rattle.std.specs.Prelude.{Option, Some, filter, nat_lt, unwrap_or}
-use Rattle.std.specs.List.{AllByRecursion}
+use Rattle.std.proofs.Common.{◌≡◌, ℕ, zero, suc, true, ◌&&◌, List, [], ◌∷◌, ◌++◌, length, subst, ◌∙◌, arith}
+use Rattle.std.specs.Prelude.{nat_lt}
 use Rattle.std.proofs.Math.Seq.{take-append_seam, drop-append_seam}
 use Rattle.std.proofs.lemmas.Bool.{ltb-true, and_parts}
 use Rattle.std.proofs.lemmas.List.Folds.{list_all-append}
 use Rattle.byte_fields.specs.Bytes.{IsBytes, are_bytes}
 use Rattle.changeset_model.proofs.Accepting.{IsBytes-drop, IsBytes-take}
 
-pub same_some : {X : Type 0} (x y : X) → ◌≡◌ {A = Option X} (Some x) (Some y) → x ≡ y
-same_some x y e = ap (λ o. unwrap_or o x) e
-
 -- ---- each element
-
-pub all_append : {X : Type 0} (P : X → Type 0) (xs ys : List X) → AllByRecursion P xs → AllByRecursion P ys → AllByRecursion P (xs ++ ys)
-all_append P [] ys all more = more
-all_append P (x ∷ xs) ys all more = (all.0, all_append P xs ys all.1 more)
-
-pub all_filter : {X : Type 0} (P : X → Type 0) (q : X → Bool) (xs : List X) → AllByRecursion P xs → AllByRecursion P (filter q xs)
-all_filter P q [] all = tt
-all_filter P q (x ∷ xs) all = by (all_filter P q xs all.1) (q x)
-  where
-    by : AllByRecursion P (filter q xs) → (b : Bool) → AllByRecursion P (cond b (x ∷ filter q xs) (filter q xs))
-    by later true = (all.0, later)
-    by later false = later
 
 -- ---- bytes
 

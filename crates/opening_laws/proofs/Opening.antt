@@ -19,13 +19,14 @@ use Rattle.history_model.specs.Journal.{Header, is_header, mark, header_bytes, o
 use Rattle.history_model.specs.Payload.{payload_body}
 use Rattle.reply_model.specs.Reply.{is_ask, Ask, PutContent, PutChangeset, SetBookmark, LandDraft, Down, TooLong, ContentPut, Granted, Judged, ◌>>=◌, refuse_if, unchanged, entered, judge}
 use Rattle.reply_model.specs.Legal.{MayFollow, GoesOn, IsLegal}
-use Rattle.reply_model.specs.Opening.{OpenFault, Damaged, NotARepository, ask_of, made_by, next_entry, next_record, go_on, records, opens_with, opens}
+use Rattle.reply_model.specs.Opening.{Damaged, NotARepository, ask_of, made_by, next_entry, next_record, go_on, records, opens_with, opens}
 use Rattle.reply_model.proofs.Histories.{IsLegal-push}
 use Rattle.reply_model.proofs.Opened.{opens_as}
 use Rattle.opening_laws.proofs.Lists.{IsBytes-front, IsBytes-back}
 use Rattle.opening_laws.proofs.Made.{MadeBy, is_made}
 use Rattle.opening_laws.proofs.Rules.{what_is_uploaded}
 use Rattle.opening_laws.proofs.Payloads.{payload_read}
+use Rattle.reply_model.proofs.Opened.{same_history as same_stored}
 
 -- ---- the judge sees a content's digest and length
 
@@ -153,11 +154,8 @@ opens_exactly bytes h fits = (
   λ s. stands_opens s.0 bytes h fits s.1 (subst (IsLegal s.0) s.3 s.2) ∙ ap (λ (h : List Entry). Ok h) (sym s.3),
 )
 
-same_stored : (h g : List Entry) → ◌≡◌ {A = Result (List Entry) OpenFault} (Ok h) (Ok g) → h ≡ g
-same_stored h g e = cc
-
 -- the header that the first bytes tell
-header_read : (header : Header) (bytes : List ℕ) (h : List Entry) → Stands header bytes h → from_be_bytes w64 (take 8 (drop 8 bytes)) ≡ header.capacity
+pub header_read : (header : Header) (bytes : List ℕ) (h : List Entry) → Stands header bytes h → from_be_bytes w64 (take 8 (drop 8 bytes)) ≡ header.capacity
 header_read header bytes h stands = ap (λ t. from_be_bytes w64 (take 8 (drop 8 t))) stands.2 ∙ (spelled_64 header.capacity (limit header stands.0)).back
 
 pub one_header : (header other : Header) (bytes : List ℕ) (h g : List Entry) → Stands header bytes h → Stands other bytes g → header ≡ other

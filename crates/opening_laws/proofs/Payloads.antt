@@ -10,7 +10,7 @@ use Rattle.std.proofs.lemmas.List.{append-nil}
 use Rattle.sha2.specs.Sha256.{sha256}
 use Rattle.byte_fields.specs.Bytes.{Id, is_bytes, sized}
 use Rattle.byte_fields.specs.Reading.{Reader, value, and_then, ◌>>=◌, field, number, keeping, as_one, times, read, whole, any, id}
-use Rattle.byte_fields.proofs.FieldLemmas.{Reads, reads_then, reads_last, reads_field, keeps, Spelled, reads_number, reads_with_len, spelled_8, spelled_16, spelled_32}
+use Rattle.byte_fields.proofs.FieldLemmas.{Reads, reads_then, reads_last, reads_field, keeps, reads_number, reads_with_len, spelled_8, spelled_16, spelled_32}
 use Rattle.changeset_model.specs.Changeset.{Changeset, spelling, most_content, most_encoded}
 use Rattle.changeset_model.specs.Decoding.{decoded}
 use Rattle.changeset_model.proofs.Spelling.{from_author_bytes, reads_id}
@@ -22,7 +22,9 @@ use Rattle.history_model.specs.Payload.{bookmark_name, flagged, optional, encode
 use Rattle.reply_model.specs.Reply.{is_ask, Ask, PutContent, PutChangeset, SetBookmark, LandDraft, most_stack}
 use Rattle.reply_model.specs.Legal.{MayFollow, IsLegal}
 use Rattle.opening_laws.proofs.Made.{a_landing, MadeBy, is_made}
-use Rattle.opening_laws.proofs.Rules.{IsUploadable, len_32, what_is_uploaded, is_decoded, head_is_id, uploadable_of_next}
+use Rattle.opening_laws.proofs.Rules.{IsUploadable, what_is_uploaded, is_decoded, head_is_id, uploadable_of_next}
+use Rattle.changeset_model.proofs.Spelling.{len_of as len_32}
+use Rattle.manifest_model.proofs.Nodes.{spelled_small as spelled_short}
 
 -- ---- a mark, and what follows it
 
@@ -67,9 +69,6 @@ short_by None n false empty e h = ltb-false 128 n e
 
 name_is_short : (text : List ℕ) → is_name text ≡ true → length text ≤ 128
 name_is_short text h = short_by (position (λ b. not (is_name_byte b)) (take 128 text)) (length text) (nat_lt 128 (length text)) (length text == 0) refl h
-
-spelled_short : (n : ℕ) → n < 256 → Spelled w8 (to_be_bytes w8 n) n
-spelled_short n h = record { len = refl; back = omega arith }
 
 reads_name : (name : List ℕ) → is_name name ≡ true → Reads bookmark_name (sized w8 name) name
 reads_name name h =

@@ -1,11 +1,11 @@
 -- The known changesets of a legal history keep the rules of a changeset.
 --     IsUploadable c      what an upload must keep
 use Rattle.std.proofs.Common.{◌≡◌, ℕ, zero, suc, ◌+◌, ◌*◌, ◌/◌, ◌≤◌, ◌%◌, Bool, true, false, cond, not, ◌&&◌, List, [], ◌∷◌, ◌++◌, map, length, drop, refl, sym, ap, subst, ◌∙◌, arith, length-append}
-use Rattle.std.specs.Prelude.{Option, None, Some, Ok, Err, Contains, IfSome, IsTrue, flat_map, bytes_eq, nat_lt, ◌==◌, option_map, unwrap_or, slice_index}
+use Rattle.std.specs.Prelude.{Option, None, Some, Ok, Err, Contains, IfSome, IsTrue, flat_map, bytes_eq, nat_lt, option_map, unwrap_or, slice_index}
 use mathlib.Core.Bool.{true≢false}
 use Rattle.std.specs.List.{AllByRecursion, concat, position_or_len}
 use Rattle.std.specs.Int.{w32, to_be_bytes}
-use Rattle.std.proofs.lemmas.Bool.{le-ltb, lt-ltb, and_parts, and_from, eq-eqb, eqb-true}
+use Rattle.std.proofs.lemmas.Bool.{le-ltb, lt-ltb, and_parts, and_from, eq-eqb}
 use Rattle.std.proofs.lemmas.List.{append_assoc, append-nil}
 use Rattle.std.proofs.lemmas.Slice.Eq.{bytes_eq-Decides}
 use Rattle.std.proofs.lemmas.Grind.{flat_map-append}
@@ -24,10 +24,14 @@ use Rattle.history_model.specs.Pushrebase.{Fork, following, fork_at, fork, on_pa
 use Rattle.history_model.specs.Journal.{Header}
 use Rattle.reply_model.specs.Reply.{is_ask, Ask, PutContent, PutChangeset, SetBookmark, LandDraft}
 use Rattle.reply_model.specs.Legal.{MayFollow, GoesOn, IsLegal}
-use Rattle.reply_model.proofs.Parents.{or_case, brought, grown, legal_chain}
+use Rattle.reply_model.proofs.Parents.{brought, grown, legal_chain}
+use Rattle.manifest_model.proofs.Derivations.{or_case}
 use Rattle.reply_model.proofs.Histories.{IsLegal-push}
-use Rattle.opening_laws.proofs.Lists.{same_some, all_append, all_filter, are_IsBytes, are_bytes-append}
+use Rattle.opening_laws.proofs.Lists.{are_IsBytes, are_bytes-append}
+use Rattle.byte_fields.proofs.Booleans.{same_some}
+use Rattle.byte_fields.proofs.Lists.{all_both as all_append, all_filter}
 use Rattle.opening_laws.proofs.Made.{MadeBy, is_made}
+use Rattle.changeset_model.proofs.Spelling.{len_of as len_32}
 
 -- ---- digests
 
@@ -92,9 +96,6 @@ same_len p q c lp lq e = by p q (from_author_bytes c) lp lq ∙ sym (λ i. lengt
   where
     by : (p q rest : List ℕ) → length p ≡ 32 → length q ≡ 32 → length (0x43 ∷ 1 ∷ 1 ∷ ((p ++ []) ++ rest)) ≡ length (0x43 ∷ 1 ∷ 1 ∷ ((q ++ []) ++ rest))
     by p q rest lp lq = let a = length-append (p ++ []) rest in let b = length-append (q ++ []) rest in let x = length-append p [] in let y = length-append q [] in omega arith
-
-pub len_32 : (x : Id) → is_bytes 32 x ≡ true → length x ≡ 32
-len_32 x h = eqb-true (length x) 32 (and_parts (length x == 32) (are_bytes x) h).0
 
 parents_right : (c : Changeset) → is_changeset c ≡ true → are_parents c.parents ≡ true
 parents_right c h =

@@ -20,7 +20,8 @@ use Rattle.path_conflict.specs.Best.{IsBest, pair_of}
 use Rattle.path_conflict.specs.declared.lesser.Met.{Met}
 use Rattle.path_conflict.proofs.Order.{apart_from_later, comparable_from_above}
 use Rattle.path_conflict.proofs.Beside.{less_at, apart_at, less_or_same}
-use Rattle.path_conflict.proofs.BestSoFar.{all_from, not_both}
+use Rattle.path_conflict.proofs.BestSoFar.{all_from}
+use Rattle.history_model.proofs.Clashes.{not_both}
 
 abbrev at : List Path → ℕ → Path
 at ps i = slice_index_or ps i []

@@ -6,9 +6,9 @@ ghost use Rattle.path_conflict.specs.Best.{IsBest};
 
 use crate::counted::CountedPaths;
 use crate::search::first_comparable;
+use ancestry::Steps;
 use repo_path::RepoPath;
 use std::sync::ledger::Ledger;
-use step_count::Steps;
 
 /// A path that clashes with the one at a place of a list.
 #[derive(Clone, Copy)]

@@ -4,9 +4,9 @@ ghost use Rattle.changeset_model.specs.Path.{comparable, path_lt, IsRising};
 ghost use Rattle.path_conflict.specs.Places.{paths_of, AreApart};
 
 use crate::counted::CountedPaths;
+use ancestry::Steps;
 use repo_path::RepoPath;
 use std::sync::ledger::Ledger;
-use step_count::Steps;
 
 /// The first path of a list that is equal to, above or under another path, where no path of the list lies under another
 /// one. The steps, each a comparison of two paths, are two more than the length has binary digits, at most. It takes no

@@ -3,7 +3,6 @@
 #![tactic(auto)]
 
 pub mod accept;
-pub mod clock;
 pub mod failed;
 pub mod gate;
 pub mod link;
@@ -19,7 +18,6 @@ pub mod source;
 pub mod zero_bytes;
 
 pub use accept::Accept;
-pub use clock::Clock;
 pub use failed::Failed;
 pub use gate::{Gate, NoGate};
 pub use link::Link;

@@ -6,11 +6,13 @@ pub mod command;
 pub mod fault;
 mod line;
 mod number;
+pub mod ranges;
 pub mod session_words;
 pub mod texts;
 pub mod words;
 
 pub use command::Command;
 pub use fault::WordsFault;
+pub use ranges::{NumberFault, number_fault};
 pub use session_words::asks_session;
 pub use words::read_words;

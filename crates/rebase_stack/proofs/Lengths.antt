@@ -8,7 +8,8 @@ use Rattle.sha2.proofs.Facts256.{length-sha256}
 use Rattle.byte_fields.specs.Bytes.{Id, is_bytes, sized}
 use Rattle.changeset_model.specs.Changeset.{Changeset, id_of, spelling}
 use Rattle.history_model.specs.Pushrebase.{on_parent, rewrite}
-use Rattle.bonsai.proofs.Lengths.{id_long, spelling_long}
+use Rattle.bonsai.proofs.Lengths.{spelling_long}
+use Rattle.changeset_model.proofs.Spelling.{len_of as id_long}
 use Rattle.bonsai.specs.Encodings.{encodings}
 use Rattle.rebase_stack.proofs.Rewriting.{rewrite_next}
 

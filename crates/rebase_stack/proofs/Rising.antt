@@ -2,15 +2,14 @@
 --     rising_unique      two rising lists of the same paths are equal
 --     settled      what is left of some paths, sorted and without repeats, is the definition's
 use Rattle.std.proofs.Common.{◌≡◌, ◌⊎◌, inl, inr, ℕ, zero, suc, ◌<◌, Bool, true, false, cond, List, [], ◌∷◌, length, map, refl, sym, ap, subst, ◌∙◌, arith}
-use mathlib.Core.Bool.{true≢false}
 use Rattle.std.specs.Prelude.{Contains, IsSorted, IsPermutation, slice_index_or}
 use Rattle.std.specs.Borrow.{Bor}
 use Rattle.std.specs.List.{AllByRecursion, dedup, dedup_from}
 use Rattle.std.specs.List.Retain.{IsFiltered, DiffersFromLast}
 use Rattle.std.specs.List.Sorted.{IsStrictlySortedBy}
 use Rattle.std.specs.declared.cmp.Ordering.{Ordering}
-use Rattle.std.specs.declared.cmp.Ordering.TheVariants.{Less, Equal, Greater}
-use Rattle.std.specs.Ordering.{is_lt, is_eq}
+use Rattle.std.specs.declared.cmp.Ordering.TheVariants.{Less}
+use Rattle.std.specs.Ordering.{is_lt}
 use Rattle.std.specs.Cmp.{on_total}
 use Rattle.std.proofs.lemmas.List.Filters.{dedup_is}
 use Rattle.std.proofs.lemmas.List.Kept.{IsStrictlySortedBy-dedup, Contains-dedup, Contains-from_dedup}
@@ -20,9 +19,8 @@ use Rattle.changeset_model.specs.Path.{Path, path_cmp, path_eq, path_lt, IsRisin
 use Rattle.changeset_model.proofs.Paths.{path_cmp_total, path_cmp-IsAntisymmetric}
 use Rattle.changeset_model.proofs.Rising.{path_lt_irreflexive, path_lt_asymmetric, Contains-rising, IsRising-rising}
 use Rattle.repo_path.specs.Order.{path_eq_equiv, path_eq_ties}
-
-not_both : (b : Bool) → b ≡ true → b ≡ false → ⊥
-not_both b h g = true≢false (sym h ∙ g)
+use Rattle.bonsai.proofs.Between.{equal_of}
+use Rattle.history_model.proofs.Clashes.{not_both}
 
 -- ---- two rising lists of the same paths
 
@@ -94,11 +92,6 @@ dedup_from-map k (p ∷ ps) =
 dedup-map : (ps : List (Bor Path)) → paths_of (dedup eq_of ps) ≡ dedup path_eq (paths_of ps)
 dedup-map [] = refl
 dedup-map (p ∷ ps) = dedup_from-map p ps
-
-equal_of : (o : Ordering) → is_eq o ≡ true → o ≡ Equal
-equal_of Less h = absurd (cc)
-equal_of Equal h = refl
-equal_of Greater h = absurd (cc)
 
 same_path : (p q : Path) → path_eq p q ≡ true → p ≡ q
 same_path p q h = path_cmp-IsAntisymmetric p q (equal_of (path_cmp p q) (sym (path_eq_ties p q) ∙ h))

@@ -1,9 +1,7 @@
 -- A file that was read.
-use Rattle.std.proofs.Common.{◌≡◌, ℕ, zero, suc, ◌<◌, ◌≤◌, Bool, false, List, [], ◌∷◌, length, take, drop, refl, sym, ap, subst, ◌∙◌, inl, inr, arith}
+use Rattle.std.proofs.Common.{◌≡◌, ℕ, zero, suc, ◌<◌, ◌≤◌, Bool, false, List, [], ◌∷◌, length, refl, sym, ap, subst, ◌∙◌, inl, inr, arith}
 use Rattle.std.specs.Prelude.{Result, Ok, Err, IsTrue, MatchResult, IfOk, IfErr, Contains, slice_index_or}
-use Rattle.std.specs.Int.{w64, from_be_bytes}
 use Rattle.byte_fields.specs.Bytes.{IsBytes}
-use Rattle.byte_fields.proofs.FieldLemmas.{spelled_64}
 use Rattle.disk_model.specs.Images.{Disk, IsImage}
 use Rattle.disk_model.specs.Meaning.{Meaning, IsSound, LeftSince}
 use Rattle.disk_model.specs.Calls.{LeavesOnly, Looked}
@@ -22,12 +20,7 @@ use Rattle.recovery.specs.Reading.{IsRead, journal_of}
 use Rattle.recovery.specs.Settling.{HasBegun, Spares}
 use Rattle.recovery.specs.declared.fault.OpenFault.{OpenFault}
 use Rattle.recovery.specs.declared.fault.OpenFault.TheVariants.{NotARepository, Damaged, DiskFault, Memory}
-use Rattle.recovery.proofs.FirstBytes.{limits_of}
-
-told_by : (header : Header) (file : List ℕ) (h : List Entry) → Stands header file h → from_be_bytes w64 (take 8 (drop 8 file)) ≡ header.capacity
-told_by header file h stands =
-    let most = (limits_of header stands.0).1 in
-    ap (λ t. from_be_bytes w64 (take 8 (drop 8 t))) stands.2 ∙ (spelled_64 header.capacity (omega arith)).back
+use Rattle.opening_laws.proofs.Opening.{header_read as told_by}
 
 pub opens_as : (header : Header) (h : List Entry) (file : List ℕ) → IsBytes file → IsHeaded header.capacity file → opens file ≡ Ok h → OpensAs header h file
 opens_as header h file fits headed is =

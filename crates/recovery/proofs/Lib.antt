@@ -4,3 +4,5 @@ pub mod LongerFiles
 pub mod FirstBytes
 pub mod Gates
 pub mod Files
+pub mod Frames
+pub mod Asked

@@ -1,6 +1,6 @@
 -- The entry that a payload stands for: it is stored, and as long as the payload.
-use Rattle.std.proofs.Common.{◌≡◌, ℕ, ◌+◌, ◌<◌, true, cond, List, [], ◌∷◌, ◌++◌, length, drop, refl, sym, ap, subst, ◌∙◌, arith}
-use Rattle.std.specs.Prelude.{Option, None, Some, Result, Ok, Err, bytes_eq, unwrap_or}
+use Rattle.std.proofs.Common.{◌≡◌, ℕ, ◌+◌, ◌<◌, true, cond, List, [], ◌∷◌, ◌++◌, length, drop, sym, ap, subst, ◌∙◌, arith}
+use Rattle.std.specs.Prelude.{None, Some, Err, bytes_eq, unwrap_or}
 use Rattle.std.specs.Option.{option_and_then}
 use Rattle.std.specs.Result.{result_ok}
 use Rattle.std.proofs.lemmas.Bool.{lt-ltb}
@@ -14,14 +14,8 @@ use Rattle.reply_model.specs.Reply.{is_ask, Ask, PutContent, PutChangeset, SetBo
 use Rattle.reply_model.specs.Opening.{ask_of, made_by, next_entry}
 use Rattle.reply_model.proofs.Histories.{size-push}
 use Rattle.opening_laws.proofs.Made.{MadeBy, MakesEach, Fitting, judge_makes}
-
-then_some : {X Y : Type 0} (f : X → Option Y) (o : Option X) (y : Y) → option_and_then f o ≡ Some y → (x : X) × (o ≡ Some x) × (f x ≡ Some y)
-then_some f None y e = absurd cc
-then_some f (Some x) y e = (x, refl, e)
-
-ok_some : {X E : Type 0} (r : Result X E) (x : X) → result_ok r ≡ Some x → r ≡ Ok x
-ok_some (Ok y) x e = ap (λ o. Ok (unwrap_or o y)) e
-ok_some (Err e) x h = absurd cc
+use Rattle.byte_fields.proofs.Booleans.{ok_some}
+use Rattle.reply_model.proofs.Opened.{then_some}
 
 -- the change behind the entry that a payload stands for
 record IsAsked (header : Header) (h : List Entry) (bytes : List ℕ) (body : Body) : Type 0 where

@@ -3,3 +3,5 @@ pub mod Answers
 pub mod Settling
 pub mod Headers
 pub mod Reading
+pub mod ReplayFaults
+pub mod Entering

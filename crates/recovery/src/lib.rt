@@ -2,12 +2,16 @@
 #![tactic(auto)]
 
 mod begin;
+pub mod enter;
 pub mod fault;
 mod header;
 pub mod opened;
 pub mod opening;
 mod records;
+pub mod replay_fault;
 
+pub use enter::enter_payload;
 pub use fault::OpenFault;
 pub use opened::Opened;
 pub use opening::open;
+pub use replay_fault::ReplayFault;

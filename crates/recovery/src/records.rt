@@ -12,8 +12,8 @@ ghost use Rattle.recovery.specs.Reading.{IsAt, IsRead};
 ghost use Rattle.recovery.specs.Settling.{Spares};
 
 use crate::fault::OpenFault;
+use crate::{ReplayFault, enter_payload};
 use blob_disk::Disk;
-use replay::{ReplayFault, enter_payload};
 use repo_events::MOST_PAYLOAD;
 use repo_journal::{EMPTY_SIZE, Scanner, Span, Step};
 use repo_machine::Machine;

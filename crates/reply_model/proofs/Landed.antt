@@ -6,7 +6,6 @@ use mathlib.Core.List.{reverse-cons}
 use Rattle.std.specs.List.{AllByRecursion, last_or}
 use Rattle.std.specs.Option.{option_map_or}
 use Rattle.std.proofs.lemmas.List.{append_assoc, reverse-append}
-use Rattle.std.proofs.lemmas.List.Elements.{recursion_from_All, All-contains_itself}
 use Rattle.std.proofs.lemmas.Slice.Eq.{bytes_eq-Decides}
 use Rattle.byte_fields.specs.Bytes.{Id, last_of}
 use Rattle.changeset_model.specs.Changeset.{Changeset, id_of}
@@ -15,10 +14,13 @@ use Rattle.history_model.specs.Chain.{first_parent, line, chain}
 use Rattle.history_model.specs.Pushrebase.{on_parent, rewrite}
 use Rattle.history_model.specs.Journal.{Header}
 use Rattle.reply_model.specs.Legal.{IsLegal}
-use Rattle.byte_fields.proofs.Lists.{weaker, each_of, contains_head, contains_tail, all_push}
+use Rattle.byte_fields.proofs.Lists.{weaker, each_of, contains_head, contains_tail}
 use Rattle.reply_model.proofs.Histories.{IsLegal-push}
-use Rattle.reply_model.proofs.Parents.{or_right, or_left, or_case, known_right, same_id, known_reverse, HasParents-known, fact_of_next, brought, brought-push, grown}
+use Rattle.reply_model.proofs.Parents.{known_right, same_id, known_reverse, HasParents-known, fact_of_next, brought, brought-push, grown}
+use Rattle.history_model.proofs.Landings.{or_true as or_right, or_left}
+use Rattle.manifest_model.proofs.Derivations.{or_case}
 use Rattle.reply_model.proofs.Lines.{known_once, GoesOn, line_goes_on, line_grows}
+use Rattle.history_model.proofs.Chains.{from_reverse}
 
 -- ---- what is brought is known
 
@@ -81,13 +83,6 @@ are_known (c ∷ cs) = (
   or_left (bytes_eq (id_of c) (id_of c)) (is_known (map with_id cs) (id_of c)) (same_id (id_of c)),
   weaker (λ d. is_known (map with_id cs) (id_of d) ≡ true) (λ d. is_known (map with_id (c ∷ cs)) (id_of d) ≡ true) (λ d h. or_right (bytes_eq (id_of c) (id_of d)) (is_known (map with_id cs) (id_of d)) h) cs (are_known cs),
 )
-
-all_reverse : (P : Known → Type 0) (ks : List Known) → AllByRecursion P ks → AllByRecursion P (reverse ks)
-all_reverse P [] all = tt
-all_reverse P (k ∷ ks) all = subst (AllByRecursion P) (sym (reverse-cons k ks)) (all_push P (reverse ks) k (all_reverse P ks all.1) all.0)
-
-from_reverse : (ks : List Known) (k : Known) → Contains (reverse ks) k → Contains ks k
-from_reverse ks k at = each_of (Contains ks) (reverse ks) k (all_reverse (Contains ks) ks (recursion_from_All (Contains ks) ks (All-contains_itself ks))) at
 
 reverse_twice : (ks : List Known) → reverse (reverse ks) ≡ ks
 reverse_twice [] = refl

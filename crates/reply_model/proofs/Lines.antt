@@ -13,7 +13,9 @@ use Rattle.history_model.specs.History.{Entry, Known, with_id, each_id_once, cha
 use Rattle.history_model.specs.Chain.{first_parent, line_among, line, HasParents}
 use Rattle.byte_fields.proofs.Lists.{contains_head, contains_tail}
 use Rattle.history_model.proofs.Chains.{first_of_all}
-use Rattle.reply_model.proofs.Parents.{or_right, or_left, or_case, known_left, known_push, same_id, known_reverse, filter_known, each_known, if_some, brought}
+use Rattle.reply_model.proofs.Parents.{known_left, known_push, same_id, known_reverse, filter_known, each_known, if_some, brought}
+use Rattle.history_model.proofs.Landings.{or_true as or_right, or_left}
+use Rattle.manifest_model.proofs.Derivations.{or_case}
 
 -- ---- each id once
 

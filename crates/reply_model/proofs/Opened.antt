@@ -1,7 +1,6 @@
 -- What a file opens as: a legal history for which the file stands.
 use Rattle.std.proofs.Common.{◌≡◌, ℕ, zero, suc, ◌+◌, ◌-◌, ◌^◌, ◌≤◌, Bool, true, false, cond, not, ◌||◌, List, [], ◌∷◌, ◌++◌, map, length, take, drop, refl, sym, ap, subst, ◌∙◌, arith}
 use Rattle.std.specs.Prelude.{Option, Some, None, Result, Ok, Err, ◌==◌, bytes_eq, slice_index, nat_lt, unwrap_or, is_some, find, ok_or}
-use mathlib.Core.Bool.{true≢false}
 use Rattle.std.specs.Option.{option_and_then, option_eq, option_to_list}
 use Rattle.std.specs.Result.{result_ok}
 use Rattle.std.specs.Int.{w32, w64, from_be_bytes, to_be_bytes}
@@ -25,6 +24,7 @@ use Rattle.changeset_model.proofs.Accepting.{IsBytes-drop, IsBytes-take, keeping
 use Rattle.reply_model.proofs.Histories.{bodies-append, IsLegal-push}
 use Rattle.reply_model.proofs.Stored.{stored-push}
 use Rattle.reply_model.proofs.Granted.{MakesStored, judge_stored, follows_granted}
+use Rattle.byte_fields.proofs.Booleans.{neither, not_false as is_not, ok_some}
 
 -- ---- what a change makes
 
@@ -101,13 +101,9 @@ judge_makes header h ask = (through ask (refuse_if (is_down h) Down) _ (λ _. ma
 
 -- ---- the next entry of a file
 
-then_some : {X Y : Type 0} (f : X → Option Y) (o : Option X) (y : Y) → option_and_then f o ≡ Some y → (x : X) × (o ≡ Some x) × (f x ≡ Some y)
+pub then_some : {X Y : Type 0} (f : X → Option Y) (o : Option X) (y : Y) → option_and_then f o ≡ Some y → (x : X) × (o ≡ Some x) × (f x ≡ Some y)
 then_some f None y e = absurd cc
 then_some f (Some x) y e = (x, refl, e)
-
-ok_some : {X E : Type 0} (r : Result X E) (x : X) → result_ok r ≡ Some x → r ≡ Ok x
-ok_some (Ok y) x e = ap (λ o. Ok (unwrap_or o y)) e
-ok_some (Err e) x h = absurd cc
 
 record IsNext (header : Header) (h : List Entry) (bytes : List ℕ) (body : Body) : Type 0 where
   follows : MayFollow header h body
@@ -205,7 +201,7 @@ one_more header before h gate bytes rest body is_open next tail parts later = re
   stored_is = later.stored_is;
 }
 
-same_history : (a b : List Entry) → ◌≡◌ {A = Result (List Entry) OpenFault} (Ok a) (Ok b) → a ≡ b
+pub same_history : (a b : List Entry) → ◌≡◌ {A = Result (List Entry) OpenFault} (Ok a) (Ok b) → a ≡ b
 same_history a b e = cc
 
 abbrev OpensAll : ℕ → Header → Type 0
@@ -233,14 +229,6 @@ opens_from (suc n) header before at (gate ∷ bytes) h fits legal s e =
     gate_by n header (opens_from n header) before at gate bytes h (λ i. fits (suc i)) legal s (gate == 1) refl e
 
 -- ---- the file
-
-neither : (a b : Bool) → (a || b) ≡ false → (a ≡ false) × (b ≡ false)
-neither true b h = absurd (true≢false h)
-neither false b h = (refl, h)
-
-is_not : (b : Bool) → not b ≡ false → b ≡ true
-is_not true h = refl
-is_not false h = absurd (true≢false h)
 
 drop_twice : (m n : ℕ) (bytes : List ℕ) → drop m (drop n bytes) ≡ drop (n + m) bytes
 drop_twice m n bytes = ext_get_or 0 (drop m (drop n bytes)) (drop (n + m) bytes)

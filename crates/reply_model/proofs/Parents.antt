@@ -22,20 +22,12 @@ use Rattle.history_model.specs.Pushrebase.{Fork, fork, clash, on_parent, rewrite
 use Rattle.history_model.specs.Journal.{Header, payload_len, most_payload, size, is_full}
 use Rattle.reply_model.specs.Reply.{Ask, PutContent, PutChangeset, SetBookmark, LandDraft, Refusal, Down, TooLong, Full, Merge, NoParent, Collision, NoChangeset, Moved, NoBookmark, NoRoot, TooFarBehind, AlreadyIn, StackTooLong, Clash, TooLarge, Granted, ContentPut, ChangesetPut, BookmarkSet, Landed, Judged, ◌>>=◌, refuse_if, refuse_some, unchanged, entered, accepted, content_refusal, collides, first_collision, most_range, most_stack, by_ask, judge}
 use Rattle.reply_model.specs.Legal.{MayFollow, GoesOn, IsLegal}
+use Rattle.byte_fields.proofs.Booleans.{not_false as not_not, or_turned as or_swap, same_some as some_same}
+use Rattle.byte_fields.proofs.Lists.{option_or-assoc as or_assoc}
+use Rattle.history_model.proofs.Landings.{or_left, or_true as or_right}
+use Rattle.manifest_model.proofs.Derivations.{or_case}
 
 -- ---- known ids
-
-pub or_right : (a b : Bool) → b ≡ true → (a || b) ≡ true
-or_right true b h = refl
-or_right false b h = h
-
-pub or_left : (a b : Bool) → a ≡ true → (a || b) ≡ true
-or_left true b h = refl
-or_left false b h = absurd (true≢false (sym h))
-
-pub or_case : {P : Type 0} (a b : Bool) → (a ≡ true → P) → (b ≡ true → P) → (a || b) ≡ true → P
-or_case true b f g h = f refl
-or_case false b f g h = g h
 
 pub known_left : (ks js : List Known) (x : Id) → is_known ks x ≡ true → is_known (ks ++ js) x ≡ true
 known_left ks js x h = list_any-append (λ k. bytes_eq k.id x) ks js ∙ or_left (is_known ks x) (is_known js x) h
@@ -89,10 +81,6 @@ filter_parents q before [] there h = tt
 filter_parents q before (k ∷ ks) there h =
     filter_by q before k ks (there k) h.0 (filter_parents q (before ++ k ∷ []) ks (λ j e. known_left before (k ∷ []) j.id (there j e)) h.1) (q k) refl
 
-not_not : (b : Bool) → not b ≡ false → b ≡ true
-not_not true h = refl
-not_not false h = absurd (true≢false h)
-
 each_parents : (before ks : List Known) → ParentsFirst before ks → ParentsFirst before (each_id_once ks)
 each_parents before [] h = tt
 each_parents before (k ∷ ks) h = (
@@ -101,12 +89,6 @@ each_parents before (k ∷ ks) h = (
       (λ j e. subst (λ y. is_known (before ++ k ∷ []) y ≡ true) ((bytes_eq-Decides k.id j.id).0 (not_not (bytes_eq k.id j.id) e)) (known_last before k))
       (each_parents (before ++ k ∷ []) ks h.1),
 )
-
-or_swap : (a b : Bool) → (a || (b || false)) ≡ (b || a)
-or_swap true true = refl
-or_swap true false = refl
-or_swap false true = refl
-or_swap false false = refl
 
 pub known_reverse : (ks : List Known) (x : Id) → is_known (reverse ks) x ≡ is_known ks x
 known_reverse [] x = refl
@@ -153,15 +135,15 @@ either : (ks : List Known) (b : Bool) (x y : Result Judged Refusal) → Sound ks
 either ks true x y p q = p
 either ks false x y p q = q
 
-none_refused : {X : Type 0} (o : Option X) (e : X → Refusal) (u : Unit {0}) → refuse_some o e ≡ Ok u → o ≡ None
+pub none_refused : {X : Type 0} (o : Option X) (e : X → Refusal) (u : Unit {0}) → refuse_some o e ≡ Ok u → o ≡ None
 none_refused None e u h = refl
 none_refused (Some x) e u h = absurd cc
 
-was_some : {X : Type 0} (o : Option X) (e : Refusal) (x : X) → ok_or o e ≡ Ok x → o ≡ Some x
+pub was_some : {X : Type 0} (o : Option X) (e : Refusal) (x : X) → ok_or o e ≡ Ok x → o ≡ Some x
 was_some None e x h = absurd cc
 was_some (Some y) e x h = cc
 
-all_known : (ks : List Known) (ps : List Id) → find (λ p. not (is_known ks p)) ps ≡ None → AllByRecursion (λ p. is_known ks p ≡ true) ps
+pub all_known : (ks : List Known) (ps : List Id) → find (λ p. not (is_known ks p)) ps ≡ None → AllByRecursion (λ p. is_known ks p ≡ true) ps
 all_known ks [] h = tt
 all_known ks (p ∷ ps) h = by (all_known ks ps) (is_known ks p) h
   where
@@ -191,7 +173,7 @@ each_known (k ∷ ks) x h =
 abbrev pub HeadsKnown : List Entry → Type 0
 HeadsKnown h = (name : List ℕ) → IfSome (head h name) (λ x. is_known (brought h) x ≡ true)
 
-head_known : (ks : List Known) (o : Option Id) (x : Id) → o ≡ Some x → IfSome o (λ x. is_known ks x ≡ true) → is_known ks x ≡ true
+pub head_known : (ks : List Known) (o : Option Id) (x : Id) → o ≡ Some x → IfSome o (λ x. is_known ks x ≡ true) → is_known ks x ≡ true
 head_known ks o x e h = subst (λ o. IfSome o (λ x. is_known ks x ≡ true)) e h
 
 sound_ask : (header : Header) (h : List Entry) → HeadsKnown h → (ask : Ask) → Sound (brought h) (by_ask header h ask)
@@ -270,16 +252,9 @@ last_known front (c ∷ xs) o h =
     subst (λ cs. IfSome (option_map id_of (last_or (Some c) xs)) (λ x. is_known (map with_id cs) x ≡ true)) (append_assoc front (c ∷ []) xs)
     (last_known (front ++ c ∷ []) xs (Some c) (subst (λ ks. is_known ks (id_of c) ≡ true) (sym (map-append with_id front (c ∷ []))) (known_last (map with_id front) (with_id c))))
 
-or_none : {X : Type 0} (o : Option X) → o ≡ option_or o None
+pub or_none : {X : Type 0} (o : Option X) → o ≡ option_or o None
 or_none None = refl
 or_none (Some x) = refl
-
-or_assoc : {X : Type 0} (a b c : Option X) → option_or (option_or a b) c ≡ option_or a (option_or b c)
-or_assoc None b c = refl
-or_assoc (Some x) b c = refl
-
-some_same : {X : Type 0} (x y : X) → ◌≡◌ {A = Option X} (Some x) (Some y) → x ≡ y
-some_same x y e = ap (λ o. unwrap_or o x) e
 
 moved_by : (b : Bool) (to t : Option Id) → cond b (Some to) None ≡ Some t → to ≡ t
 moved_by true to t e = some_same to t e
@@ -295,7 +270,7 @@ target_known ks (Land landing) fact name t e =
     subst (λ t. IfSome t (λ x. is_known (ks ++ map with_id landing.new) x ≡ true)) (moved_by (bytes_eq name landing.name) (option_map id_of (last_of landing.new)) t e)
     (if_some (option_map id_of (last_of landing.new)) _ _ (known_right ks (map with_id landing.new)) (last_known [] landing.new None tt))
 
-last_some-push : {X Y : Type 0} (f : X → Option Y) (xs : List X) (x : X) → last_some f (xs ++ x ∷ []) ≡ option_or (f x) (last_some f xs)
+pub last_some-push : {X Y : Type 0} (f : X → Option Y) (xs : List X) (x : X) → last_some f (xs ++ x ∷ []) ≡ option_or (f x) (last_some f xs)
 last_some-push f [] x = or_none (f x)
 last_some-push f (y ∷ xs) x = ap (λ o. option_or o (f y)) (last_some-push f xs x) ∙ or_assoc (f x) (last_some f xs) (f y)
 

@@ -15,6 +15,7 @@ use Rattle.history_model.specs.Journal.{Header, record_len, payload_len, most_pa
 use Rattle.reply_model.specs.Reply.{Ask, PutContent, PutChangeset, SetBookmark, LandDraft, Down, TooLong, Full, Merge, NoParent, Collision, NoChangeset, Moved, NoBookmark, NoRoot, TooFarBehind, AlreadyIn, StackTooLong, Clash, TooLarge, Granted, ContentPut, ChangesetPut, BookmarkSet, Landed, Judged, ◌>>=◌, refuse_if, refuse_some, unchanged, entered, put_content, accepted, content_refusal, collides, put_changeset, set_bookmark, first_collision, most_range, most_stack, enter_landing, land, by_ask, judge}
 use Rattle.reply_model.specs.Legal.{MayFollow, GoesOn, IsLegal}
 use Rattle.reply_model.proofs.Histories.{bodies-append}
+use Rattle.reply_model.proofs.Parents.{or_none}
 
 -- ---- what is told of each entry
 
@@ -37,10 +38,6 @@ first_by f none b h ih = ap (λ o. option_or (f b) o) ih
 first_some-stored : {X : Type 0} (f : Body → Option X) → TellsNothing None f → (h : List Entry) → first_some (λ e. f e.body) (stored h) ≡ first_some (λ e. f e.body) h
 first_some-stored f none [] = refl
 first_some-stored f none (e ∷ h) = first_by f none e.body h (first_some-stored f none h)
-
-or_none : {X : Type 0} (o : Option X) → o ≡ option_or o None
-or_none None = refl
-or_none (Some x) = refl
 
 last_by : {X : Type 0} (f : Body → Option X) → TellsNothing None f → (b : Body) (h : List Entry) → last_some (λ e. f e.body) (stored h) ≡ last_some (λ e. f e.body) h → last_some (λ e. f e.body) (map unnumbered (cond (is_stored b) (b ∷ bodies h) (bodies h))) ≡ option_or (last_some (λ e. f e.body) h) (f b)
 last_by f none (Fault breaking) h ih = ih ∙ or_none (last_some (λ e. f e.body) h) ∙ ap (λ o. option_or (last_some (λ e. f e.body) h) o) (sym (none breaking))

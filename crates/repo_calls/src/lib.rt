@@ -3,9 +3,14 @@
 #![tactic(auto)]
 
 pub mod ask;
+pub mod calls;
+pub mod laws;
 pub mod log;
 pub mod refusal;
+pub mod seat;
 
 pub use ask::{Ask, Granted, Landed};
+pub use calls::{AskFault, ChangeFault, Question, Seen};
 pub use log::{LogEntry, LogPage};
 pub use refusal::Refusal;
+pub use seat::Seat;

@@ -20,6 +20,7 @@ use Rattle.history_model.specs.Bookmark.{is_name}
 use Rattle.history_model.specs.History.{Body, Content, Change, Book, Land, changesets_in}
 use Rattle.history_model.specs.Journal.{optional_id, IsPayload, most_payload}
 use Rattle.history_model.specs.Payload.{bookmark_name, flagged, optional, encoded, book, landing, content, upload, by_mark, body, payload_body}
+use Rattle.byte_fields.proofs.Booleans.{ok_some as result_ok_some}
 
 abbrev pub IsAccepted : Body → List ℕ → Type 0
 IsAccepted b bytes = IsPayload b bytes × (length (changesets_in b) < 2 ^ 16)
@@ -64,10 +65,6 @@ optional_ok bytes x rest fits e =
     let step = bind_ok (number w8 (λ n. nat_lt n 2) bytes) flagged (x, rest) whole in
     let flag = byte_ok (λ n. nat_lt n 2) bytes step.0.0 step.0.1 fits step.1 in
     flagged_ok step.0.0 bytes step.0.1 x rest flag.keeps flag.took step.2
-
-result_ok_some : {A E : Type 0} (r : Result A E) (x : A) → result_ok r ≡ Some x → r ≡ Ok x
-result_ok_some (Ok y) x e = cc
-result_ok_some (Err d) x e = absurd (cc)
 
 IsBytes-front : (a b : List ℕ) → IsBytes (a ++ b) → IsBytes a
 IsBytes-front a b h = subst IsBytes (take-append_seam a b) (IsBytes-take (length a) (a ++ b) h)

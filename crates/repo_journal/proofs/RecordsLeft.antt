@@ -3,7 +3,6 @@ use Rattle.std.proofs.Common.{◌≡◌, ℕ, suc, ◌+◌, ◌-◌, ◌<◌, �
 use Rattle.std.specs.Prelude.{Option, None, Some, true, false, nat_lt, slice_index, ◌==◌}
 use Rattle.std.specs.Int.{w32, from_be_bytes, to_be_bytes}
 use Rattle.std.proofs.lemmas.List.{length-append, length-drop, length-take, drop-drop, drop-take, take-take, append-nil}
-use Rattle.std.proofs.lemmas.Bool.Decides.{nat_tests}
 use Rattle.std.proofs.Math.Seq.{drop-append_seam}
 use Rattle.byte_fields.proofs.FieldLemmas.{spelled_32}
 use Rattle.history_model.specs.Journal.{open_record}
@@ -14,6 +13,8 @@ use Rattle.repo_journal.specs.Scanning.{head_step, open_step, sized_step, step_o
 use Rattle.repo_journal.proofs.Windows.{gate_by_head}
 use Rattle.repo_journal.specs.Payloads.{records}
 use Rattle.repo_journal.specs.Spans.{HasRecords, first_span, spans_from}
+use Rattle.blob_disk.proofs.Memories.{ltb-not as not_less}
+use Rattle.history_model.proofs.Clashes.{same_some as some_same}
 
 length-open_record : (payload : List ℕ) → length (open_record payload) ≡ 5 + length payload
 length-open_record payload =
@@ -55,13 +56,6 @@ later_records {gate} {size} {file} payload later has = record {
     far : gate + 5 + length payload ≡ gate + length (open_record payload)
     far = let len = length-open_record payload in omega arith
 
-some_same : {A : Type 0} (x y : A) → Some x ≡ Some y → x ≡ y
-some_same x y is = ap (λ o. given_or x o) is
-  where
-    given_or : {A : Type 0} → A → Option A → A
-    given_or x None = x
-    given_or x (Some y) = y
-
 -- ---- what stands at a gate
 
 abbrev pub span_of : Step → Option Span
@@ -78,9 +72,6 @@ last_gate : (gate : ℕ) (bytes : List ℕ) → length bytes ≡ 1 → span_of (
 last_gate gate [] one = absurd (omega arith)
 last_gate gate (mark ∷ []) one = elim (mark == 1) as (λ b. span_of (cond b (open_step gate []) Closed) ≡ None) [ true ↦ refl | false ↦ refl ]
 last_gate gate (mark ∷ (b ∷ bytes)) one = absurd (omega arith)
-
-not_less : (a b : ℕ) → b ≤ a → nat_lt a b ≡ false
-not_less a b less = grind (arith, nat_tests)
 
 whole_step : (gate len left : ℕ) → len ≤ left → sized_step gate len left ≡ Record (record { at = gate + 5; length = len })
 whole_step gate len left fits = ap (λ b. cond b (Bad gate) (Record (record { at = gate + 5; length = len }))) (not_less left len fits)

@@ -11,8 +11,8 @@ use Rattle.changeset_model.specs.Changeset.{Changeset}
 use Rattle.history_model.specs.History.{Known, is_known}
 use Rattle.bonsai.specs.declared.change.Change as changes
 use Rattle.bonsai.specs.declared.change.Change.TheVariants as change
-use Rattle.file_kind.specs.declared.kind.FileKind as kinds
-use Rattle.file_kind.specs.Kinds.{kind_view}
+use Rattle.bonsai.specs.declared.kind.FileKind as kinds
+use Rattle.bonsai.specs.Kinds.{kind_view}
 use Rattle.bonsai.specs.View.{change_view, edit_view, edits_view}
 use Rattle.bonsai.specs.declared.edit.Edit as edits
 use Rattle.reply_model.specs.Reply as reply

@@ -21,6 +21,7 @@ use Rattle.repo_machine.specs.declared.place.Place.{Place}
 use Rattle.repo_machine.specs.Indexes.{AreIndexes, StandsAt, AreAt}
 use Rattle.repo_machine.specs.Entering.{Enterable}
 use Rattle.repo_machine.proofs.Judging.{entered_made}
+use Rattle.byte_fields.proofs.Booleans.{or_false}
 
 record_length : (h : List Entry) (who : ℕ) (body : Body) → is_stored body ≡ true → journal.size (h ++ entry_by who body ∷ []) ≡ journal.size h + 5 + payload_len body
 record_length h who body stored = size-push h (entry_by who body) ∙ ap (λ b. journal.size h + cond b (record_len body) 0) stored ∙ omega arith
@@ -31,10 +32,6 @@ stored_stands (Change c) e = refl
 stored_stands (Book move) e = refl
 stored_stands (Land landing) e = refl
 stored_stands (Fault breaking) e = absurd cc
-
-or_false : (b : Bool) → (b || false) ≡ b
-or_false true = refl
-or_false false = refl
 
 down_pushed : (h : List Entry) (who : ℕ) (body : Body) → is_down (h ++ entry_by who body ∷ []) ≡ (is_down h || is_breaking body)
 down_pushed h who body = list_any-append (λ e. is_breaking e.body) h (entry_by who body ∷ []) ∙ ap (λ b. is_down h || b) (or_false (is_breaking body))

@@ -10,7 +10,7 @@ use Rattle.std.specs.Ordering.{is_eq, nat_cmp}
 use Rattle.std.specs.Cmp.Lexicographic.{slice_cmp}
 use Rattle.std.proofs.lemmas.Map.Text.{is_eq-slice_cmp}
 use Rattle.byte_fields.specs.Bytes.{Id, last_of, last_some}
-use Rattle.byte_fields.proofs.Lists.{first_some-append, option_or-None, option_or-assoc}
+use Rattle.byte_fields.proofs.Lists.{first_some-append, option_or-None}
 use Rattle.changeset_model.specs.Changeset.{Changeset, id_of}
 use Rattle.history_model.specs.History.{Body, Content, Change, Book, Land, Move, Landing, Entry, with_id, known, is_known, content_len, length_in}
 use Rattle.history_model.specs.Bookmark.{moved_to, head}
@@ -19,12 +19,9 @@ use Rattle.reply_model.proofs.Parents.{brought}
 use Rattle.reply_model.proofs.Lines.{known-append}
 use Rattle.changeset_store.proofs.Numbering.{not_some}
 use Rattle.changeset_store.proofs.KnownOnce.{is_known-once}
+use Rattle.reply_model.proofs.Parents.{last_some-push}
 
 -- ---- heads
-
-last_some-push : {X Y : Type 0} (f : X → Option Y) (xs : List X) (x : X) → last_some f (xs ++ x ∷ []) ≡ option_or (f x) (last_some f xs)
-last_some-push f [] x = sym (option_or-None (f x))
-last_some-push f (y ∷ xs) x = ap (λ o. option_or o (f y)) (last_some-push f xs x) ∙ option_or-assoc (f x) (last_some f xs) (f y)
 
 pub head-push : (h : List Entry) (who : ℕ) (body : Body) (name : List ℕ) → head (h ++ entry_by who body ∷ []) name ≡ option_flatten (option_or (moved_to name body) (last_some (λ e. moved_to name e.body) h))
 head-push h who body name = ap option_flatten (last_some-push (λ e. moved_to name e.body) h (entry_by who body))

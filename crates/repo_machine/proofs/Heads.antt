@@ -1,7 +1,6 @@
 -- How many bookmarks have a head, by an ordered map of all heads.
-use Rattle.std.proofs.Common.{◌≡◌, ℕ, suc, Bool, true, false, cond, ◌||◌, List, [], ◌∷◌, ◌++◌, length, refl, sym, ap, subst, ◌∙◌}
+use Rattle.std.proofs.Common.{◌≡◌, ℕ, suc, Bool, true, false, cond, List, [], ◌∷◌, ◌++◌, length, refl, sym, ap, subst, ◌∙◌}
 use Rattle.std.specs.Prelude.{◌&&◌, Option, None, Some, option_map, filter, bytes_eq, is_some}
-use mathlib.Core.Bool.{true≢false}
 use Rattle.std.specs.List.{IsDistinct}
 use Rattle.std.specs.Set.{is_member}
 use Rattle.std.specs.Map.{keys_of, values_of, lookup}
@@ -20,12 +19,9 @@ use Rattle.changeset_model.specs.Changeset.{id_of}
 use Rattle.history_model.specs.History.{Body, Content, Change, Book, Land, Fault, Entry}
 use Rattle.history_model.specs.Bookmark.{moved_to, head}
 use Rattle.repo_machine.specs.Counting.{names_in, names, bookmarks}
+use Rattle.byte_fields.proofs.Booleans.{neither}
 
 -- ---- the names
-
-neither : (a b : Bool) → (a || b) ≡ false → (a ≡ false) × (b ≡ false)
-neither true b e = absurd (true≢false e)
-neither false b e = (refl, e)
 
 unnamed_by : (name : List ℕ) (body : Body) (rest : List (List ℕ)) → is_member bytes_eq (names_in body ++ rest) name ≡ false → (moved_to name body ≡ None) × (is_member bytes_eq rest name ≡ false)
 unnamed_by name (Content x n) rest e = (refl, e)

@@ -1,15 +1,13 @@
 -- A landing is entered.
-use Rattle.std.proofs.Common.{◌≡◌, ℕ, ◌<◌, Bool, true, false, List, [], ◌∷◌, ◌++◌, map, length, refl, sym, ap, subst, ◌∙◌, arith}
+use Rattle.std.proofs.Common.{◌≡◌, ℕ, ◌<◌, Bool, true, false, List, [], ◌∷◌, ◌++◌, map, length, sym, ap, subst, ◌∙◌}
 use Rattle.std.specs.Prelude.{◌&&◌}
 use Rattle.std.specs.List.{AllByRecursion}
 use Rattle.std.proofs.lemmas.List.{append_assoc, append-nil}
 use Rattle.byte_fields.specs.Bytes.{Id}
-use Rattle.changeset_model.specs.Changeset.{Changeset, id_of}
+use Rattle.changeset_model.specs.Changeset.{Changeset}
 use Rattle.history_model.specs.History as model
-use Rattle.history_model.specs.Pushrebase.{on_parent, rewrite}
 use Rattle.history_model.specs.Journal.{Header}
 use Rattle.reply_model.specs.Reply as reply
-use Rattle.reply_model.specs.Reply.{LandDraft, judge, enter_landing}
 use Rattle.reply_model.specs.After.{entry_by}
 use Rattle.changeset_store.specs.Store.{changeset_at}
 use Rattle.repo_machine.specs.declared.records.LandRecord.{LandRecord}
@@ -22,10 +20,6 @@ use Rattle.repo_machine.proofs.Within.{history_pushed, within_pushed}
 use Rattle.changeset_store.proofs.Added.{adds_some, can_add}
 
 -- ---- what is entered
-
-pub length-rewrite : (stack : List Changeset) (head : Id) → length (rewrite stack head) ≡ length stack
-length-rewrite [] head = refl
-length-rewrite (c ∷ cs) head = let rest = length-rewrite cs (id_of (on_parent head c)) in omega arith
 
 -- ---- the entry
 

@@ -20,7 +20,9 @@ use Rattle.history_model.proofs.Touched.{unchanged_since_root}
 use Rattle.repo_machine.proofs.LastThat.{last_that_passes}
 use Rattle.reply_model.specs.After.{entry_by}
 use Rattle.reply_model.specs.Legal.{IsLegal}
-use Rattle.reply_model.proofs.Parents.{or_case, or_left, or_right, known_reverse}
+use Rattle.reply_model.proofs.Parents.{known_reverse}
+use Rattle.manifest_model.proofs.Derivations.{or_case}
+use Rattle.history_model.proofs.Landings.{or_left, or_true as or_right}
 use Rattle.reply_model.proofs.Lines.{AreOnce, known_once}
 use Rattle.reply_model.proofs.Landed.{chain_landed}
 use Rattle.repo_machine.specs.Landings.{IsLandable, IsLanding}

@@ -1,5 +1,5 @@
 -- The paths of a stack, as the code reads them, against those of the changesets since.
-use Rattle.std.proofs.Common.{◌≡◌, ℕ, zero, suc, ◌<◌, List, [], ◌∷◌, length, refl, sym, ap, subst, ◌∙◌, arith}
+use Rattle.std.proofs.Common.{◌≡◌, ◌<◌, List, [], length, refl, sym, ap, subst, ◌∙◌, arith}
 use Rattle.std.specs.Prelude.{Option, Some, option_map, slice_index_or}
 use Rattle.std.specs.Borrow.{Bor}
 use Rattle.std.proofs.lemmas.List.{length-map}
@@ -14,11 +14,7 @@ use Rattle.repo_calls.specs.declared.refusal.Refusal.TheVariants as refusals
 use Rattle.repo_machine.specs.Landings.{IsRefusal}
 use Rattle.repo_machine.specs.Clashes.{edited_paths, apart_checked}
 use Rattle.repo_machine.proofs.LandingSteps.{refused_some}
-
-at_place : (ps : List (Bor Path)) (i : ℕ) (p : Bor Path) → i < length ps → p ≡ slice_index_or ps i p → slice_index_or (paths_of ps) i [] ≡ p.now
-at_place [] i p below is = absurd (omega arith)
-at_place (q ∷ ps) zero p below is = ap (λ p. p.now) (sym is)
-at_place (q ∷ ps) (suc i) p below is = at_place ps i p (omega arith) is
+use Rattle.path_conflict.proofs.Kept.{path_at as at_place}
 
 pub is_within : (outer : List (Bor Path)) (seen : List Path) (m : Met) → IsBest (paths_of outer) seen (Some m) → m.place < length outer
 is_within outer seen m best = let inside = best.0 in omega (arith, length-map outer (λ (p : Bor Path). p.now))

@@ -1,6 +1,6 @@
 -- What is planned, over the indexes.
 use Rattle.std.proofs.Common.{◌≡◌, ℕ, Bool, true, false, not, List, refl, sym, ap, subst, ◌∙◌}
-use Rattle.std.specs.Prelude.{Option, None, Some, Ok, IfSome, ok_or}
+use Rattle.std.specs.Prelude.{Option, None, Some, Ok, ok_or}
 use Rattle.byte_fields.specs.Bytes.{Id}
 use Rattle.changeset_model.specs.Path.{Path}
 use Rattle.changeset_model.specs.Changeset.{Changeset, touched_paths}
@@ -22,6 +22,7 @@ use Rattle.repo_machine.specs.Landings.{IsRefusal, forking, lengths_checked, pat
 use Rattle.changeset_store.proofs.KnownOnce.{is_known-once}
 use Rattle.repo_machine.proofs.Uploading.{known_as}
 use Rattle.repo_machine.proofs.LandingSteps.{is_short, none_refused, no_bookmark, fork_refused, lengths_refused, paths_refused}
+use Rattle.reply_model.proofs.Parents.{head_known as from_some}
 
 fork_some_by : (there : Bool) (draft : Id) (found : Option Fork) (f : Fork) → (refuse_if (not there) (reply.NoChangeset draft) >>= λ _. ok_or found reply.NoRoot) ≡ Ok f → found ≡ Some f
 fork_some_by true draft None f e = absurd cc
@@ -37,9 +38,6 @@ known_by false draft found f e = absurd cc
 
 fork_known : (ks : List Known) (old draft : Id) (f : Fork) → forking ks old draft ≡ Ok f → is_known ks draft ≡ true
 fork_known ks old draft f e = known_by (is_known ks draft) draft (fork ks old draft) f e
-
-from_some : (ks : List Known) (o : Option Id) (x : Id) → o ≡ Some x → IfSome o (λ x. is_known ks x ≡ true) → is_known ks x ≡ true
-from_some ks o x e h = subst (λ o. IfSome o (λ x. is_known ks x ≡ true)) e h
 
 module _ {header : Header} {h : List Entry} {ks : List Known} {heads : List ℕ → Option Id} {lengths : Id → Option ℕ} {size : ℕ} {down : Bool} (k : AreIndexes header h ks heads lengths size down) (r : Repository) (is : ◌≡◌ {A = Repository} (record { header = header; history = h }) r) (up : is_down r.history ≡ false) (name : List ℕ) where
   module _ (old : Id) (at : head r.history name ≡ Some old) where

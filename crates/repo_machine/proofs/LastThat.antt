@@ -1,10 +1,8 @@
 -- What is found passes the test.
 use Rattle.std.proofs.Common.{◌≡◌, Bool, true, false, cond, List, [], ◌∷◌, reverse, refl, sym, ap, ◌∙◌}
-use Rattle.std.specs.Prelude.{Option, Some, find, unwrap_or}
+use Rattle.std.specs.Prelude.{Option, Some, find}
 use Rattle.byte_fields.specs.Bytes.{last_that}
-
-same_Some : {X : Type 0} (x y : X) → Some x ≡ Some y → x ≡ y
-same_Some x y h = ap (λ o. unwrap_or o x) h
+use Rattle.history_model.proofs.Clashes.{same_some as same_Some}
 
 passed : {X : Type 0} (p : X → Bool) (x y : X) (o : Option X) (b : Bool) → p x ≡ b → (o ≡ Some y → p y ≡ true) → cond b (Some x) o ≡ Some y → p y ≡ true
 passed p x y o true e later h = ap p (sym (same_Some x y h)) ∙ e

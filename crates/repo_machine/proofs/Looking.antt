@@ -16,6 +16,7 @@ use Rattle.changeset_store.specs.Fork.{IsAncestor, following_at}
 use Rattle.path_conflict.specs.Best.{IsBest}
 use Rattle.path_conflict.specs.declared.lesser.Met.{Met}
 use Rattle.repo_machine.specs.Clashes.{edited_paths}
+use Rattle.ancestry.proofs.Powers.{twice}
 
 -- ---- in any order
 
@@ -43,9 +44,6 @@ pub best_turned : (outer xs ys : List Path) (m : Option Met) → IsBest outer (x
 best_turned outer xs ys m h = best_same outer (xs ++ ys) (ys ++ xs) m (turned ys xs) (turned xs ys) h
 
 -- ---- steps
-
-twice : (e : ℕ) → 2 ^ (e + 1) ≡ 2 ^ e + 2 ^ e
-twice e = omega (arith, pow_more 2 e)
 
 -- a search takes three steps more than the size has digits, at most
 pub few_steps : (before now size digits : ℕ) → before ≤ now → 2 ^ (now - before) ≤ 8 * (2 * size + 1) → size < 2 ^ digits → now ≤ before + (digits + 3)

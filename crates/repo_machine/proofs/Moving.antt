@@ -1,5 +1,5 @@
 -- What is judged of a move, by the heads as they are looked up.
-use Rattle.std.proofs.Common.{◌≡◌, ℕ, Bool, true, false, List, refl, sym, ap, ◌∙◌}
+use Rattle.std.proofs.Common.{◌≡◌, ℕ, true, false, List, sym, ap, ◌∙◌}
 use Rattle.std.specs.Prelude.{Option, None, not, find, bytes_eq}
 use Rattle.std.specs.Option.{option_eq, option_to_list}
 use Rattle.byte_fields.specs.Bytes.{Id}
@@ -8,14 +8,8 @@ use Rattle.history_model.specs.Bookmark.{head}
 use Rattle.history_model.specs.Journal.{Header}
 use Rattle.reply_model.specs.Reply.{SetBookmark, BookmarkSet, judge, entered, unchanged}
 use Rattle.repo_machine.proofs.Judging.{judged_same, judged_moving}
-
-not_not : (b : Bool) → not b ≡ false → b ≡ true
-not_not true e = refl
-not_not false e = absurd cc
-
-not_yes : (b : Bool) → not b ≡ true → b ≡ false
-not_yes true e = absurd cc
-not_yes false e = refl
+use Rattle.byte_fields.proofs.Booleans.{not_false as not_not}
+use Rattle.changeset_model.proofs.Spelling.{is_false as not_yes}
 
 pub not_true : (found h from : Option Id) → found ≡ h → not (option_eq bytes_eq found from) ≡ true → option_eq bytes_eq h from ≡ false
 not_true found h from same e = ap (λ o. option_eq bytes_eq o from) (sym same) ∙ not_yes _ e

@@ -11,7 +11,7 @@ use Rattle.history_model.specs.Pushrebase.{fork, fork_at, rewrite}
 use Rattle.history_model.specs.Journal.{Header, payload_len, most_payload}
 use Rattle.history_model.specs.Journal as journal
 use Rattle.reply_model.specs.Reply as reply
-use Rattle.reply_model.specs.Reply.{LandDraft, judge, enter_landing, entered, most_stack}
+use Rattle.reply_model.specs.Reply.{LandDraft, judge, enter_landing, entered}
 use Rattle.reply_model.proofs.Lines.{known_grows, line_grows}
 use Rattle.repo_calls.specs.declared.refusal.Refusal.{Refusal}
 use Rattle.repo_calls.specs.declared.refusal.Refusal.TheVariants as refusals
@@ -20,7 +20,7 @@ use Rattle.repo_machine.specs.Landings.{IsRefusal, IsLandable}
 use Rattle.repo_machine.specs.Plans.{PlannedLanding, RebasedLanding, IsPlan, landing_in, WasPlanned, PassesPlan, RefusesAs}
 use Rattle.repo_machine.proofs.Judging.{refused_down, prevented}
 use Rattle.repo_machine.proofs.LandingSteps.{forked, fine_lengths, refused_some, refused_none, too_large, fine_payload, judged_planned, payload_refused, collision_refused, judged_landing}
-use Rattle.repo_machine.proofs.LandingEntry.{length-rewrite}
+use Rattle.repo_calls.proofs.Fitting.{length-rewrite}
 
 -- ---- as the history grows
 

@@ -14,7 +14,7 @@ use Rattle.repo_machine.specs.Judged.{Frames}
 use Rattle.repo_machine.specs.Made.{landing_made, HasNumbers}
 use Rattle.repo_machine.specs.Plans.{PlannedLanding, rebased_of, landing_in}
 use Rattle.repo_machine.specs.Recorded.{IsRecorded}
-use Rattle.repo_machine.proofs.LandingEntry.{length-rewrite}
+use Rattle.repo_calls.proofs.Fitting.{length-rewrite}
 
 pub landing_of_plan : (plan : PlannedLanding) (name : List ℕ) (old draft : Id) (new : List Changeset) (l : model.Landing) → l ≡ record { name = name; old = old; draft = draft; new = new } → name ≡ plan.name → old ≡ plan.old → draft ≡ plan.draft → new ≡ rewrite plan.stack plan.old
     → l ≡ landing_in (rebased_of plan)

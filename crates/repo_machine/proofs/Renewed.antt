@@ -25,9 +25,7 @@ use Rattle.repo_machine.specs.Clashes.{edited_paths, apart_checked}
 use Rattle.repo_machine.specs.Plans.{PlannedLanding, IsPlan}
 use Rattle.repo_machine.specs.Again.{WasPlan, since, GoesOn, IsPlannedHead}
 use Rattle.repo_machine.proofs.Planning.{fork_grows, prefix_on}
-
-pub not_both : (b : Bool) → b ≡ true → b ≡ false → ⊥
-not_both b holds fails = absurd cc
+use Rattle.history_model.proofs.Clashes.{not_both}
 
 -- ---- the planned head
 

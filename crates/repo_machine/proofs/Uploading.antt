@@ -16,7 +16,6 @@ use Rattle.bonsai.specs.declared.decode_fault.DecodeFault.{DecodeFault}
 use Rattle.bonsai.specs.declared.decode_fault.DecodeFault.TheVariants as faults
 use Rattle.bonsai.specs.Decodes.{Refuses}
 use Rattle.reply_model.specs.Reply.{Ask, PutChangeset, ChangesetPut, Refusal, Judged, Merge, NoParent, Collision, TooLong, BadEncoding, SelfConflict, judge, entered, unchanged, accepted, refuse_if, refuse_some, content_refusal, collides, ◌>>=◌}
-use Rattle.reply_model.specs.After.{Answer, Asks, Replies}
 use Rattle.repo_calls.specs.declared.refusal.Refusal as refusal
 use Rattle.repo_calls.specs.declared.refusal.Refusal.TheVariants as refusals
 use Rattle.repo_machine.specs.Landings.{IsRefusal}
@@ -24,6 +23,7 @@ use Rattle.repo_machine.specs.Faults.{fault_refusal}
 use Rattle.repo_machine.specs.Indexes.{AreIndexes}
 use Rattle.repo_machine.specs.Checking.{IsFound, parents_refusal, edit_refusal, contents_refusal, collision_refusal}
 use Rattle.repo_machine.proofs.Judging.{judged_up}
+use Rattle.reply_model.proofs.Parents.{all_known as none_unknown}
 
 -- ---- a fault of the bytes
 
@@ -121,10 +121,6 @@ module _ (header : Header) (h : List Entry) (bytes : List ℕ) (up : is_down h �
 unknown_by : (ks : List Known) (p : Id) (ps : List Id) → (find (λ p. not (is_known ks p)) ps ≡ None → AllByRecursion (λ p. is_known ks p ≡ true) ps) → (b : Bool) → is_known ks p ≡ b → cond (not b) (Some p) (find (λ p. not (is_known ks p)) ps) ≡ None → (is_known ks p ≡ true) × AllByRecursion (λ p. is_known ks p ≡ true) ps
 unknown_by ks p ps later true there e = (there, later e)
 unknown_by ks p ps later false there e = absurd cc
-
-none_unknown : (ks : List Known) (ps : List Id) → find (λ p. not (is_known ks p)) ps ≡ None → AllByRecursion (λ p. is_known ks p ≡ true) ps
-none_unknown ks [] e = tt
-none_unknown ks (p ∷ ps) e = unknown_by ks p ps (none_unknown ks ps) (is_known ks p) refl e
 
 no_refusal : (b : Bool) (o : Option Id) → cond b (Some Merge) (option_map NoParent o) ≡ None → o ≡ None
 no_refusal true o e = absurd cc

@@ -1,7 +1,8 @@
 -- Changes that are made ready where no machine is at hand.
 --     IsRefusedAs ask e      it is refused so at each history at which no disk has failed
 --     IsReadyContent bytes id frame, IsReadyChangeset c frame      an upload that may be judged, with its record
---     IsReadyTo ask ready, IsPreparedFor ask p      this is ready of the change
+--     IsReadyTo ask ready      this is ready of the change
+--     asked_by p      the change;  IsPrepared p      what it has is ready of its change;  IsPreparedFor ask p      so it is, and this is the change
 use Rattle.std.specs.Prelude.{◌≡◌, ◌≤◌, ℕ, true, false, List, length, Some, Ok, Err}
 use Rattle.std.specs.Arc.{arc_value}
 use Rattle.sha2.specs.Sha256.{sha256}
@@ -13,7 +14,7 @@ use Rattle.history_model.specs.Journal.{Header}
 use Rattle.reply_model.specs.Reply as reply
 use Rattle.reply_model.specs.Reply.{Ask, judge}
 use Rattle.reply_model.specs.After.{Refuses}
-use Rattle.repo_calls.specs.Calls.{refused}
+use Rattle.repo_calls.specs.Calls.{ask_seen, refused}
 use Rattle.repo_calls.specs.declared.refusal.Refusal as refusals
 use Rattle.repo_machine.specs.declared.prepared.Prepared.{Prepared}
 use Rattle.repo_machine.specs.declared.prepared.Ready.{Ready}
@@ -59,5 +60,12 @@ IsReadyTo ask (ready.Content id frame) = IsContentOf ask id frame.items
 IsReadyTo ask (ready.Changeset framed) = IsChangesetOf ask (arc_value framed.commit) framed.frame.items
 IsReadyTo ask ready.Asked = IsNoUpload ask
 
-abbrev pub IsPreparedFor : Ask → Prepared → Type 0
-IsPreparedFor ask p = IsReadyTo ask p.ready
+abbrev pub asked_by : Prepared → Ask
+asked_by p = ask_seen p.ask.now
+
+abbrev pub IsPrepared : Prepared → Type 0
+IsPrepared p = IsReadyTo (asked_by p) p.ready
+
+pub record IsPreparedFor (ask : Ask) (p : Prepared) : Type 0 where
+  pub asks : asked_by p ≡ ask
+  pub prepared : IsPrepared p

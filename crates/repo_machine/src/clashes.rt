@@ -8,6 +8,7 @@ ghost use Rattle.path_conflict.specs.Best.{IsBest};
 ghost use Rattle.repo_machine.specs.Landings.{Steps as Gives, paths_checked};
 ghost use Rattle.repo_machine.specs.Clashes.{edited_paths, apart_checked};
 
+use ancestry::Steps;
 use bonsai::Edit;
 use changeset_store::{ChangesetStore, Fork};
 use path_conflict::{Met, lesser_clash, outermost};
@@ -16,7 +17,6 @@ use repo_calls::Refusal;
 use repo_path::RepoPath;
 use std::alloc::{AllocError, Global};
 use std::sync::ledger::Ledger;
-use step_count::Steps;
 
 /// The paths that the stack touches, if none of them clashes with one that the range touches. A step is a comparison of two
 /// paths. There are at most three more than the binary digits of the number of these paths for each edit of the range.

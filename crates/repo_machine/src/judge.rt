@@ -25,6 +25,6 @@ impl Machine {
     {
         self.check_up()?;
         let prepared = prepare(alloc, ask)?;
-        self.judge_prepared(alloc, who, ask, prepared)
+        self.judge_prepared(alloc, who, prepared)
     }
 }

@@ -15,6 +15,7 @@ ghost use Rattle.repo_machine.specs.Plans.{IsPlan};
 
 use crate::clashes::touched_apart;
 use crate::machine::Machine;
+use ancestry::Steps;
 use bonsai::Commit;
 use changeset_store::{ChangesetStore, Fork};
 use object_id::Id;
@@ -25,7 +26,6 @@ use std::alloc::Global;
 use std::marker::{Brand, Model};
 use std::sync::Arc;
 use std::sync::ledger::{Blank, Ledger};
-use step_count::Steps;
 
 /// The most changesets of a head's chain since the root.
 const MOST_RANGE: u32 = 10_000;

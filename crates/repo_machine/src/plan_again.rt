@@ -17,13 +17,13 @@ ghost use Rattle.repo_machine.specs.Plans.{IsPlan};
 use crate::clashes::check_apart;
 use crate::machine::Machine;
 use crate::plan::{Plan, check_lengths, fork_from};
+use ancestry::Steps;
 use changeset_store::{ChangesetStore, Fork};
 use object_id::Id;
 use repo_calls::Refusal;
 use repo_path::RepoPath;
 use std::alloc::{AllocError, Global};
 use std::sync::ledger::Ledger;
-use step_count::Steps;
 
 impl Machine {
     /// Plans a landing again, as it would be planned now. Where the bookmark's head went on from the planned one, and the

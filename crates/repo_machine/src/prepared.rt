@@ -12,7 +12,7 @@ ghost use Rattle.repo_machine.specs.Entering.{Judges};
 ghost use Rattle.repo_machine.specs.Faults.{fault_refusal};
 ghost use Rattle.repo_machine.specs.Judged.{Frames};
 ghost use Rattle.repo_machine.specs.Landings.{IsRefusal};
-ghost use Rattle.repo_machine.specs.Prepared.{IsPreparedFor, IsReadyChangeset, IsReadyTo};
+ghost use Rattle.repo_machine.specs.Prepared.{IsPrepared, IsPreparedFor, IsReadyChangeset, IsReadyTo, asked_by};
 
 use crate::judged::Judged;
 use crate::machine::Machine;
@@ -42,10 +42,11 @@ pub(crate) enum Ready {
     Asked,
 }
 
-/// What is ready of a change: an upload is hashed, decoded and put into its record, or it is known to be refused, so that a
-/// machine judges it without that work.
+/// A change, and what is ready of it: an upload is hashed, decoded and put into its record, or it is known to be refused, so
+/// that a machine judges it without that work.
 #[derive(Drop)]
-pub struct Prepared {
+pub struct Prepared<'a> {
+    pub(crate) ask: &'a Ask<'a>,
     pub(crate) ready: Ready,
 }
 
@@ -55,17 +56,16 @@ impl Machine {
         &mut self,
         alloc: Global,
         who: u64,
-        ask: &Ask,
-        prepared: Prepared,
+        prepared: Prepared<'_>,
     ) -> Result<Judged, Refusal>
-        requires prepared { IsPreparedFor (ask_seen ask.now) prepared }
-        ensures ok { IfOk result (Judges self.old.header self.old.history self.new.room who (ask_seen ask.now)) }
-        ensures err { IfErr result (IsRefusal (judge self.old.header self.old.history (ask_seen ask.now))) }
+        requires prepared { IsPrepared prepared }
+        ensures ok { IfOk result (Judges self.old.header self.old.history self.new.room who (asked_by prepared.entry)) }
+        ensures err { IfErr result (IsRefusal (judge self.old.header self.old.history (asked_by prepared.entry))) }
         ensures header { self.new.header ≡ self.old.header }
         ensures history { self.new.history ≡ self.old.history }
         ensures legal { IsLegal self.old.header self.old.history }
     {
-        let Prepared { ready } = prepared;
+        let Prepared { ask, ready } = prepared;
         match *ask {
             Ask::PutContent(bytes) => match ready {
                 Ready::Refused(refusal) => self.refuse(refusal),
@@ -84,7 +84,7 @@ impl Machine {
 }
 
 /// Makes a change ready: all of its work that needs no machine. A content's bytes are copied once, into its record.
-pub fn prepare(alloc: Global, ask: &Ask) -> Result<Prepared, AllocError>
+pub fn prepare<'a>(alloc: Global, ask: &'a Ask<'a>) -> Result<Prepared<'a>, AllocError>
     ensures { IfOk result (IsPreparedFor (ask_seen ask.now)) }
 {
     let ready = match *ask {
@@ -92,7 +92,7 @@ pub fn prepare(alloc: Global, ask: &Ask) -> Result<Prepared, AllocError>
         Ask::PutChangeset(bytes) => ready_changeset(alloc, bytes)?,
         Ask::SetBookmark { .. } | Ask::Land { .. } => Ready::Asked,
     };
-    Ok(Prepared { ready })
+    Ok(Prepared { ask, ready })
 }
 
 fn ready_content(alloc: Global, bytes: &[u8]) -> Result<Ready, AllocError>

@@ -8,14 +8,15 @@ use Rattle.std.proofs.lemmas.Str.{IsUtf8-from_is_utf8, IsUtf8-append}
 use Rattle.byte_fields.specs.Bytes.{is_line}
 use Rattle.changeset_model.specs.Path.{Path, elements, text_of, is_element, is_path, element_fault, path_fault}
 use Rattle.std.proofs.lemmas.List.{length-take, length-drop, take_all}
-use Rattle.repo_path.proofs.Elements.{some_elements, text_of-elements}
+use Rattle.changeset_model.proofs.Accepting.{elements_some as some_elements, text_of-elements}
 use Rattle.repo_path.proofs.Fronts.{elements-first, elements-only}
+use Rattle.byte_fields.proofs.Booleans.{and_false}
 
-first_of_two : (a b : Bool) → (a && b) ≡ true → a ≡ true
+pub first_of_two : (a b : Bool) → (a && b) ≡ true → a ≡ true
 first_of_two true b h = refl
 first_of_two false b h = absurd (cc)
 
-second_of_two : (a b : Bool) → (a && b) ≡ true → b ≡ true
+pub second_of_two : (a b : Bool) → (a && b) ≡ true → b ≡ true
 second_of_two true b h = h
 second_of_two false b h = absurd (cc)
 
@@ -34,10 +35,6 @@ unruled_by at n f p ih false e = refl
 unruled : (at n : ℕ) (p : Path) → element_fault at p ≡ Some n → list_all is_element p ≡ false
 unruled at n [] e = absurd (cc)
 unruled at n (f ∷ p) e = unruled_by at n f p (unruled (at + length f + 1) n p) (is_element f) e
-
-and_false : (b : Bool) → (b && false) ≡ false
-and_false true = refl
-and_false false = refl
 
 kept : (text : List ℕ) → length text ≤ 4096 → list_all is_element (elements text) ≡ true → is_path (elements text) ≡ true
 kept text short all = (λ i. lt-ltb 0 (length (elements text)) (some_elements text) i && all i && fits i)

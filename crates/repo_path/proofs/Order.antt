@@ -11,7 +11,8 @@ use Rattle.std.proofs.lemmas.Bool.Decides.{nat_tests}
 use Rattle.std.proofs.lemmas.List.{drop_more, drop_all, length-drop}
 use Rattle.changeset_model.specs.Path.{Path, elements, path_eq, path_cmp}
 use Rattle.repo_path.specs.Order.{path_eq_ties}
-use Rattle.repo_path.proofs.Elements.{elements_by, some_elements}
+use Rattle.repo_path.proofs.Elements.{elements_by}
+use Rattle.changeset_model.proofs.Accepting.{elements_some as some_elements}
 
 abbrev pub rank : ℕ → ℕ
 rank b = cond (b == 0x2F) 0 (b + 1)

@@ -6,7 +6,8 @@ use Rattle.std.specs.Cmp.Lexicographic.{pointwise}
 use Rattle.std.proofs.lemmas.Bool.{eqb-true, eqb-false, eq-eqb, ne_eqb, lt-ltb}
 use Rattle.changeset_model.specs.Path.{Path, elements, is_prefix, is_strict_prefix, comparable}
 use Rattle.changeset_model.proofs.Texts.{alike, alike-comparable}
-use Rattle.repo_path.proofs.Elements.{elements_by, some_elements}
+use Rattle.repo_path.proofs.Elements.{elements_by}
+use Rattle.changeset_model.proofs.Accepting.{elements_some as some_elements}
 
 abbrev slash_first : List ℕ → Bool
 slash_first [] = false

@@ -9,8 +9,8 @@ use Rattle.reply_model.specs.Reply.{Ask, Granted, judge, ContentOf, LogFrom, See
 use Rattle.reply_model.specs.Log.{log_lines}
 use Rattle.repo_calls.specs.declared.log.LogPage.{LogPage}
 use Rattle.repo_calls.specs.Calls.{lines_seen}
-use Rattle.seat_calls.specs.declared.calls.Seen.TheVariants.{Log}
-use Rattle.seat_calls.specs.Asking.{IsAnswer}
+use Rattle.repo_calls.specs.declared.calls.Seen.TheVariants.{Log}
+use Rattle.repo_calls.specs.Asking.{IsAnswer}
 use Rattle.reply_model.specs.After.{Call, Asks, Looks, Answer, Shows, Lacks, DiskFault, ReadFault, BadBytes, Answers, Replies, nothing, only_fault}
 
 pub unmade : (header : Header) (h : List Entry) (who : ℕ) (call : Call) (answer : Answer) → Answers header h call answer nothing → Replies header h who call answer h

@@ -1,19 +1,9 @@
 -- Calls of a disk one after another.
-use Rattle.std.proofs.Common.{ℕ, List, ◌∙◌, arith}
+use Rattle.std.proofs.Common.{ℕ, List, arith}
 use Rattle.std.specs.Prelude.{◌⊎◌}
 use mathlib.Core.Logic.{inl, inr}
 use Rattle.disk_model.specs.Meaning.{Meaning, LeftSince}
 use Rattle.disk_model.specs.Calls.{Kept, LeavesOnly}
-
-pub kept_then : (a b c : Meaning) → Kept a b → Kept b c → Kept a c
-kept_then a b c p q = record {
-  honest = q.honest ∙ p.honest;
-  quiet = q.quiet ∙ p.quiet;
-  no_shorter = λ n l. q.no_shorter n (p.no_shorter n l);
-  later = (let first = p.later in let second = q.later in omega arith);
-  told = q.told ∙ p.told;
-  remembers = λ t image l. q.remembers t image (p.remembers t image l);
-}
 
 pub leaves_map : {P Q : List ℕ → Type 0} (a b : Meaning) → ((image : List ℕ) → P image → Q image) → LeavesOnly P a b → LeavesOnly Q a b
 leaves_map {P} {Q} a b f p = record {

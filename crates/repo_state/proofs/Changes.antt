@@ -6,7 +6,7 @@ use Rattle.disk_model.specs.Meaning.{Meaning}
 use Rattle.history_model.specs.History.{Fault, Entry, is_down, is_stored}
 use Rattle.history_model.specs.Journal.{Header, IsPayload, Stands, size}
 use Rattle.reply_model.specs.Legal.{MayFollow}
-use Rattle.turn_history.specs.Opening.{Opening}
+use Rattle.bookmark_lock.specs.Opening.{Opening}
 use Rattle.repo_state.specs.Images.{LeavesChange, StandsNow}
 use Rattle.repo_state.specs.State.{IsSound}
 use Rattle.repo_state.proofs.Chains.{leaves_map, leaves_nothing}

@@ -8,7 +8,7 @@ use Rattle.disk_model.specs.Meaning as disk
 use Rattle.history_model.specs.History.{Content, Entry}
 use Rattle.history_model.specs.Journal.{Header, Stands, size}
 use Rattle.opening_laws.proofs.Places.{content_place}
-use Rattle.turn_history.specs.Opening.{Opening}
+use Rattle.bookmark_lock.specs.Opening.{Opening}
 use Rattle.repo_state.specs.Images.{StandsNow}
 use Rattle.repo_state.specs.State.{IsSound}
 use Rattle.repo_state.proofs.Stands.{size-split}

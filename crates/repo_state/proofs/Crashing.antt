@@ -10,8 +10,8 @@ use Rattle.history_model.specs.Journal.{Header, Stands}
 use Rattle.reply_model.proofs.Histories.{bodies-append}
 use Rattle.reply_model.proofs.Stored.{bodies-stored}
 use Rattle.core_model.specs.Core.{State, Sealing, LeftOver, reopened}
-use Rattle.step_laws.specs.Steps.{IsLeft, Shows}
-use Rattle.turn_history.specs.Opening.{Opening}
+use Rattle.landing_core.specs.Steps.{IsLeft, Shows}
+use Rattle.bookmark_lock.specs.Opening.{Opening}
 use Rattle.repo_state.specs.Cores.{CrashLeaves, CrashesOf}
 use Rattle.repo_state.specs.Images.{StandsNow}
 use Rattle.repo_state.specs.State.{IsSound}

@@ -7,10 +7,7 @@ use Rattle.std.proofs.lemmas.Slice.Eq.{bytes_eq-Decides}
 use Rattle.byte_fields.specs.Bytes.{Id}
 use Rattle.history_model.specs.History.{Entry}
 use Rattle.history_model.specs.Bookmark.{head}
-
-not_not : (b : Bool) → not b ≡ false → b ≡ true
-not_not true e = refl
-not_not false e = absurd cc
+use Rattle.byte_fields.proofs.Booleans.{not_false as not_not}
 
 same_by : (found : Option Id) (old : Id) → not (option_eq bytes_eq found (Some old)) ≡ false → found ≡ Some old
 same_by None old e = absurd cc

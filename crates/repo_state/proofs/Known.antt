@@ -1,26 +1,24 @@
 -- The known changesets of a legal history, as manifests in memory want them: each under its id and once, after its parents, and of trees that can be counted.
-use Rattle.std.proofs.Common.{◌≡◌, ℕ, suc, ◌+◌, ◌*◌, ◌<◌, ◌≤◌, ◌^◌, Bool, true, false, cond, not, ◌&&◌, List, [], ◌∷◌, ◌++◌, map, length, reverse, refl, sym, ap, subst, ◌∙◌, arith, length-append}
+use Rattle.std.proofs.Common.{◌≡◌, ℕ, suc, ◌+◌, ◌*◌, ◌≤◌, Bool, true, false, cond, not, List, [], ◌∷◌, ◌++◌, map, length, reverse, refl, sym, ap, subst, ◌∙◌, arith, length-append}
 use Rattle.std.specs.Prelude.{filter, flat_map, sum_by, bytes_eq, nat_le}
 use Rattle.std.specs.List.{AllByRecursion, concat}
 use Rattle.std.specs.Int.{w8, w16, w32, w64, to_be_bytes, cast_unsigned}
 use mathlib.Core.Bool.{true≢false}
-use mathlib.Core.List.{reverse-cons}
-use Rattle.std.proofs.lemmas.Bool.{and_parts, leb-true, false_from_ne_true}
+use Rattle.std.proofs.lemmas.Bool.{and_parts, leb-true}
 use Rattle.std.proofs.lemmas.List.{length-map, reverse-reverse}
 use Rattle.std.proofs.lemmas.List.Sums.{sum_by-cons}
-use Rattle.byte_fields.specs.Bytes.{Id, sized, is_bytes}
-use Rattle.byte_fields.proofs.Lists.{both_parts}
+use Rattle.byte_fields.specs.Bytes.{Id, sized}
 use Rattle.changeset_model.specs.Changeset.{Changeset, edit_bytes, spelling, is_changeset}
 use Rattle.history_model.specs.History.{Body, Content, Change, Book, Land, Fault, Entry, Known, bodies, is_stored, changesets_in, with_id, each_id_once, known}
-use Rattle.history_model.specs.Chain.{HasParents, line, chain, changesets}
+use Rattle.history_model.specs.Chain.{HasParents, line, changesets}
 use Rattle.history_model.specs.Journal.{Header, is_header, payload_len, record_len, size}
 use Rattle.manifest_laws.specs.Bounds.{changesets_of}
 use Rattle.manifest_laws.proofs.Bounds.{all_line, line_ids, line_clear, files_counted}
-use Rattle.manifest_laws.proofs.Lists.{all_reverse, behind_long}
+use Rattle.manifest_laws.proofs.Lists.{behind_long}
+use Rattle.byte_fields.proofs.Lists.{all_reverse}
 use Rattle.reply_model.specs.Legal.{IsLegal}
 use Rattle.reply_model.proofs.Parents.{HasParents-known}
-use Rattle.reply_model.proofs.Lines.{AreOnce, known_once, known-append}
-use Rattle.opening_laws.proofs.Lists.{all_append, all_filter}
+use Rattle.reply_model.proofs.Lines.{known_once, known-append}
 use Rattle.opening_laws.proofs.Rules.{all_rules, all_clear}
 use Rattle.opening_laws.proofs.Sizes.{history_fits}
 use Rattle.changeset_store.specs.Store.{known_at}
@@ -28,17 +26,15 @@ use Rattle.changeset_store.specs.Numbers.{AreApart}
 use Rattle.changeset_store.specs.declared.store.TheConstants.{MOST_CHANGESETS}
 use Rattle.changeset_store.proofs.Numbering.{each_once}
 use Rattle.derive_step.specs.Jobs.{IsRight}
-use Rattle.manifest_store.specs.Lines.{line_at, IsStore}
+use Rattle.manifest_store.specs.Lines.{IsStore}
 use Rattle.manifest_store.specs.Manifests.{AreRight, AreManifests}
 use Rattle.manifest_store.proofs.Settled.{still}
 use Rattle.node_table.specs.Table.{Table}
 use Rattle.repo_state.specs.Manifests.{HasManifests}
+use Rattle.manifest_laws.proofs.Bounds.{all_changesets, all_once, all_with_id}
+use Rattle.manifest_store.proofs.Lines.{apart_of}
 
 -- ---- each under its id, and once
-
-all_once : (P : Known → Type 0) (ks : List Known) → AllByRecursion P ks → AllByRecursion P (each_id_once ks)
-all_once P [] all = tt
-all_once P (k ∷ ks) all = (all.0, all_filter P (λ later. not (bytes_eq k.id later.id)) (each_id_once ks) (all_once P ks all.1))
 
 abbrev HasItsId : Known → Type 0
 HasItsId k = with_id k.changeset ≡ k
@@ -50,10 +46,6 @@ have_ids (c ∷ cs) = (refl, have_ids cs)
 same_ids : (ks : List Known) → AllByRecursion HasItsId ks → map with_id (changesets ks) ≡ ks
 same_ids [] all = refl
 same_ids (k ∷ ks) all = λ i. all.0 i ∷ same_ids ks all.1 i
-
-apart_of : (ks : List Known) → AreOnce ks → AreApart ks
-apart_of [] u = tt
-apart_of (k ∷ ks) u = (false_from_ne_true _ u.0, apart_of ks u.1)
 
 pub known_apart : (h : List Entry) → AreApart (reverse (known h))
 known_apart h = apart_of (reverse (known h)) (known_once h)
@@ -149,14 +141,6 @@ is_store header h limits legal = record {
 }
 
 -- ---- of trees that can be counted
-
-all_with_id : (P : Changeset → Type 0) (cs : List Changeset) → AllByRecursion P cs → AllByRecursion (λ (k : Known). P k.changeset) (map with_id cs)
-all_with_id P [] all = tt
-all_with_id P (c ∷ cs) all = (all.0, all_with_id P cs all.1)
-
-all_changesets : (P : Changeset → Type 0) (ks : List Known) → AllByRecursion (λ k. P k.changeset) ks → AllByRecursion P (changesets ks)
-all_changesets P [] all = tt
-all_changesets P (k ∷ ks) all = (all.0, all_changesets P ks all.1)
 
 line_rules : (h : List Entry) (x : Id) (P : Changeset → Type 0) → AllByRecursion P (changesets_of h) → AllByRecursion P (changesets (line (known h) x))
 line_rules h x P all =

@@ -5,8 +5,8 @@ use Rattle.history_model.specs.Journal.{Header}
 use Rattle.reply_model.specs.Legal.{IsLegal}
 use Rattle.reply_model.specs.Reply.{Ask, PutContent, PutChangeset, SetBookmark, LandDraft, Granted, ContentPut, ChangesetPut, BookmarkSet, Landed}
 use Rattle.reply_model.specs.After.{Asks, Grants, Replies}
-use Rattle.seat_calls.proofs.Lawful.{alone}
-use Rattle.landing_laws.proofs.Landing.{replied_trees}
+use Rattle.repo_calls.proofs.Lawful.{alone}
+use Rattle.repo_state.proofs.Landing.{replied_trees}
 use Rattle.repo_state.specs.Trees.{LandsAs}
 
 lands_at : (header : Header) (h : List Entry) (who : ℕ) (ask : Ask) (granted : Granted) (new : List Entry) → IsLegal header new → Replies header h who (Asks ask) (Grants granted) new → LandsAs ask granted h new

@@ -14,7 +14,8 @@ use Rattle.repo_journal.specs.Sealing.{Appends, IsAfter, IsBeforeOrAfter}
 use Rattle.repo_journal.proofs.Histories.{keeps_stands, adds_stands}
 use Rattle.repo_state.specs.Images.{CouldFollow, Leaves, StandsNow, StandsForFirst, StandsSince}
 use Rattle.repo_state.proofs.Chains.{leaves_map, leaves_then}
-use Rattle.repo_state.proofs.Stands.{bodies-fault, stored-same, with-same, now-same, now-since, first_all, first_push, nothing_left, is_down-stored_push, is_down-fault, is_down-breaking, length-push}
+use Rattle.repo_state.proofs.Stands.{bodies-fault, stored-same, with-same, now-same, now-since, first_all, first_push, nothing_left, length-push}
+use Rattle.landing_core.proofs.Down.{down-stored as is_down-stored_push, down-fault as is_down-fault, down-breaking as is_down-breaking}
 
 -- after calls that leave only what stands for the new history or a beginning of it, with another entry left over or none
 leaves_on : (header : Header) (n moment : ℕ) (h g : List Entry) (first m new : Meaning) (left : Option Entry) → moment ≤ first.moment → Kept first m

@@ -14,3 +14,6 @@ pub mod Crashing
 pub mod Known
 pub mod Reading
 pub mod Settling
+pub mod Inverting
+pub mod Collisions
+pub mod Landing

@@ -9,12 +9,12 @@ use Rattle.history_model.specs.History.{content_len}
 use Rattle.reply_model.specs.Legal.{IsLegal}
 use Rattle.reply_model.specs.Reply.{ContentOf}
 use Rattle.reply_model.specs.After.{Answers, Looks, Replies, nothing}
-use Rattle.turn_history.specs.Opening.{Opening}
+use Rattle.bookmark_lock.specs.Opening.{Opening}
 use Rattle.repo_machine.specs.declared.place.Place.{Place}
 use Rattle.repo_machine.specs.Indexes.{StandsAt}
-use Rattle.seat_calls.specs.declared.calls.AskFault.{AskFault}
-use Rattle.seat_calls.specs.declared.calls.AskFault.TheVariants.{BadBytes}
-use Rattle.seat_calls.specs.Asking.{bytes_answer, fault_answer, is_bad_bytes}
+use Rattle.repo_calls.specs.declared.calls.AskFault.{AskFault}
+use Rattle.repo_calls.specs.declared.calls.AskFault.TheVariants.{BadBytes}
+use Rattle.repo_calls.specs.Asking.{bytes_answer, fault_answer, is_bad_bytes}
 use Rattle.repo_state.specs.Asking.{IsReadFor, TellsDigest}
 use Rattle.repo_state.proofs.Answered.{bytes_answered, bad_bytes_answered, unmade}
 use Rattle.repo_state.proofs.Contents.{honest_content}

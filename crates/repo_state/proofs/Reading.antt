@@ -38,9 +38,9 @@ use Rattle.manifest_store.specs.Reads.{IsAbsence, dir_of, fsnode_by, unode_by, h
 use Rattle.manifest_store.specs.Settling.{IsCollision}
 use Rattle.manifest_store.proofs.Answered.{answered}
 use Rattle.manifest_store.proofs.Lines.{itself}
-use Rattle.seat_calls.specs.declared.calls.AskFault.{AskFault}
-use Rattle.seat_calls.specs.declared.calls.AskFault.TheVariants as asked
-use Rattle.seat_calls.specs.Asking.{fault_answer, place_of}
+use Rattle.repo_calls.specs.declared.calls.AskFault.{AskFault}
+use Rattle.repo_calls.specs.declared.calls.AskFault.TheVariants as asked
+use Rattle.repo_calls.specs.Asking.{fault_answer, place_of}
 use Rattle.repo_state.proofs.Known.{known_apart}
 use Rattle.repo_state.specs.Manifests.{IsNextOf, StaySettled, is_settled_id, manifest_fault, table_fault}
 

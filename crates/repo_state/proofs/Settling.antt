@@ -18,12 +18,13 @@ use Rattle.manifest_model.specs.Manifests.{manifests_on, nodes_in, nodes_of}
 use Rattle.reply_model.specs.Legal.{IsLegal}
 use Rattle.reply_model.proofs.Lines.{known-append}
 use Rattle.core_model.specs.Core.{State, Step, Settle, opened, after_steps}
-use Rattle.step_laws.specs.Steps.{Shows, Goes}
-use Rattle.settle_laws.specs.Settled.{HasJob, IsReady, with_settled, IsNodeWith, AreApartWith, CollideWith, leaves_manifests}
-use Rattle.settle_laws.proofs.Rows.{same_id, or_none}
-use Rattle.settle_laws.proofs.Taking.{take_goes}
-use Rattle.settle_laws.proofs.Settling.{settles, settles_nothing, ready, told_same}
-use Rattle.settle_laws.proofs.Leaving.{steps_leave, shows_left}
+use Rattle.landing_core.specs.Steps.{Shows, Goes}
+use Rattle.landing_core.specs.Settled.{HasJob, IsReady, with_settled, IsNodeWith, AreApartWith, CollideWith, leaves_manifests}
+use Rattle.reply_model.proofs.Parents.{same_id}
+use Rattle.changeset_model.proofs.Paths.{||-comm as or_none}
+use Rattle.landing_core.proofs.Taking.{take_goes}
+use Rattle.landing_core.proofs.Settling.{settles, settles_nothing, ready, told_same}
+use Rattle.landing_core.proofs.Leaving.{steps_leave, shows_left}
 use Rattle.node_table.specs.Table.{Table, Has, is_settled, with_nodes, settled_with, empty_table}
 use Rattle.node_table.specs.declared.fault.TableFault.{TableFault}
 use Rattle.node_table.specs.declared.fault.TableFault.TheVariants as tables

@@ -9,24 +9,26 @@ use Rattle.disk_model.specs.Images.{IsImage}
 use Rattle.disk_model.specs.Meaning.{Meaning, IsLong}
 use Rattle.disk_model.specs.Calls.{Kept, LeavesOnly, Looked}
 use Rattle.history_model.specs.History.{Body, Fault, Entry, stored, is_down, is_stored}
-use Rattle.history_model.specs.Journal.{Header, IsPayload, Keeps, framed, payload_len, record_len, size}
+use Rattle.history_model.specs.Journal.{Header, IsPayload, Keeps, framed, record_len, size}
 use Rattle.reply_model.specs.Legal.{MayFollow, IsLegal}
 use Rattle.reply_model.proofs.Histories.{IsLegal-push, size-push}
 use Rattle.reply_model.proofs.Stored.{is_down-stored}
 use Rattle.repo_journal.specs.Sealing.{AllClosed, Appends, IsAfter, payload_in}
 use Rattle.repo_journal.specs.View.{JournalView}
-use Rattle.repo_journal.proofs.Files.{length-open_record}
 use Rattle.repo_journal.proofs.Frames.{payload_in-framed}
 use Rattle.repo_journal.proofs.Histories.{shape_of}
 use Rattle.opening_laws.proofs.Made.{is_made}
-use Rattle.opening_laws.proofs.Places.{record_measured}
-use Rattle.turn_history.specs.Opening.{Opening}
+use Rattle.bookmark_lock.specs.Opening.{Opening}
 use Rattle.repo_journal.specs.Opened.{IsOpened}
 use Rattle.repo_state.specs.Images.{StandsForFirst, StandsSince}
 use Rattle.repo_state.specs.State.{IsQuiet, faults_in, Covers, IsSound, Agrees, opening_of, unseated}
-use Rattle.repo_state.proofs.Chains.{kept_then, leaves_nothing, leaves_map}
-use Rattle.repo_state.proofs.Stands.{bodies-fault, faults-stored, faults-fault, no_fault-push, length-push, is_down-stored_push, is_down-fault, is_down-breaking, size-same, bodies-cleared, is_down-cleared, faults-cleared, no_fault-cleared, no_fault-stored, no_faults, stands-same, with-same, now-same, first_all}
+use Rattle.repo_state.proofs.Chains.{leaves_nothing, leaves_map}
+use Rattle.blob_disk.proofs.Clients.{kept_then}
+use Rattle.repo_state.proofs.Stands.{bodies-fault, faults-stored, faults-fault, no_fault-push, length-push, size-same, bodies-cleared, is_down-cleared, faults-cleared, no_fault-cleared, no_fault-stored, no_faults, stands-same, with-same, now-same, first_all}
+use Rattle.landing_core.proofs.Down.{down-stored as is_down-stored_push, down-fault as is_down-fault, down-breaking as is_down-breaking}
 use Rattle.repo_state.proofs.Leaving.{keeps_up, could_still, leaves_appended, leaves_failed, leaves_read, leaves_read_failed}
+use Rattle.blob_disk.proofs.Clients.{kept_none as kept_same}
+use Rattle.repo_machine.proofs.MadeReady.{payload_length}
 
 -- ---- counts of faults
 
@@ -43,9 +45,6 @@ covers_one f first before after grows (inl few) (inr is) = inr (omega arith)
 
 pub framed_payload : (body : Body) (frame : List ℕ) → (payload : List ℕ) × IsPayload body payload × (frame ≡ framed payload) → IsPayload body (payload_in frame)
 framed_payload body frame is = subst (IsPayload body) (sym (ap (λ f. payload_in f) is.2 ∙ payload_in-framed is.0)) is.1
-
-pub payload_length : (body : Body) (payload : List ℕ) → IsPayload body payload → length payload ≡ payload_len body
-payload_length body payload is = let whole = record_measured body payload is in let open_one = length-open_record payload in omega arith
 
 pub fits : (header : Header) (h : List Entry) (body : Body) (payload : List ℕ) → is_stored body ≡ true → MayFollow header h body → IsPayload body payload → size h + 5 + length payload ≤ header.capacity
 fits header h body payload s follows is = let len = payload_length body payload is in let room = (is_made header h body s follows).fits in omega arith
@@ -214,9 +213,6 @@ sound_cleared opening h m legal sound =
     }
 
 -- ---- as it is opened
-
-kept_same : (m : Meaning) → Kept m m
-kept_same m = record { honest = refl; quiet = refl; no_shorter = λ n l. l; later = omega arith; told = refl; remembers = λ t image l. l }
 
 pub sound_opened : (header : Header) (h : List Entry) (journal : JournalView) (m : Meaning) → IsOpened header h journal m → IsLegal header h → h ≡ stored h → IsSound (opening_of header journal.opening m) h m
 sound_opened header h journal m opened legal alone =

@@ -4,9 +4,8 @@ use Rattle.std.specs.Prelude.{sum_by, ◌||◌, not, filter, cond, Option, None,
 use mathlib.Core.Logic.{inl, inr}
 use Rattle.std.proofs.lemmas.List.{append_assoc, append-nil, length-append}
 use Rattle.std.proofs.lemmas.List.Elements.{filter-append}
-use Rattle.std.proofs.lemmas.List.Folds.{list_any-append}
 use Rattle.std.proofs.lemmas.List.Sums.{sum_by-append, sum_by-cons}
-use Rattle.history_model.specs.History.{Body, Content, Change, Book, Land, Fault, Entry, bodies, stored, unnumbered, is_breaking, is_down, is_stored}
+use Rattle.history_model.specs.History.{Body, Content, Fault, Entry, bodies, stored, unnumbered, is_breaking, is_down, is_stored}
 use Rattle.history_model.specs.Journal.{Header, HoldsRecords, Stands, record_len, size}
 use Rattle.reply_model.proofs.Histories.{bodies-append}
 use Rattle.repo_state.specs.Images.{StandsWith, StandsNow, StandsForFirst, StandsSince}
@@ -30,33 +29,6 @@ pub stands-same : (header : Header) (image : List ℕ) (h g : List Entry) → bo
 stands-same header image h g e stands = (stands.0, stands.1, stands.2, subst (λ bs. HoldsRecords bs stands.1) e stands.3)
 
 -- ---- whether it is down, and its faults
-
-pub is_down-push : (h : List Entry) (e : Entry) → is_down (h ++ e ∷ []) ≡ (is_down h || (is_breaking e.body || false))
-is_down-push h e = list_any-append (λ e. is_breaking e.body) h (e ∷ [])
-
-or_false : (b : Bool) → (b || false) ≡ b
-or_false true = refl
-or_false false = refl
-
-or_true : (b : Bool) → (b || true) ≡ true
-or_true true = refl
-or_true false = refl
-
-stored_breaks_nothing : (body : Body) → is_stored body ≡ true → is_breaking body ≡ false
-stored_breaks_nothing (Content x n) s = refl
-stored_breaks_nothing (Change c) s = refl
-stored_breaks_nothing (Book move) s = refl
-stored_breaks_nothing (Land landing) s = refl
-stored_breaks_nothing (Fault breaking) s = absurd cc
-
-pub is_down-stored_push : (h : List Entry) (e : Entry) → is_stored e.body ≡ true → is_down (h ++ e ∷ []) ≡ is_down h
-is_down-stored_push h e s = is_down-push h e ∙ ap (λ b. is_down h || (b || false)) (stored_breaks_nothing e.body s) ∙ or_false (is_down h)
-
-pub is_down-fault : (h : List Entry) (who : ℕ) → is_down (h ++ record { who = who; body = Fault false } ∷ []) ≡ is_down h
-is_down-fault h who = is_down-push h (record { who = who; body = Fault false }) ∙ or_false (is_down h)
-
-pub is_down-breaking : (h : List Entry) (who : ℕ) → is_down (h ++ record { who = who; body = Fault true } ∷ []) ≡ true
-is_down-breaking h who = is_down-push h (record { who = who; body = Fault true }) ∙ or_true (is_down h)
 
 faults-append : (h : List Entry) (e : Entry) → faults_in (h ++ e ∷ []) ≡ faults_in h + length (filter (λ (e : Entry). not (is_stored e.body)) (e ∷ []))
 faults-append h e =

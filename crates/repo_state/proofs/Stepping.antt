@@ -16,10 +16,10 @@ use Rattle.repo_calls.specs.declared.refusal.Refusal as refusal
 use Rattle.repo_calls.specs.declared.refusal.Refusal.TheVariants as refusals
 use Rattle.repo_machine.specs.Plans.{PlannedLanding, RebasedLanding, IsPlan, PassesPlan}
 use Rattle.core_model.specs.Core.{State, opened}
-use Rattle.step_laws.specs.Steps.{Shows, HasPlan, all_calls, calls_to, Goes}
-use Rattle.step_laws.proofs.Asked.{stored_goes}
-use Rattle.step_laws.proofs.Exchanged.{landed_goes, moved_goes, refused_goes, failed_goes}
-use Rattle.step_laws.proofs.Others.{plan_goes, fault_goes, opened_shows}
+use Rattle.landing_core.specs.Steps.{Shows, HasPlan, all_calls, calls_to, Goes}
+use Rattle.landing_core.proofs.Asked.{stored_goes}
+use Rattle.landing_core.proofs.Exchanged.{landed_goes, moved_goes, refused_goes, failed_goes}
+use Rattle.landing_core.proofs.Others.{plan_goes, fault_goes, opened_shows}
 use Rattle.repo_machine.proofs.Judging.{refused_down}
 use Rattle.repo_state.proofs.Storing.{refused_replies}
 use Rattle.repo_state.specs.Exchanging.{Exchanges}

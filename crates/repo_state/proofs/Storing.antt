@@ -14,7 +14,7 @@ use Rattle.reply_model.specs.After.{Answers, Asks, Answer, Grants, DiskFault, Re
 use Rattle.reply_model.specs.Legal.{MayFollow}
 use Rattle.reply_model.proofs.Granted.{MakesStored, judge_stored, follows_granted}
 use Rattle.reply_model.proofs.Stored.{granted_is_up}
-use Rattle.opening_laws.proofs.Lists.{same_some}
+use Rattle.byte_fields.proofs.Booleans.{same_some}
 use Rattle.repo_journal.specs.Sealing.{AllClosed, Appends, IsFramed, payload_in}
 use Rattle.repo_journal.specs.View.{JournalView}
 use Rattle.repo_state.specs.Images.{LeavesChange}

@@ -9,8 +9,8 @@ use Rattle.disk_model.specs.Meaning.{Meaning}
 use Rattle.history_model.specs.History.{Entry, content_len}
 use Rattle.repo_machine.specs.declared.place.Place.{Place}
 use Rattle.repo_machine.specs.Indexes.{StandsAt}
-use Rattle.seat_calls.specs.declared.calls.AskFault.{AskFault}
-use Rattle.seat_calls.specs.declared.calls.AskFault.TheVariants.{NoContent, NoChangeset, NoPath, NotADir, NotAFile, Collision, ReadFault, BadBytes, Memory}
+use Rattle.repo_calls.specs.declared.calls.AskFault.{AskFault}
+use Rattle.repo_calls.specs.declared.calls.AskFault.TheVariants.{NoContent, NoChangeset, NoPath, NotADir, NotAFile, Collision, ReadFault, BadBytes, Memory}
 
 pub record IsReadFor (m : Meaning) (h : List Entry) (x : Id) (bytes : List ℕ) : Type 0 where
   pub stored : content_len h x ≡ Some (length bytes)

@@ -20,8 +20,8 @@ use Rattle.history_model.specs.Pushrebase.{rewrite}
 use Rattle.reply_model.specs.Reply.{Ask, LandDraft}
 use Rattle.reply_model.specs.After.{Answer}
 use Rattle.core_model.specs.Core.{State, Sealing, Step, PlanLanding, Exchange, Look, TakeJob, Settle, Crash, after_step}
-use Rattle.step_laws.specs.Steps.{Shows, MayAsk, HasPlan, asking, all_calls, Cut, calls_to, AreSteps, Goes}
-use Rattle.settle_laws.specs.Settled.{ShowsSettled, HasJob}
+use Rattle.landing_core.specs.Steps.{Shows, MayAsk, HasPlan, asking, all_calls, Cut, calls_to, AreSteps, Goes}
+use Rattle.landing_core.specs.Settled.{ShowsSettled, HasJob}
 use Rattle.node_table.specs.Table.{Table, is_settled}
 use Rattle.node_table.specs.declared.fault.TableFault.{TableFault}
 use Rattle.node_table.specs.declared.fault.TableFault.TheVariants as tables

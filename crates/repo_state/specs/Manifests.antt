@@ -25,11 +25,11 @@ use Rattle.node_table.specs.declared.fault.TableFault.TheVariants as tables
 use Rattle.reply_model.specs.After as answers
 use Rattle.reply_model.specs.After.{Answer}
 use Rattle.reply_model.specs.Reply as reply
-use Rattle.seat_calls.specs.Asking.{fault_answer}
-use Rattle.seat_calls.specs.declared.calls.AskFault.{AskFault}
-use Rattle.seat_calls.specs.declared.calls.AskFault.TheVariants as asked
-use Rattle.seat_calls.specs.declared.calls.Question.{Question}
-use Rattle.seat_calls.specs.declared.calls.Question.TheVariants.{Head, Content, Changeset, Log, Fsnode, Unode, History}
+use Rattle.repo_calls.specs.Asking.{fault_answer}
+use Rattle.repo_calls.specs.declared.calls.AskFault.{AskFault}
+use Rattle.repo_calls.specs.declared.calls.AskFault.TheVariants as asked
+use Rattle.repo_calls.specs.declared.calls.Question.{Question}
+use Rattle.repo_calls.specs.declared.calls.Question.TheVariants.{Head, Content, Changeset, Log, Fsnode, Unode, History}
 
 pub record HasManifests (header : Header) (h : List Entry) (t : Table) : Type 0 where
   pub header_fits : is_header header ≡ true

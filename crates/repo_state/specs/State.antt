@@ -16,7 +16,7 @@ use Rattle.repo_journal.specs.View.{JournalView}
 use Rattle.repo_journal.specs.declared.opening.Opening as journal
 use Rattle.repo_machine.specs.Held.{Room}
 use Rattle.node_table.specs.Table.{Table}
-use Rattle.turn_history.specs.Opening.{Opening}
+use Rattle.bookmark_lock.specs.Opening.{Opening}
 use Rattle.repo_state.specs.Images.{Leaves}
 
 pub record State : Type 0 where

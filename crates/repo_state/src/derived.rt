@@ -6,7 +6,7 @@ ghost use Rattle.reply_model.specs.Reply.{FsnodeOf, UnodeOf, HistoryOf};
 ghost use Rattle.node_table.specs.Table.{is_settled};
 ghost use Rattle.changeset_store.specs.Store.{number_in};
 ghost use Rattle.manifest_store.specs.Manifests.{AreManifests};
-ghost use Rattle.seat_calls.specs.Asking.{bytes_answer, fault_answer, place_of};
+ghost use Rattle.repo_calls.specs.Asking.{bytes_answer, fault_answer, place_of};
 ghost use Rattle.repo_state.specs.Manifests.{StaySettled, ids_answer, is_settled_id, manifest_fault, table_fault};
 
 use crate::state::RepoState;
@@ -15,8 +15,8 @@ use derive_step::derive;
 use manifest_store::ManifestFault;
 use node_table::{Roots, TableFault};
 use object_id::Id;
+use repo_calls::AskFault;
 use repo_path::RepoPath;
-use seat_calls::AskFault;
 use std::alloc::Global;
 
 impl<D: Disk> RepoState<D> {

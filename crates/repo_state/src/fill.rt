@@ -6,12 +6,12 @@ ghost use Rattle.sha2.specs.Sha256.{sha256};
 ghost use Rattle.disk_model.specs.Images.{IsImage};
 ghost use Rattle.disk_model.specs.Meaning.{IsLong};
 ghost use Rattle.disk_model.specs.Calls.{Kept, LeavesOnly, Looked};
-ghost use Rattle.seat_calls.specs.Asking.{is_early};
+ghost use Rattle.repo_calls.specs.Asking.{is_early};
 
 use blob_disk::Disk;
 use object_id::Id;
+use repo_calls::AskFault;
 use repo_journal::{DiskFault, Journal};
-use seat_calls::AskFault;
 
 // As many bytes as the buffer has, from this place on.
 pub(crate) fn fill<D: Disk>(

@@ -5,11 +5,11 @@ ghost use Rattle.disk_model.specs.Meaning.{Meaning};
 ghost use Rattle.history_model.specs.History.{Entry, known};
 ghost use Rattle.history_model.specs.Journal.{Header};
 ghost use Rattle.core_model.specs.Core.{State, Step, after_steps};
-ghost use Rattle.step_laws.specs.Steps.{Shows};
-ghost use Rattle.settle_laws.specs.Settled.{leaves_manifests};
+ghost use Rattle.landing_core.specs.Steps.{Shows};
+ghost use Rattle.landing_core.specs.Settled.{leaves_manifests};
 ghost use Rattle.node_table.specs.Table.{Table};
 ghost use Rattle.manifest_store.specs.Manifests.{AreManifests};
-ghost use Rattle.turn_history.specs.Opening.{Opening};
+ghost use Rattle.bookmark_lock.specs.Opening.{Opening};
 ghost use Rattle.repo_state.specs.Cores.{CrashesOf, ShowsTable};
 ghost use Rattle.repo_state.specs.State.{IsSound};
 

@@ -8,7 +8,7 @@ ghost use Rattle.disk_model.specs.Calls.{Kept, LeavesOnly, Looked};
 ghost use Rattle.history_model.specs.History.{changeset_of, known};
 ghost use Rattle.reply_model.specs.After.{Answer, Answers, Looks, Replies, nothing};
 ghost use Rattle.reply_model.specs.Reply.{ChangesetOf, ContentOf, LogFrom};
-ghost use Rattle.seat_calls.specs.Asking.{bytes_answer, fault_answer, is_bad_bytes, is_early, is_read_fault, IsAnswer, question_seen, reads_file};
+ghost use Rattle.repo_calls.specs.Asking.{bytes_answer, fault_answer, is_bad_bytes, is_early, is_read_fault, IsAnswer, question_seen, reads_file};
 ghost use Rattle.repo_state.specs.Asking.{IsReadFor, TellsDigest};
 ghost use Rattle.manifest_store.specs.Manifests.{AreManifests};
 ghost use Rattle.repo_state.specs.Cores.{LooksSo};
@@ -20,7 +20,7 @@ use crate::state::RepoState;
 use blob_disk::Disk;
 use bonsai::{Commit, encode};
 use object_id::Id;
-use seat_calls::{AskFault, Question, Seen};
+use repo_calls::{AskFault, Question, Seen};
 use std::alloc::Global;
 use std::sync::Arc;
 

@@ -7,7 +7,7 @@ ghost use Rattle.manifest_store.specs.Jobs.{IsDoneOn, is_ready, settled_by};
 ghost use Rattle.manifest_store.specs.Lines.{line_at};
 ghost use Rattle.manifest_store.specs.Manifests.{AreManifests};
 ghost use Rattle.manifest_store.specs.Settling.{IsCollision};
-ghost use Rattle.seat_calls.specs.Asking.{fault_answer};
+ghost use Rattle.repo_calls.specs.Asking.{fault_answer};
 ghost use Rattle.repo_state.specs.Cores.{SettlesSo, TakesJob};
 ghost use Rattle.repo_state.specs.Manifests.{IsNextOf};
 
@@ -16,7 +16,7 @@ use blob_disk::Disk;
 use derive_step::{Done, Job};
 use node_table::TableFault;
 use object_id::Id;
-use seat_calls::AskFault;
+use repo_calls::AskFault;
 use std::alloc::Global;
 
 impl<D: Disk> RepoState<D> {

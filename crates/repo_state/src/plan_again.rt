@@ -10,12 +10,12 @@ ghost use Rattle.repo_machine.specs.Landings.{IsRefusal};
 ghost use Rattle.repo_machine.specs.Plans.{IsPlan};
 
 use crate::state::RepoState;
+use ancestry::Steps;
 use blob_disk::Disk;
 use repo_calls::Refusal;
 use repo_machine::Plan;
 use std::alloc::Global;
 use std::sync::ledger::Ledger;
-use step_count::Steps;
 
 impl<D: Disk> RepoState<D> {
     /// Plans a landing again, as it would be planned now, by `Machine::plan_again`. The disk isn't asked.

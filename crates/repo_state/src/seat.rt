@@ -1,12 +1,11 @@
 //! A repository that is served alone.
 ghost use Rattle.reply_model.specs.After.{Replies};
-ghost use Rattle.turn_history.specs.Opening.{Opening};
-ghost use Rattle.seat_calls.proofs.Lawful.{alone};
+ghost use Rattle.bookmark_lock.specs.Opening.{Opening};
+ghost use Rattle.repo_calls.proofs.Lawful.{alone};
 
 use crate::state::RepoState;
 use blob_disk::Disk;
-use repo_calls::{Ask, Granted};
-use seat_calls::{AskFault, ChangeFault, Question, Seat, Seen};
+use repo_calls::{Ask, AskFault, ChangeFault, Granted, Question, Seat, Seen};
 use std::alloc::Global;
 
 /// Its one seat has the number 0, and has seen all of its history.

@@ -3,20 +3,20 @@ ghost use Rattle.std.specs.Prelude.{◌≡◌, length};
 ghost use Rattle.history_model.specs.History.{is_down, known, stored};
 ghost use Rattle.reply_model.specs.Legal.{IsLegal};
 ghost use Rattle.core_model.specs.Core.{opened};
-ghost use Rattle.step_laws.specs.Steps.{Shows};
+ghost use Rattle.landing_core.specs.Steps.{Shows};
 ghost use Rattle.node_table.specs.Table.{empty_table};
 ghost use Rattle.repo_journal.specs.Opened.{IsOpened};
 ghost use Rattle.repo_state.specs.Cores.{ShowsTable};
 ghost use Rattle.repo_state.specs.State.{IsSound, opening_of};
 
 use blob_disk::Disk;
+use bookmark_lock::Recorded;
 use manifest_store::ManifestStore;
 use repo_journal::Journal;
 use repo_machine::Machine;
 use std::alloc::Global;
 use std::marker::Model;
 use std::snapshot::Snapshot;
-use turn_history::Recorded;
 
 /// A repository in a file: what is known of it, the manifests that were derived, how far its journal reaches, and the disk.
 #[derive(Drop)]

@@ -4,8 +4,8 @@ ghost use Rattle.ports.specs.Faults.{Counts};
 ghost use Rattle.disk_model.specs.Calls.{Kept};
 ghost use Rattle.reply_model.specs.After.{Asks, Replies};
 ghost use Rattle.repo_calls.specs.Calls.{ask_seen, granted_seen};
-ghost use Rattle.seat_calls.specs.Asking.{stored_answer, is_disk_fault};
-ghost use Rattle.repo_machine.specs.Prepared.{IsPreparedFor};
+ghost use Rattle.repo_calls.specs.Asking.{stored_answer, is_disk_fault};
+ghost use Rattle.repo_machine.specs.Prepared.{IsPrepared, asked_by};
 ghost use Rattle.repo_state.specs.Cores.{Stores};
 ghost use Rattle.repo_state.specs.Images.{LeavesChange};
 ghost use Rattle.repo_state.specs.State.{IsSound};
@@ -13,10 +13,9 @@ ghost use Rattle.repo_state.specs.Trees.{LandsAs};
 
 use crate::state::RepoState;
 use blob_disk::Disk;
-use repo_calls::{Ask, Granted, Refusal};
+use repo_calls::{Ask, ChangeFault, Granted, Refusal};
 use repo_journal::AppendFault;
 use repo_machine::{Prepared, prepare};
-use seat_calls::ChangeFault;
 use std::alloc::Global;
 
 impl<D: Disk> RepoState<D> {
@@ -49,7 +48,7 @@ impl<D: Disk> RepoState<D> {
         // It keeps its rules.
         let _ = &self.disk;
         match prepare(alloc, ask) {
-            Ok(prepared) => self.store_prepared(alloc, who, ask, prepared),
+            Ok(prepared) => self.store_prepared(alloc, who, prepared),
             Err(_) => Err(ChangeFault::Refused(Refusal::Memory)),
         }
     }
@@ -59,11 +58,10 @@ impl<D: Disk> RepoState<D> {
         &mut self,
         alloc: Global,
         who: u64,
-        ask: &Ask,
-        prepared: Prepared,
+        prepared: Prepared<'_>,
     ) -> Result<Granted, ChangeFault>
-        requires prepared { IsPreparedFor (ask_seen ask.now) prepared }
-        ensures reply { Replies self.old.header self.old.history who (Asks (ask_seen ask.now)) (stored_answer result) self.new.history }
+        requires prepared { IsPrepared prepared }
+        ensures reply { Replies self.old.header self.old.history who (Asks (asked_by prepared.entry)) (stored_answer result) self.new.history }
         ensures header { self.new.header ≡ self.old.header }
         ensures opening { self.new.opening ≡ self.old.opening }
         ensures table { self.new.table ≡ self.old.table }
@@ -81,12 +79,12 @@ impl<D: Disk> RepoState<D> {
 
         // Where a stack lands, the new head's tree has what it sets, and else what the old head's has, in which no path that
         // the stack touches was changed since the root.
-        ensures lands { IfOk result (λ granted. LandsAs (ask_seen ask.now) (granted_seen granted) self.old.history self.new.history) }
+        ensures lands { IfOk result (λ granted. LandsAs (asked_by prepared.entry) (granted_seen granted) self.old.history self.new.history) }
 
         // It is these steps of the repository of many seats.
-        ensures core { Stores self.old.header self.old.history who (ask_seen ask.now) (stored_answer result) self.new.history }
+        ensures core { Stores self.old.header self.old.history who (asked_by prepared.entry) (stored_answer result) self.new.history }
     {
-        let judged = match self.machine.judge_prepared(alloc, who, ask, prepared) {
+        let judged = match self.machine.judge_prepared(alloc, who, prepared) {
             Ok(judged) => judged,
             Err(refusal) => return Err(ChangeFault::Refused(refusal)),
         };

@@ -7,6 +7,7 @@ ghost use Rattle.repo_machine.specs.Again.{WasPlan};
 use crate::plans::move_from_there;
 use crate::rows::same;
 use crate::steps::{Run, id_at, id_in, new_run, run_lines};
+use ancestry::Steps;
 use bonsai::Commit;
 use object_id::Id;
 use repo_calls::Refusal;
@@ -18,7 +19,6 @@ use std::process::Abort;
 use std::sync::Arc;
 use std::sync::ledger::{Blank, Ledger};
 use std::test::Fail;
-use step_count::Steps;
 
 fn land_there(alloc: Global, machine: &mut Machine, main: &BookName, draft: Id) -> Result<(), Fail>
     ensures { IsPrefix machine.old.history machine.new.history }

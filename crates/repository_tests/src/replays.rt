@@ -6,7 +6,7 @@ ghost use Rattle.reply_model.specs.Legal.{IsLegal};
 use crate::rows::same;
 use crate::steps::{log_text, new_run, run_lines};
 use ports::ZeroBytes;
-use replay::{ReplayFault, enter_payload};
+use recovery::{ReplayFault, enter_payload};
 use repo_machine::Machine;
 use std::alloc::Global;
 use std::hash::RandomState;

@@ -26,7 +26,8 @@ fn add(alloc: Global, store: &mut ChangesetStore, author: u8, parents: &[Id]) ->
 
 fn add_commit(store: &mut ChangesetStore, commit: Arc<Commit>) -> Result<(), Fail> {
     store.reserve(1)?;
-    if store.is_known(&commit.id()) || store.unknown_parent(&commit).is_some() {
+    let parents = commit.changeset().parents();
+    if store.is_known(&commit.id()) || !parents.iter().all(|parent| store.is_known(parent)) {
         return Err(Fail::from("a new changeset of known parents"));
     }
     store.add(commit);
@@ -100,7 +101,7 @@ fn put_letters(
     Ok(())
 }
 
-// The root's number, and what follows the fork in the chains of a draft and of a head.
+// The root's number, and what follows the fork in the chain of a draft.
 fn put_parted(
     alloc: Global,
     store: &ChangesetStore,
@@ -116,8 +117,7 @@ fn put_parted(
         return Ok(());
     };
     write!(out, "{}", fork.root)?;
-    put_letters(alloc, ids, out, store.stack(alloc, &fork)?.as_slice())?;
-    put_letters(alloc, ids, out, store.range(alloc, &fork)?.as_slice())
+    put_letters(alloc, ids, out, store.stack(alloc, &fork)?.as_slice())
 }
 
 fn told(alloc: Global, filled: &Filled, head: &str, draft: &str) -> Result<String, Fail> {
@@ -138,13 +138,13 @@ fn check_parted(rt: &impl Abort, alloc: Global, filled: &Filled, row: &str) -> R
     Ok(())
 }
 
-// A head and a draft, the root's number, the stack and the range. They share nothing where it is `-`.
+// A head and a draft, the root's number and the stack. They share nothing where it is `-` alone.
 const PARTED: &str = "\
-c d = 1 d c
-d c = 1 c d
-a d = 0 bd -
-c a = 0  bc
-b b = 1  -
+c d = 1 d
+d c = 1 c
+a d = 0 bd
+c a = 0 -
+b b = 1 -
 c e = -
 e a = -";
 

@@ -19,12 +19,14 @@ use Rattle.matchit.specs.Level.{IsText}
 use Rattle.matchit.specs.Params.{named, walk, AllText}
 use Rattle.matchit.specs.Router.{RouteOf}
 use Rattle.matchit.specs.declared.params.Params.{Params}
-use Rattle.routes.specs.Rows.{names, tail, tokens, text_after, places, entry_of, table}
+use Rattle.routes.specs.Rows.{names, tokens, text_after, places, entry_of, table}
 use Rattle.routes.specs.Rows as rows
 use Rattle.routes.specs.Taken.{taken, part_of, route_taken, AreThere, Takes}
 use Rattle.routes.proofs.Segments.{Split, whole, cut, split, text-split}
 use Rattle.routes.proofs.Found.{is_plain, first-table}
 use Rattle.routes.proofs.Walked.{Follows, ends, goes, walked, zipped, all_names, named-zipped}
+use Rattle.changeset_model.proofs.Spelling.{is_false as not_true}
+use Rattle.routes.proofs.Walked.{all_rest, is_some_values as one_more}
 
 -- ---- what holds of the patterns
 
@@ -52,10 +54,6 @@ good = refl
 are_same : (n : List ℕ) (ns : List (List ℕ)) → differs n ns ≡ true → same_text n n ≡ true
 are_same n [] e = e
 are_same n (m ∷ ns) e = are_same n ns (and_parts (not (same_text n m)) (differs n ns) e).1
-
-not_true : (v : Bool) → not v ≡ true → v ≡ false
-not_true true e = sym e
-not_true false e = refl
 
 -- as many values as names
 abbrev AsMany : List (List ℕ) → List (List ℕ) → Type 0
@@ -131,15 +129,6 @@ slash_text u h = IsUtf8-append (codes "/") u slash_alone h
 record Taking (ns vs : List (List ℕ)) : Type 0 where
   many : AsMany ns vs
   text : AllText (zipped ns vs)
-
-one_more : (part : List ℕ) (v : Bool) (o : Option (List (List ℕ))) (vs : List (List ℕ)) → cond v None (option_map (λ later. part ∷ later) o) ≡ Some vs → (later : List (List ℕ)) × (o ≡ Some later) × (vs ≡ part ∷ later)
-one_more part true o vs e = absurd (cc)
-one_more part false None vs e = absurd (cc)
-one_more part false (Some later) vs e = (later, refl, cc)
-
-all_rest : (v : Bool) (text : List ℕ) (vs : List (List ℕ)) → cond v None (Some (text ∷ [])) ≡ Some vs → vs ≡ text ∷ []
-all_rest true text vs e = absurd (cc)
-all_rest false text vs e = cc
 
 take_one : (n a : List ℕ) (ns vs later : List (List ℕ)) → IsUtf8 n → IsUtf8 a → vs ≡ a ∷ later → Taking ns later → Taking (n ∷ ns) vs
 take_one n a ns vs later name value e t = subst (Taking (n ∷ ns)) (sym e) (record { many = t.many; text = (name, value, t.text) })

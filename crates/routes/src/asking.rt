@@ -13,6 +13,7 @@ ghost use Rattle.routes.specs.Failed.{Reads};
 ghost use Rattle.routes.specs.Memory.{HasEscape, TakesMemory};
 ghost use Rattle.routes.specs.Asked.{Asks, call_seen};
 
+use crate::arguments::Arguments;
 use crate::parameters::{
     id_parameter, maybe_id_parameter, name_parameter, number_parameter, path_parameter,
 };
@@ -21,45 +22,19 @@ use crate::router::{Routes, part};
 use http_wire::Request;
 use matchit::Params;
 use object_id::Id;
+use repo_calls::{Ask, Question};
 use repo_path::{BookName, RepoPath};
 use session_model::{Method, RouteName};
 use std::alloc::Global;
 use std::str;
 
-/// What a request asks for. It borrows the request's body.
-#[derive(Debug, Drop)]
+/// What a request asks the repository for. It borrows the request's body, and what its arguments stand in.
+#[derive(Clone, Copy, Debug)]
 pub enum Call<'a> {
-    /// To store a content of these bytes.
-    PutContent(&'a [u8]),
-    /// To store the changeset of this encoding.
-    PutChangeset(&'a [u8]),
-    /// To move a bookmark, if it stands where it is said to stand.
-    SetBookmark {
-        name: BookName,
-        from: Option<Id>,
-        to: Option<Id>,
-    },
-    /// To land a draft on a bookmark.
-    Land {
-        name: BookName,
-        draft: Id,
-    },
-    /// Where a bookmark stands.
-    Head(BookName),
-    /// The bytes of a content.
-    Content(Id),
-    /// The encoding of a changeset.
-    Changeset(Id),
-    /// A page of the log, from the entry of this number.
-    Log {
-        from: u64,
-    },
-    /// The fsnode of a directory in a changeset's tree, of its root where there is no path.
-    Fsnode(Id, Option<RepoPath>),
-    /// The unode of a file or a directory in a changeset's tree, of its root where there is no path.
-    Unode(Id, Option<RepoPath>),
-    /// The history of a file in a changeset's tree.
-    History(Id, RepoPath),
+    /// To make a change.
+    Change(Ask<'a>),
+    /// To answer a read.
+    Read(Question<'a>),
 }
 
 fn begins_with_slash(path: &[u8]) -> bool
@@ -95,13 +70,30 @@ fn id_from(alloc: Global, params: &Params<'_, '_>) -> Result<Id, RouteRefusal>
     id_parameter(alloc, part(params, "id"))
 }
 
+// The bookmark's name in a path.
+fn name_from<'a>(
+    alloc: Global,
+    params: &Params<'_, '_>,
+    arguments: &'a mut Arguments,
+) -> Result<&'a BookName, RouteRefusal>
+    requires text { AllText (taken params.now) }
+    requires there { IsSome (named (codes "name") (taken params.now)) }
+    ensures { Reads (λ name. name.now) result (model.name_parameter (part_of (taken params.now) (codes "name"))) }
+{
+    Ok(arguments.keep_name(name_parameter(alloc, part(params, "name"))?))
+}
+
 // What takes the rest of a path.
-fn path_from(alloc: Global, params: &Params<'_, '_>) -> Result<RepoPath, RouteRefusal>
+fn path_from<'a>(
+    alloc: Global,
+    params: &Params<'_, '_>,
+    arguments: &'a mut Arguments,
+) -> Result<&'a RepoPath, RouteRefusal>
     requires text { AllText (taken params.now) }
     requires there { IsSome (named (codes "path") (taken params.now)) }
-    ensures { Reads (λ path. path) result (model.path_parameter (part_of (taken params.now) (codes "path"))) }
+    ensures { Reads (λ path. path.now) result (model.path_parameter (part_of (taken params.now) (codes "path"))) }
 {
-    path_parameter(alloc, part(params, "path"))
+    Ok(arguments.keep_path(path_parameter(alloc, part(params, "path"))?))
 }
 
 // What a route asks for, which was asked by its method.
@@ -110,41 +102,56 @@ fn call_from<'a>(
     name: RouteName,
     params: &Params<'_, '_>,
     body: &'a [u8],
+    arguments: &'a mut Arguments,
 ) -> Result<Call<'a>, RouteRefusal>
     requires { Takes name params.now }
     ensures call { Reads call_seen result (by_route (route_taken name (taken params.now)) body.now) }
     ensures memory { IsErrOf result RouteRefusal.Memory → TakesMemory (route_taken name (taken params.now)) }
 {
     Ok(match name {
-        RouteName::Contents => Call::PutContent(body),
-        RouteName::Content => Call::Content(id_from(alloc, params)?),
-        RouteName::Changesets => Call::PutChangeset(body),
-        RouteName::Changeset => Call::Changeset(id_from(alloc, params)?),
-        RouteName::Head => Call::Head(name_parameter(alloc, part(params, "name"))?),
-        RouteName::Move => Call::SetBookmark {
-            name: name_parameter(alloc, part(params, "name"))?,
+        RouteName::Contents => Call::Change(Ask::PutContent(body)),
+        RouteName::Content => Call::Read(Question::Content(id_from(alloc, params)?)),
+        RouteName::Changesets => Call::Change(Ask::PutChangeset(body)),
+        RouteName::Changeset => Call::Read(Question::Changeset(id_from(alloc, params)?)),
+        RouteName::Head => Call::Read(Question::Head(name_from(alloc, params, arguments)?)),
+        RouteName::Move => Call::Change(Ask::SetBookmark {
+            name: name_from(alloc, params, arguments)?,
             from: maybe_id_parameter(alloc, part(params, "from"))?,
             to: maybe_id_parameter(alloc, part(params, "to"))?,
-        },
-        RouteName::Land => Call::Land {
-            name: name_parameter(alloc, part(params, "name"))?,
+        }),
+        RouteName::Land => Call::Change(Ask::Land {
+            name: name_from(alloc, params, arguments)?,
             draft: id_from(alloc, params)?,
-        },
-        RouteName::Log => Call::Log {
-            from: number_parameter(alloc, part(params, "from"))?,
-        },
-        RouteName::RootFsnode => Call::Fsnode(id_from(alloc, params)?, None),
-        RouteName::Fsnode => Call::Fsnode(id_from(alloc, params)?, Some(path_from(alloc, params)?)),
-        RouteName::RootUnode => Call::Unode(id_from(alloc, params)?, None),
-        RouteName::Unode => Call::Unode(id_from(alloc, params)?, Some(path_from(alloc, params)?)),
-        RouteName::History => Call::History(id_from(alloc, params)?, path_from(alloc, params)?),
+        }),
+        RouteName::Log => {
+            Call::Read(Question::Log(number_parameter(alloc, part(params, "from"))?))
+        }
+        RouteName::RootFsnode => Call::Read(Question::Fsnode(id_from(alloc, params)?, None)),
+        RouteName::Fsnode => Call::Read(Question::Fsnode(
+            id_from(alloc, params)?,
+            Some(path_from(alloc, params, arguments)?),
+        )),
+        RouteName::RootUnode => Call::Read(Question::Unode(id_from(alloc, params)?, None)),
+        RouteName::Unode => Call::Read(Question::Unode(
+            id_from(alloc, params)?,
+            Some(path_from(alloc, params, arguments)?),
+        )),
+        RouteName::History => Call::Read(Question::History(
+            id_from(alloc, params)?,
+            path_from(alloc, params, arguments)?,
+        )),
     })
 }
 
 impl Routes {
     /// What the request asks for. Its path has to be a route's before escapes are decoded (RFC 3986), and its method
-    /// the route's; the parameters are judged from left to right.
-    pub fn call_of<'a>(&self, alloc: Global, request: &'a Request) -> Result<Call<'a>, RouteRefusal>
+    /// the route's; the parameters are judged from left to right, and those that the call borrows are put into `arguments`.
+    pub fn call_of<'a>(
+        &self,
+        alloc: Global,
+        request: &'a Request,
+        arguments: &'a mut Arguments,
+    ) -> Result<Call<'a>, RouteRefusal>
         ensures asks { Asks result (what_is_asked (seen request.now)) }
         ensures memory { IsErrOf result RouteRefusal.Memory → IsSomeAnd (route_of (path_of (seen request.now).target)) TakesMemory }
     {
@@ -159,6 +166,12 @@ impl Routes {
         if !has_method(request, method) {
             return Err(RouteRefusal::Method(method));
         }
-        call_from(alloc, name, &found.params, request.body.as_slice())
+        call_from(
+            alloc,
+            name,
+            &found.params,
+            request.body.as_slice(),
+            arguments,
+        )
     }
 }

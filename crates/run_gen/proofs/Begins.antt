@@ -15,7 +15,7 @@ use Rattle.repo_calls.specs.declared.refusal.Refusal as own
 use Rattle.repo_calls.specs.declared.refusal.Refusal.TheVariants as refusals
 use Rattle.std.proofs.lemmas.List.{length-replicate}
 use Rattle.std.specs.declared.alloc.AllocError.{AllocError}
-use Rattle.turn_history.specs.Opening.{Opening}
+use Rattle.bookmark_lock.specs.Opening.{Opening}
 use Rattle.blob_disk.specs.Log.{Log}
 use Rattle.blob_disk.specs.MemDisk.{log_of, memory_of, tally_of, told_of}
 use Rattle.blob_disk.specs.MemMeaning.{meaning_of, quiet_of}
@@ -24,12 +24,12 @@ use Rattle.blob_disk.specs.Tally.{Tally, fresh}
 use Rattle.blob_disk.specs.declared.call_kind.CallKind.{CallKind}
 use Rattle.blob_disk.specs.declared.mem_disk.MemDisk.{MemDisk}
 use Rattle.repo_state.specs.State.{HasNoFault, IsQuiet}
-use Rattle.seat_calls.specs.Asking.{stored_answer}
-use Rattle.seat_calls.specs.declared.calls.ChangeFault.{ChangeFault}
-use Rattle.seat_calls.specs.declared.calls.ChangeFault.TheVariants.{Refused, DiskFault}
-use Rattle.load_stacks.specs.Stacks.{base, base_id, main}
-use Rattle.load_calls.specs.Loads.{base_entry, main_entry}
-use Rattle.load_calls.specs.declared.fault.LoadFault.TheVariants.{Memory as NoMemory}
+use Rattle.repo_calls.specs.Asking.{stored_answer}
+use Rattle.repo_calls.specs.declared.calls.ChangeFault.{ChangeFault}
+use Rattle.repo_calls.specs.declared.calls.ChangeFault.TheVariants.{Refused, DiskFault}
+use Rattle.run_gen.specs.Stacks.{base, base_id, main}
+use Rattle.run_gen.specs.Loads.{base_entry, main_entry}
+use Rattle.run_gen.specs.declared.fault.LoadFault.TheVariants.{Memory as NoMemory}
 use Rattle.run_gen.specs.Begun.{Enters, IsFresh, MayBe, load_capacity, load_header}
 use Rattle.run_gen.specs.Outcomes.{fault_of}
 use Rattle.run_gen.proofs.Outcomes.{never_fails}

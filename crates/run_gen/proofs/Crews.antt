@@ -10,13 +10,13 @@ use Rattle.history_model.specs.Journal.{Header}
 use Rattle.reply_model.specs.After.{entry_by}
 use Rattle.bookmark_lock.specs.Place.{Place, with_front}
 use Rattle.bookmark_lock.proofs.Entries.{entries_none}
-use Rattle.load_stacks.specs.Stacks.{base_id}
-use Rattle.load_calls.specs.Calls.{bodies_of, heads_of, landings_in}
-use Rattle.load_calls.specs.Clients.{Ran}
-use Rattle.load_calls.specs.Loads.{HasClient, IsBegun, IsLoaded, IsStopped, base_entry, lead_entries, main_entry}
-use Rattle.load_calls.specs.declared.fault.LoadFault.{LoadFault}
-use Rattle.load_calls.specs.declared.fault.LoadFault.TheVariants.{Refused, Memory}
-use Rattle.load_calls.proofs.Own.{answered_own, went_lands}
+use Rattle.run_gen.specs.Stacks.{base_id}
+use Rattle.run_gen.specs.Calls.{bodies_of, heads_of, landings_in}
+use Rattle.run_gen.specs.Clients.{Ran}
+use Rattle.run_gen.specs.Loads.{HasClient, IsBegun, IsLoaded, IsStopped, base_entry, lead_entries, main_entry}
+use Rattle.run_gen.specs.declared.fault.LoadFault.{LoadFault}
+use Rattle.run_gen.specs.declared.fault.LoadFault.TheVariants.{Refused, Memory}
+use Rattle.run_gen.proofs.Own.{answered_own, went_lands}
 use Rattle.repo_state.specs.State.{IsQuiet, State}
 use Rattle.run_gen.specs.Loading.{Leaves}
 use Rattle.run_gen.specs.Crew.{AreClients, Did, IsClientAt, IsReady, place_at}

@@ -3,7 +3,7 @@ use Rattle.std.specs.Prelude.{All, Contains}
 use Rattle.std.proofs.Common.{◌≡◌, ℕ, suc, List, [], ◌∷◌, ◌++◌, get_or, refl, ◌∙◌, subst, arith, length-append}
 use Rattle.std.proofs.lemmas.List.Elements.{All-append, All-cons, All-contains, All-contains_itself}
 use Rattle.history_model.specs.History.{entries_by}
-use Rattle.bookmark_lock.proofs.Prefixes.{prefix_self, prefix_trans}
+use Rattle.byte_fields.proofs.Lists.{prefix_self, prefix_trans}
 use Rattle.bookmark_lock.specs.Place.{Place, known, joined_place}
 use Rattle.bookmark_lock.specs.Fronts.{GoesOn, IsJoined}
 use Rattle.run_gen.specs.Joining.{HasAll, TakesIn}

@@ -3,3 +3,10 @@ pub mod Stacking
 pub mod Joining
 pub mod Begins
 pub mod Crews
+pub mod Texts
+pub mod Rules
+pub mod Fronts
+pub mod Granting
+pub mod Own
+pub mod Joined
+pub mod Runs

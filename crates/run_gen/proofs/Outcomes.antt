@@ -1,27 +1,28 @@
 -- From the answer to a change to what a client was told.
-use Rattle.std.proofs.Common.{◌≡◌, ℕ, true, suc, ◌-◌, List, [], ◌∷◌, ◌++◌, length, refl, ap, sym, subst, ◌∙◌, arith}
-use Rattle.std.specs.Prelude.{Option, None, Some, Result, Ok, Err, IfOk, slice_get}
+use Rattle.std.proofs.Common.{◌≡◌, ℕ, true, ◌-◌, List, [], ◌∷◌, ◌++◌, length, refl, ap, subst, ◌∙◌}
+use Rattle.std.specs.Prelude.{None, Some, Result, Ok, Err, IfOk, slice_get}
 use Rattle.std.specs.List.{AllByRecursion}
 use Rattle.byte_fields.specs.Bytes.{Id}
 use Rattle.history_model.specs.History.{Entry, Fault, is_stored}
 use Rattle.history_model.specs.Journal.{Header}
 use Rattle.reply_model.specs.Reply as reply
 use Rattle.reply_model.specs.Reply.{Ask, PutContent, PutChangeset, SetBookmark, LandDraft}
-use Rattle.reply_model.specs.After.{After, Asks, DiskFault, Grants, entries_of, entry_by, only_fault}
+use Rattle.reply_model.specs.After.{After, Asks, DiskFault, Grants, entries_of, entry_by}
 use Rattle.repo_calls.specs.Calls.{granted_seen, refused}
 use Rattle.repo_calls.specs.declared.ask.Granted.{Granted}
 use Rattle.repo_calls.specs.declared.refusal.Refusal.{Refusal}
 use Rattle.repo_calls.specs.declared.refusal.Refusal.TheVariants as refusals
 use Rattle.repo_state.specs.State.{HasNoFault}
-use Rattle.load_calls.specs.Answers.{Answered}
-use Rattle.load_calls.specs.Calls.{heads_in, last_id}
-use Rattle.load_calls.specs.Grants.{FitsAsk}
-use Rattle.load_calls.specs.declared.fault.LoadFault.{LoadFault}
-use Rattle.load_calls.proofs.Fronts.{memory_sees}
-use Rattle.load_calls.proofs.Granting.{judged_suits}
-use Rattle.load_calls.proofs.Joined.{cut_off, one_granted, one_refused}
+use Rattle.run_gen.specs.Answers.{Answered}
+use Rattle.run_gen.specs.Calls.{last_id}
+use Rattle.run_gen.specs.Grants.{FitsAsk}
+use Rattle.run_gen.specs.declared.fault.LoadFault.{LoadFault}
+use Rattle.run_gen.proofs.Fronts.{memory_sees}
+use Rattle.run_gen.proofs.Granting.{judged_suits}
+use Rattle.run_gen.proofs.Joined.{cut_off, one_refused}
 use Rattle.run_gen.specs.Outcomes.{fault_of, heads_left}
 use Rattle.run_gen.specs.Parts.{is_upload}
+use Rattle.bonsai.proofs.Run.{one_less}
 
 module _ (header : Header) (who : ℕ) (from to : List Entry) (ask : Ask) where
   pub fits : (granted : reply.Granted) → After header from who (Asks ask) (Grants granted) to → FitsAsk ask granted
@@ -71,9 +72,6 @@ upload_leaves ask (Err fault) is fits = refl
 last_got : (x : Id) (ids : List Id) → slice_get (x ∷ ids) (length ids) ≡ Some (last_id x ids)
 last_got x [] = refl
 last_got x (y ∷ ids) = last_got y ids
-
-one_less : (n : ℕ) → suc n - 1 ≡ n
-one_less n = omega arith
 
 some_is : (x y : Id) → Some x ≡ Some y → x ≡ y
 some_is x y e = cc

@@ -1,5 +1,5 @@
 -- A seat that goes on, and the changesets of a stack.
-use Rattle.std.proofs.Common.{◌≡◌, ℕ, zero, suc, ◌+◌, ◌≤◌, ◌<◌, Bool, true, false, List, [], ◌∷◌, ◌++◌, refl, ap, sym, subst, ◌∙◌, arith}
+use Rattle.std.proofs.Common.{◌≡◌, ℕ, zero, suc, ◌+◌, ◌≤◌, ◌<◌, Bool, true, false, List, [], ◌++◌, refl, ap, sym, subst, ◌∙◌, arith}
 use Rattle.std.specs.Prelude.{Result, Ok, Err, ◌==◌}
 use Rattle.std.proofs.lemmas.Bool.{eqb-true, eqb-false}
 use mathlib.Core.List.{IsPrefix}
@@ -9,12 +9,13 @@ use Rattle.history_model.specs.History.{Entry}
 use Rattle.history_model.specs.Journal.{Header}
 use Rattle.reply_model.specs.Reply.{Ask}
 use Rattle.changeset_model.specs.Changeset.{id_of}
-use Rattle.load_stacks.specs.Stacks.{Stack, after_part, changeset_of, part_asks, part_of, parts_of, with_part}
-use Rattle.load_calls.specs.Answers.{Answered}
-use Rattle.load_calls.specs.Running.{done}
-use Rattle.load_calls.specs.declared.fault.LoadFault.{LoadFault}
-use Rattle.load_calls.proofs.Fronts.{prefix_more, prefix_self, prefix_trans}
-use Rattle.load_calls.proofs.Joined.{and_then, same_answered, stops_early}
+use Rattle.run_gen.specs.Stacks.{Stack, after_part, changeset_of, part_asks, part_of, parts_of, with_part}
+use Rattle.run_gen.specs.Answers.{Answered}
+use Rattle.run_gen.specs.Running.{done}
+use Rattle.run_gen.specs.declared.fault.LoadFault.{LoadFault}
+use Rattle.run_gen.proofs.Fronts.{prefix_more}
+use Rattle.byte_fields.proofs.Lists.{prefix_self, prefix_trans}
+use Rattle.run_gen.proofs.Joined.{and_then, same_answered, stops_early}
 
 pub seat_then : {X Y : Type 0} (header : Header) (seat mid : Place) (to : List Entry) (asks more : List Ask) (heads others : List Id) (x : X) (outcome : Result Y LoadFault)
     → mid ≡ with_front seat mid.front → Answered header seat.number seat.front asks heads (Ok x) mid.front → Answered header mid.number mid.front more others outcome to

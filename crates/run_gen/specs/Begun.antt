@@ -7,14 +7,14 @@
 use Rattle.std.specs.Prelude.{◌≡◌, ℕ, true, List, [], Some, Result, Ok, Err}
 use Rattle.disk_model.specs.Meaning.{Meaning}
 use Rattle.history_model.specs.Journal.{Header, Stands}
-use Rattle.load_calls.specs.Loads.{lead_entries}
-use Rattle.load_calls.specs.declared.fault.LoadFault.TheVariants.{Memory}
+use Rattle.run_gen.specs.Loads.{lead_entries}
+use Rattle.run_gen.specs.declared.fault.LoadFault.TheVariants.{Memory}
 use Rattle.history_model.specs.History.{Body, Entry}
 use Rattle.reply_model.specs.Reply.{Ask, Granted, judge}
 use Rattle.repo_calls.specs.declared.ask.Granted as own
 use Rattle.repo_state.specs.State.{IsQuiet, State}
-use Rattle.seat_calls.specs.declared.calls.ChangeFault.{ChangeFault}
-use Rattle.seat_calls.specs.declared.calls.ChangeFault.TheVariants.{Refused, DiskFault}
+use Rattle.repo_calls.specs.declared.calls.ChangeFault.{ChangeFault}
+use Rattle.repo_calls.specs.declared.calls.ChangeFault.TheVariants.{Refused, DiskFault}
 use Rattle.run_gen.specs.Outcomes.{fault_of}
 
 abbrev pub load_capacity : ℕ

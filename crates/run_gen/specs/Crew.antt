@@ -4,7 +4,7 @@
 --     IsClientAt lead k seated, AreClients lead n all      the client with this number;  the clients with the numbers below n
 use Rattle.std.specs.Prelude.{◌≡◌, ℕ, ◌+◌, ◌<◌, ◌^◌, List, [], slice_index_or}
 use Rattle.bookmark_lock.specs.Place.{Place, Site, with_front}
-use Rattle.load_calls.specs.Clients.{Ran}
+use Rattle.run_gen.specs.Clients.{Ran}
 use Rattle.repo_state.specs.State.{IsQuiet}
 use Rattle.run_gen.specs.declared.crew.Seated.{Seated}
 use Rattle.run_gen.specs.declared.crew.Finished.{Finished}

@@ -5,3 +5,11 @@ pub mod Joining
 pub mod Sums
 pub mod Begun
 pub mod Loading
+pub mod Draws
+pub mod Stacks
+pub mod Calls
+pub mod Grants
+pub mod Answers
+pub mod Clients
+pub mod Running
+pub mod Loads

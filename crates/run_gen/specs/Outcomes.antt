@@ -8,9 +8,9 @@ use Rattle.repo_calls.specs.declared.ask.Granted.{Granted}
 use Rattle.repo_calls.specs.declared.refusal.Refusal.{Refusal}
 use Rattle.repo_calls.specs.declared.refusal.Refusal.TheVariants as refusals
 use Rattle.repo_calls.specs.Calls.{granted_seen}
-use Rattle.load_calls.specs.Calls.{heads_in}
-use Rattle.load_calls.specs.declared.fault.LoadFault.{LoadFault}
-use Rattle.load_calls.specs.declared.fault.LoadFault.TheVariants.{Refused, Memory}
+use Rattle.run_gen.specs.Calls.{heads_in}
+use Rattle.run_gen.specs.declared.fault.LoadFault.{LoadFault}
+use Rattle.run_gen.specs.declared.fault.LoadFault.TheVariants.{Refused, Memory}
 
 abbrev pub fault_of : Refusal → LoadFault
 fault_of refusals.Down = Refused

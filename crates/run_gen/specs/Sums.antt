@@ -5,7 +5,7 @@ use Rattle.byte_fields.specs.Bytes.{Id}
 use Rattle.history_model.specs.Bookmark.{head}
 use Rattle.history_model.specs.History.{Entry, known, stored}
 use Rattle.history_model.specs.Tree.{files_of}
-use Rattle.load_stacks.specs.Stacks.{main}
+use Rattle.run_gen.specs.Stacks.{main}
 use Rattle.manifest_model.specs.Fsnode.{fsnode, fsnode_id}
 use Rattle.repo_machine.specs.Counting.{is_landing}
 use Rattle.run_gen.specs.declared.summary.Summary.{Summary}

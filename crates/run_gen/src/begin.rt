@@ -8,15 +8,13 @@ ghost use Rattle.run_gen.specs.Begun.{Enters, IsFresh, IsLed, IsMade, IsNew, May
 
 use crate::asking::fault_of;
 use crate::clients::main_name;
+use crate::{LoadFault, base_encoding};
 use blob_disk::MemDisk;
-use load_calls::LoadFault;
-use load_stacks::base_encoding;
 use object_id::Id;
 use recovery::{OpenFault, Opened, open};
-use repo_calls::{Ask, Granted};
+use repo_calls::{Ask, ChangeFault, Granted};
 use repo_journal::{InitFault, init};
 use repo_state::RepoState;
-use seat_calls::ChangeFault;
 use std::alloc::{AllocError, Global};
 use std::hash::RandomState;
 

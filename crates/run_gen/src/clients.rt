@@ -2,13 +2,12 @@
 ghost use Rattle.std.specs.Prelude.{◌≡◌, ◌+◌, ◌<◌, ◌^◌, IfOk};
 ghost use Rattle.bookmark_lock.specs.Place.{with_front};
 ghost use Rattle.repo_state.specs.State.{IsQuiet};
-ghost use Rattle.load_calls.specs.Clients.{Ran};
-ghost use Rattle.load_stacks.specs.Stacks.{main};
+ghost use Rattle.run_gen.specs.Clients.{Ran};
+ghost use Rattle.run_gen.specs.Stacks.{main};
 
 use crate::stack::land_stack;
+use crate::{Draws, LoadFault, MAIN, base_encoding};
 use blob_disk::Disk;
-use load_calls::LoadFault;
-use load_stacks::{Draws, MAIN, base_encoding};
 use object_id::Id;
 use repo_path::{BookName, NameFault};
 use shared_repo::{Repo, RepoSeat};

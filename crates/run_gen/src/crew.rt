@@ -2,9 +2,9 @@
 ghost use Rattle.std.specs.Prelude.{◌≡◌, ◌+◌, ◌<◌, ◌≤◌, ◌^◌, ℕ, All, IfOk, length, slice_index_or};
 ghost use Rattle.run_gen.specs.Crew.{AreClients, Did, IsReady};
 
+use crate::LoadFault;
 use crate::clients::client;
 use blob_disk::Disk;
-use load_calls::LoadFault;
 use shared_repo::{Repo, RepoSeat};
 use std::alloc::{AllocError, Global};
 use std::sync::Wait;

@@ -2,9 +2,9 @@
 ghost use Rattle.std.specs.Prelude.{◌≡◌, ℕ, ◌<◌, All, IfErr, OnOk, Ok, Err, length, slice_index_or};
 ghost use Rattle.run_gen.specs.Joining.{IsOf, TakesIn, seats_of};
 
+use crate::LoadFault;
 use crate::crew::Finished;
 use blob_disk::Disk;
-use load_calls::LoadFault;
 use shared_repo::{Repo, RepoSeat};
 
 /// The lead joins the seats of all of them, and has seen all their entries then.

@@ -4,12 +4,12 @@ ghost use Rattle.repo_state.specs.State.{IsQuiet};
 ghost use Rattle.run_gen.specs.Begun.{load_header};
 ghost use Rattle.run_gen.specs.Loading.{Leaves, Tells};
 
+use crate::LoadFault;
 use crate::begin::begin;
 use crate::crew::{run_all, split_all};
 use crate::joins::{join_all, outcome_of};
 use crate::summary::{Summary, sum_up};
 use blob_disk::MemDisk;
-use load_calls::LoadFault;
 use repo_state::RepoState;
 use shared_repo::Repo;
 use std::alloc::{AllocError, Global};

@@ -4,15 +4,14 @@ ghost use Rattle.changeset_model.specs.Changeset.{id_of};
 ghost use Rattle.bookmark_lock.specs.Place.{with_front};
 ghost use Rattle.reply_model.specs.Reply.{PutChangeset};
 ghost use Rattle.repo_state.specs.State.{IsQuiet};
-ghost use Rattle.load_stacks.specs.Stacks.{after_part, changeset_of, main, part_asks, part_of, parts_on, stack_of};
-ghost use Rattle.load_calls.specs.Answers.{Answered};
+ghost use Rattle.run_gen.specs.Stacks.{after_part, changeset_of, main, part_asks, part_of, parts_on, stack_of};
+ghost use Rattle.run_gen.specs.Answers.{Answered};
 ghost use Rattle.run_gen.specs.Outcomes.{heads_given};
 ghost use Rattle.run_gen.specs.Parts.{content_asks};
 
 use crate::asking::{land, put};
+use crate::{Draws, LoadFault, Upload, next_upload};
 use blob_disk::Disk;
-use load_calls::LoadFault;
-use load_stacks::{Draws, Upload, next_upload};
 use object_id::Id;
 use repo_calls::Ask;
 use repo_path::BookName;

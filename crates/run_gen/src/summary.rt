@@ -3,15 +3,15 @@ ghost use Rattle.std.specs.Prelude.{◌≡◌, [], IfOk, Some};
 ghost use Rattle.history_model.specs.Bookmark.{head};
 ghost use Rattle.history_model.specs.History.{known};
 ghost use Rattle.history_model.specs.Tree.{files_of};
-ghost use Rattle.load_stacks.specs.Stacks.{main};
+ghost use Rattle.run_gen.specs.Stacks.{main};
 ghost use Rattle.manifest_model.specs.Fsnode.{fsnode, fsnode_id};
 ghost use Rattle.run_gen.specs.Sums.{SumsUp};
 
 use crate::clients::main_name;
 use blob_disk::Disk;
 use object_id::Id;
+use repo_calls::{Question, Seen};
 use repo_state::RepoState;
-use seat_calls::{Question, Seen};
 use std::alloc::{AllocError, Global};
 
 /// What a load comes to.

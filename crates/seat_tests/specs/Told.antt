@@ -2,7 +2,7 @@
 --     IsTold call answer      it may answer the call so;  lawful      a seat may have this relation
 use Rattle.reply_model.specs.Reply.{Seen}
 use Rattle.reply_model.specs.After.{Call, Asks, Looks, Derives, Answer, Grants, Refuses, Shows, Lacks, Roots, DiskFault, ReadFault, BadBytes, NodeCollision, Memory}
-use Rattle.seat_calls.specs.Replying.{Shown, IsReplying}
+use Rattle.repo_calls.specs.Replying.{Shown, IsReplying}
 
 abbrev pub IsShown : Call → Seen → Type 0
 IsShown (Asks ask) seen = ⊥

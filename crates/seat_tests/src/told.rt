@@ -1,12 +1,11 @@
 //! A seat whose answers depend on what is asked for alone.
 ghost use Rattle.std.specs.Prelude.{[]};
-ghost use Rattle.turn_history.specs.Opening.{unopened};
+ghost use Rattle.bookmark_lock.specs.Opening.{unopened};
 ghost use Rattle.seat_tests.specs.Told.{IsTold, lawful};
 
 use object_id::Id;
-use repo_calls::{Ask, Granted, Refusal};
+use repo_calls::{Ask, AskFault, ChangeFault, Granted, Question, Refusal, Seat, Seen};
 use repo_path::RepoPath;
-use seat_calls::{AskFault, ChangeFault, Question, Seat, Seen};
 use std::alloc::Global;
 
 /// A seat that knows one changeset, whose id is that of `abc`. Each content has the bytes of another id. All else wants

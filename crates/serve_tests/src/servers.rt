@@ -3,19 +3,19 @@ ghost use Rattle.std.specs.Prelude.{◌≡◌};
 
 use crate::given::{calls, empty_opener, link_of, opener_of, words};
 use blob_disk::{Disk, MemDisk};
-use command_line::{Ran, run};
-use file_commands::Status;
+use command_line::{Ran, Status, run};
 use net_ports::TcpAccept;
 use ports::{Accept, Failed, Link, MemAccept, MemLink, MemOpener, NoGate, Opener, ZeroBytes};
 use std::alloc::Global;
 use std::hash::RandomState;
-use std::io::{Read, Write};
+use std::io::{Eprint, Read, Write};
 use std::net::{Net, Shutdown, TcpListener, TcpStream};
 use std::process::Abort;
 use std::sync::atomic::{AtomicU64, Ordering};
 use std::sync::{Arc, Wait};
 use std::test::Fail;
 use std::thread::Threads;
+use std::time::Clock;
 
 /// The file of a new repository of 65,536 bytes: the mark, the capacity and a closed gate.
 const NEW: &[u8] = b"BONSAI\x00\x01\x00\x00\x00\x00\x00\x01\x00\x00\x00";
@@ -346,9 +346,9 @@ fn a_server_takes_nothing_where_its_words_or_its_file_are_wrong(
 }
 
 // A client that has sent the request to the accept.
-fn client_of<R: Net<Listener = TcpListener, Stream = TcpStream>>(
+fn client_of<R: Net<Listener = TcpListener, Stream = TcpStream> + Clock + Eprint>(
     net: &R,
-    accept: &TcpAccept,
+    accept: &TcpAccept<&R>,
 ) -> Result<TcpStream, Fail> {
     let mut client = TcpStream::connect(net, accept.local_addr()?)?;
     client.write_all(REQUEST)?;
@@ -378,7 +378,7 @@ where
 #[test]
 fn a_server_answers_over_a_socket(rt: HostRuntime) -> Result<(), Fail> {
     let alloc = rt.alloc();
-    let accept = TcpAccept::bind(&rt, "127.0.0.1:0")?;
+    let accept = TcpAccept::bind(&rt, alloc, "127.0.0.1:0")?;
     let mut client = client_of(&rt, &accept)?;
     let (status, link) = ended(&rt, alloc, accept)?;
     assert_eq!(rt; status, Status::Done);

@@ -1,6 +1,6 @@
 -- A lead that joins seats one after another.
 use Rattle.std.proofs.Common.{ℕ, ◌+◌, ◌∙◌, arith}
-use Rattle.bookmark_lock.proofs.Prefixes.{prefix_trans}
+use Rattle.byte_fields.proofs.Lists.{prefix_trans}
 use Rattle.bookmark_lock.specs.Place.{Place}
 use Rattle.server_lanes.specs.Lanes.{TakesBack}
 

@@ -7,7 +7,7 @@ ghost use Rattle.reply_model.specs.After.{After, Answer, Derives as Asked};
 use blob_disk::Disk;
 use derive_pool::Derives;
 use object_id::Id;
-use seat_calls::AskFault;
+use repo_calls::AskFault;
 use shared_repo::{Repo, RepoSeat};
 use std::alloc::Global;
 use std::marker::Model;

@@ -59,7 +59,22 @@ impl<'a, R: Wait, D: Disk, G: Gate, L: Link, K: Run, E: Ledger> Lane<'a, R, D, G
             .serve_next(rt, alloc, routes, door, &mut self.seat)
     }
 
-    // Tells the derivers, if there are any, what the next page of the log has.
+    // Tells the derivers, if there are any, the heads of the bookmarks, unless another lane does.
+    fn tell_heads(&mut self, rt: &R, alloc: Global)
+        ensures home { with_front self.new.place [] ≡ with_front self.old.place [] }
+        ensures tally { self.new.tally ≡ self.old.tally }
+    {
+        let Lane {
+            seat,
+            tally: _,
+            feed,
+        } = self;
+        if let Some(feed) = feed {
+            feed.tell_heads(rt, alloc, seat);
+        }
+    }
+
+    // Tells the derivers, if there are any, what the log has since the last time.
     fn feed_derivers(&mut self, rt: &R, alloc: Global)
         ensures home { with_front self.new.place [] ≡ with_front self.old.place [] }
         ensures tally { self.new.tally ≡ self.old.tally }
@@ -70,7 +85,7 @@ impl<'a, R: Wait, D: Disk, G: Gate, L: Link, K: Run, E: Ledger> Lane<'a, R, D, G
             feed,
         } = self;
         if let Some(feed) = feed {
-            feed.read_page(rt, alloc, seat);
+            feed.read_pages(rt, alloc, seat);
         }
     }
 
@@ -91,7 +106,8 @@ impl<'a, R: Wait, D: Disk, G: Gate, L: Link, K: Run, E: Ledger> Lane<'a, R, D, G
 }
 
 /// The lane takes links of the door, one after another, and serves each to its end, however that is,
-/// until no more will come. After each it reads a page of the log for the derivers.
+/// until no more will come. Before the first it tells the derivers the heads of the bookmarks, if that is left to it, and
+/// after each what the log has since.
 pub(crate) fn serve_links<R: Wait, D: Disk, G: Gate, L: Link, K: Run, E: Ledger, A: Accept<L>>(
     rt: &R,
     alloc: Global,
@@ -102,6 +118,7 @@ pub(crate) fn serve_links<R: Wait, D: Disk, G: Gate, L: Link, K: Run, E: Ledger,
     requires { 0 < lane.old.tally.parts }
     ensures { HasRun lane.old lane.new }
 {
+    lane.tell_heads(rt, alloc);
     for _ in rt.forever() {
         let served = lane.serve_next(rt, alloc, routes, door);
         if !served {

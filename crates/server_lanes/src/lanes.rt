@@ -35,12 +35,21 @@ pub(crate) fn split_lanes<'a, R: Wait, D: Disk, G: Gate, L: Link, K: Run, E: Led
     ensures count { IfOk result (λ made. vec_len made ≡ lanes) }
     ensures lanes { IfOk result (λ made. All (IsAt repo.now) made.items) }
 {
+    let mut feed = feed;
     let mut made = Vec::with_capacity(alloc, lanes as usize)?;
     for _ in 0..lanes {
         let seat = Served::new(rt, repo, repo.split(lead), gate);
-        made.push(Lane::new(seat, tally.split_off(), feed.clone()?))?;
+        made.push(Lane::new(seat, tally.split_off(), shared(&mut feed)?))?;
     }
     Ok(made)
+}
+
+// The feed of one more lane, where there is one. That of the first tells the heads of bookmarks.
+fn shared(feed: &mut Option<Feed>) -> Result<Option<Feed>, AllocError> {
+    match feed {
+        Some(feed) => Ok(Some(feed.share()?)),
+        None => Ok(None),
+    }
 }
 
 // The lead joins the seat of one lane.

@@ -5,7 +5,7 @@ use crate::serving::{MOST_DERIVERS, serve};
 use crate::watched::Watched;
 use blob_disk::{Disk, MemDisk};
 use object_id::Id;
-use ports::{MemAccept, MemLink};
+use ports::{MemAccept, MemLink, NoGate};
 use repo_calls::Ask;
 use repo_path::BookName;
 use repo_state::RepoState;
@@ -197,4 +197,25 @@ fn a_landing_goes_on_while_another_waits(rt: HostRuntime) -> Result<(), Fail> {
     let alloc = rt.alloc();
     check(&rt, alloc, 0)?;
     check(&rt, alloc, MOST_DERIVERS)
+}
+
+// Whether the changeset at which `main` stands is derived once a server that served nothing has ended.
+fn head_is_derived<R: Threads + Wait + Sync>(
+    rt: &R,
+    alloc: Global,
+    derivers: u64,
+) -> Result<bool, Fail> {
+    let accept = MemAccept::<MemLink>::new(Vec::new(alloc), Vec::new(alloc));
+    let state = with_main(alloc)?;
+    let closing = serve(rt, alloc, state, accept, &NoGate, 2, derivers, 2)?;
+    let state = closing.state.ok_or("memory")?;
+    is_derived(alloc, &state, ROOT)
+}
+
+#[test]
+fn the_heads_of_bookmarks_are_derived_from_the_beginning(rt: HostRuntime) -> Result<(), Fail> {
+    let alloc = rt.alloc();
+    assert!(rt; !head_is_derived(&rt, alloc, 0)?);
+    assert!(rt; head_is_derived(&rt, alloc, MOST_DERIVERS)?);
+    Ok(())
 }

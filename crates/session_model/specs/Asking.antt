@@ -23,48 +23,48 @@ use Rattle.session_model.specs.Parameters.{name_parameter, id_parameter, maybe_i
 -- ---- requests
 
 pub data Asked : Type 0 where
-  Changes : Ask → Asked
-  Looks : Question → Asked
+  Change : Ask → Asked
+  Read : Question → Asked
   Fails : Response → Asked
 
 -- of the root of a changeset's tree
 abbrev pub at_root : (Id → Path → Question) → (ℕ → List ℕ) → Result Asked Response
 at_root question value = do
   x ← id_parameter (value 0)
-  Ok (Looks (question x []))
+  Ok (Read (question x []))
 
 -- of a path in a changeset's tree
 abbrev pub at_path : (Id → Path → Question) → (ℕ → List ℕ) → Result Asked Response
 at_path question value = do
   x ← id_parameter (value 0)
   p ← path_parameter (value 1)
-  Ok (Looks (question x p))
+  Ok (Read (question x p))
 
 -- the parameters from left to right: the first that is refused decides
 abbrev pub by_name : RouteName → (ℕ → List ℕ) → List ℕ → Result Asked Response
-by_name Contents value body = Ok (Changes (PutContent body))
+by_name Contents value body = Ok (Change (PutContent body))
 by_name Content value body = do
   x ← id_parameter (value 0)
-  Ok (Looks (ContentOf x))
-by_name Changesets value body = Ok (Changes (PutChangeset body))
+  Ok (Read (ContentOf x))
+by_name Changesets value body = Ok (Change (PutChangeset body))
 by_name Changeset value body = do
   x ← id_parameter (value 0)
-  Ok (Looks (ChangesetOf x))
+  Ok (Read (ChangesetOf x))
 by_name Head value body = do
   m ← name_parameter (value 0)
-  Ok (Looks (HeadOf m))
+  Ok (Read (HeadOf m))
 by_name Move value body = do
   m ← name_parameter (value 0)
   before ← maybe_id_parameter (value 1)
   after ← maybe_id_parameter (value 2)
-  Ok (Changes (SetBookmark m before after))
+  Ok (Change (SetBookmark m before after))
 by_name Land value body = do
   m ← name_parameter (value 0)
   d ← id_parameter (value 1)
-  Ok (Changes (LandDraft m d))
+  Ok (Change (LandDraft m d))
 by_name Log value body = do
   n ← number_parameter (value 0)
-  Ok (Looks (LogFrom n))
+  Ok (Read (LogFrom n))
 by_name RootFsnode value body = at_root FsnodeOf value
 by_name Fsnode value body = at_path FsnodeOf value
 by_name RootUnode value body = at_root UnodeOf value

@@ -38,8 +38,8 @@ pub record AnswersAlone (h : List Entry) (q : Request) (r : Response) (out : Lis
   pub text : out ≡ text_for q r
 
 abbrev pub AnswersAsked : Relation → Header → ℕ → List Entry → Asked → Request → List ℕ → List Entry → Type 0
-AnswersAsked replies header who h (asking.Changes ask) q out after = AnswersCall replies header who h (Asks ask) (change_response ask) q out after
-AnswersAsked replies header who h (asking.Looks question) q out after = AnswersCall replies header who h (Looks question) (read_response question) q out after
+AnswersAsked replies header who h (asking.Change ask) q out after = AnswersCall replies header who h (Asks ask) (change_response ask) q out after
+AnswersAsked replies header who h (asking.Read question) q out after = AnswersCall replies header who h (Looks question) (read_response question) q out after
 AnswersAsked replies header who h (asking.Fails r) q out after = AnswersAlone h q r out after
 
 -- where there is no memory to tell what is asked for, that is told, and nothing changes

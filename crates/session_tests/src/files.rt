@@ -6,7 +6,7 @@ use crate::program::{
 use crate::session::{asking, bytes_of, cut, played};
 use crate::stops::check_counted;
 use blob_disk::MemDisk;
-use file_commands::Status;
+use command_line::Status;
 use std::alloc::{AllocError, Global};
 use std::process::Abort;
 use std::sync::Wait;

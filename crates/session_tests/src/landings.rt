@@ -6,7 +6,7 @@ use crate::stops::{
     fill_of, kind_of, left,
 };
 use blob_disk::{CallKind, MemDisk};
-use file_commands::Status;
+use command_line::Status;
 use std::alloc::{AllocError, Global};
 use std::process::Abort;
 use std::sync::Wait;

@@ -3,7 +3,7 @@ ghost use Rattle.std.specs.Prelude.{None};
 
 use crate::program::{Came, INIT, made, number, opener_of, size, status_with};
 use crate::session::{cut, script_of, session};
-use file_commands::Status;
+use command_line::Status;
 use ports::{Failed, Link};
 use std::alloc::Global;
 use std::process::Abort;

@@ -1,7 +1,6 @@
 //! Runs of the program over memory.
 use blob_disk::{CallKind, Disk, MemDisk};
-use command_line::run;
-use file_commands::Status;
+use command_line::{Status, run};
 use ports::{Link, MemAccept, MemLink, MemOpener, NoGate, Opener, Slot, ZeroBytes};
 use std::alloc::{AllocError, Global};
 use std::hash::RandomState;

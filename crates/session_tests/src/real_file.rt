@@ -1,8 +1,9 @@
 //! A real file: made, served, and opened again.
 use crate::program::{INIT, link_of, same, same_bytes, status_with};
 use crate::session::script_of;
-use file_commands::Status;
-use file_disk::{FileDisk, FileOpener};
+use blob_disk::Disk;
+use command_line::Status;
+use file_disk::FileOpener;
 use ports::Opener;
 use std::alloc::Global;
 use std::fs;
@@ -25,7 +26,7 @@ const GET: &str =
     "GET /content/ba7816bf8f01cfea414140de5dae2223b00361a396177a9cb410ff61f20015ad |  | 200 OK | 0x616263";
 
 // Runs the program on the words of a line, which ends and writes so.
-fn check<R: Abort + Threads + Wait + Sync, O: Opener<FileDisk>>(
+fn check<R: Abort + Threads + Wait + Sync, D: Disk + Send, O: Opener<D>>(
     rt: &R,
     alloc: Global,
     opener: &mut O,
@@ -39,7 +40,7 @@ fn check<R: Abort + Threads + Wait + Sync, O: Opener<FileDisk>>(
     Ok(())
 }
 
-fn check_session<R: Abort + Threads + Wait + Sync, O: Opener<FileDisk>>(
+fn check_session<R: Abort + Threads + Wait + Sync, D: Disk + Send, O: Opener<D>>(
     rt: &R,
     alloc: Global,
     opener: &mut O,
@@ -52,7 +53,7 @@ fn check_session<R: Abort + Threads + Wait + Sync, O: Opener<FileDisk>>(
 }
 
 // A new repository in which a content is stored, read in another session, and counted.
-fn check_story<R: Abort + Threads + Wait + Sync, O: Opener<FileDisk>>(
+fn check_story<R: Abort + Threads + Wait + Sync, D: Disk + Send, O: Opener<D>>(
     rt: &R,
     alloc: Global,
     opener: &mut O,
@@ -69,18 +70,18 @@ fn check_story<R: Abort + Threads + Wait + Sync, O: Opener<FileDisk>>(
 #[test]
 fn what_was_stored_outlasts_the_session(rt: HostRuntime) -> Result<(), Fail> {
     let _ = fs::remove_file(&rt, NAME);
-    let mut opener = FileOpener::new(rt.clone()?);
+    let mut opener = FileOpener::new(&rt);
     check_story(&rt, rt.alloc(), &mut opener)?;
     fs::remove_file(&rt, NAME)?;
     Ok(())
 }
 
-fn is_opened(opener: &mut impl Opener<FileDisk>, create: bool) -> bool {
+fn is_opened<D: Drop>(opener: &mut impl Opener<D>, create: bool) -> bool {
     opener.open(OPENED, create).is_ok()
 }
 
 // While the file is open, it is not opened.
-fn check_opened<R: Abort + Threads + Wait + Sync, O: Opener<FileDisk>>(
+fn check_opened<R: Abort + Threads + Wait + Sync, D: Disk + Send, O: Opener<D>>(
     rt: &R,
     alloc: Global,
     opener: &mut O,

@@ -1,7 +1,7 @@
 //! Sessions over memory, as scripts have them.
 use crate::program::{Came, INIT, link_of, made, run_line};
 use blob_disk::MemDisk;
-use file_commands::Status;
+use command_line::Status;
 use ports::MemLink;
 use std::alloc::{AllocError, Global};
 use std::process::Abort;

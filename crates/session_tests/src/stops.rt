@@ -2,7 +2,7 @@
 use crate::program::{Failing, INIT, disk_of, link_of, made, number, run_line, run_on, same_bytes};
 use crate::session::{cut, played};
 use blob_disk::{CallKind, MemDisk};
-use file_commands::Status;
+use command_line::Status;
 use std::alloc::Global;
 use std::process::Abort;
 use std::sync::Wait;

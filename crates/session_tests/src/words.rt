@@ -1,8 +1,7 @@
 //! The words of the command line, the lines that answer them, and the statuses.
 use crate::program::{link_of, link_with_room, run_line, same, size, status_of};
 use crate::session::cut;
-use command_line::refuse_words;
-use file_commands::Status;
+use command_line::{Status, refuse_words};
 use ports::MemLink;
 use program_words::texts::{HELP, VERSION};
 use std::alloc::Global;

@@ -8,9 +8,9 @@ use Rattle.history_model.specs.History.{Entry, changeset_of, content_len, known}
 use Rattle.history_model.specs.Journal.{Header}
 use Rattle.reply_model.specs.Reply.{ContentOf, ChangesetOf, SeenBytes, AbsentChangeset, ◌>>=◌}
 use Rattle.reply_model.specs.After.{After, Looks, Shows, SeesMore}
-use Rattle.seat_calls.specs.declared.calls.AskFault.{AskFault}
-use Rattle.seat_calls.specs.declared.calls.AskFault.TheVariants.{BadBytes}
-use Rattle.seat_calls.specs.Asking.{bytes_answer}
+use Rattle.repo_calls.specs.declared.calls.AskFault.{AskFault}
+use Rattle.repo_calls.specs.declared.calls.AskFault.TheVariants.{BadBytes}
+use Rattle.repo_calls.specs.Asking.{bytes_answer}
 use Rattle.repo_state.proofs.Looking.{checked_answers}
 use Rattle.shared_repo.proofs.Fronts.{after_nothing}
 

@@ -3,19 +3,18 @@ use Rattle.std.proofs.Common.{◌≡◌, ℕ, ◌+◌, ◌<◌, List, ◌++◌, 
 use Rattle.std.specs.Prelude.{Result, Err}
 use mathlib.Core.List.{IsPrefix}
 use Rattle.byte_fields.specs.Bytes.{Id}
-use Rattle.changeset_model.specs.Path.{Path}
 use Rattle.history_model.specs.History.{Entry, Known, known}
 use Rattle.history_model.specs.Chain.{line}
 use Rattle.history_model.specs.Journal.{Header}
-use Rattle.bookmark_lock.proofs.Prefixes.{prefix_self, prefix_trans}
+use Rattle.byte_fields.proofs.Lists.{prefix_self, prefix_trans}
 use Rattle.reply_model.specs.After.{After, Answer, Answers, Call, Derives, Looks, nothing, SeesMore}
-use Rattle.reply_model.specs.Reply.{FsnodeOf, UnodeOf, HistoryOf}
+use Rattle.reply_model.specs.Reply.{Question, HeadOf, ContentOf, ChangesetOf, LogFrom, FsnodeOf, UnodeOf, HistoryOf}
 use Rattle.reply_model.proofs.Lines.{known-append, line_grows}
 use Rattle.changeset_store.specs.Store.{known_at}
 use Rattle.changeset_store.proofs.Places.{known_at-append}
-use Rattle.seat_calls.specs.Asking.{IsAnswer, fault_answer}
-use Rattle.seat_calls.specs.declared.calls.AskFault.{AskFault}
-use Rattle.seat_calls.specs.declared.calls.Seen.{Seen}
+use Rattle.repo_calls.specs.Asking.{IsAnswer, fault_answer}
+use Rattle.repo_calls.specs.declared.calls.AskFault.{AskFault}
+use Rattle.repo_calls.specs.declared.calls.Seen.{Seen}
 use Rattle.derive_step.specs.Jobs.{IsJobOf, IsDoneOf}
 use Rattle.derive_step.specs.declared.done.Done.{Done}
 use Rattle.derive_step.specs.declared.job.Job.{Job}
@@ -23,7 +22,7 @@ use Rattle.manifest_store.specs.Jobs.{IsDoneOn}
 use Rattle.manifest_store.specs.Lines.{line_at}
 use Rattle.manifest_store.proofs.Lines.{known_here}
 use Rattle.repo_state.proofs.Reading as reading
-use Rattle.shared_repo.specs.Derivation.{IsNextSome, WasDerived}
+use Rattle.shared_repo.specs.Derivation.{AsksManifestOf, IsNextSome, WasDerived}
 use Rattle.shared_repo.specs.declared.derivation_turns.Next.TheVariants as nexts
 use Rattle.shared_repo.proofs.Fronts.{after_more, after_nothing}
 
@@ -74,11 +73,14 @@ module _ (header : Header) (old new : List Entry) (who : ℕ) (x : Id) (fault : 
   answered : (call : Call) → Answers header new call (fault_answer fault) nothing → Answered call
   answered call told = (fault_answer fault, refl, after_nothing header old new who call (fault_answer fault) sees told)
 
-  pub fsnode_not_derived : (d : Path) → Answered (Looks (FsnodeOf x d))
-  fsnode_not_derived d = answered (Looks (FsnodeOf x d)) (reading.fsnode_not_derived header new x d fault a)
+  at : (q : Id → Question) (y : Id) → y ≡ x → Answers header new (Looks (q x)) (fault_answer fault) nothing → Answered (Looks (q y))
+  at q y is told = answered (Looks (q y)) (subst (λ z. Answers header new (Looks (q z)) (fault_answer fault) nothing) (sym is) told)
 
-  pub unode_not_derived : (p : Path) → Answered (Looks (UnodeOf x p))
-  unode_not_derived p = answered (Looks (UnodeOf x p)) (reading.unode_not_derived header new x p fault a)
-
-  pub history_not_derived : (p : Path) → Answered (Looks (HistoryOf x p))
-  history_not_derived p = answered (Looks (HistoryOf x p)) (reading.history_not_derived header new x p fault a)
+  pub not_derived : (q : Question) → AsksManifestOf x q → Answered (Looks q)
+  not_derived (HeadOf name) of = absurd of
+  not_derived (ContentOf id) of = absurd of
+  not_derived (ChangesetOf id) of = absurd of
+  not_derived (LogFrom n) of = absurd of
+  not_derived (FsnodeOf id d) of = at (λ z. FsnodeOf z d) id of (reading.fsnode_not_derived header new x d fault a)
+  not_derived (UnodeOf id p) of = at (λ z. UnodeOf z p) id of (reading.unode_not_derived header new x p fault a)
+  not_derived (HistoryOf id p) of = at (λ z. HistoryOf z p) id of (reading.history_not_derived header new x p fault a)

@@ -5,7 +5,7 @@ use Rattle.byte_fields.specs.Bytes.{Id}
 use Rattle.history_model.specs.History.{Entry}
 use Rattle.history_model.specs.Journal.{Header}
 use Rattle.bookmark_lock.specs.Place.{Place, with_front}
-use Rattle.bookmark_lock.proofs.Prefixes.{prefix_self, prefix_trans}
+use Rattle.byte_fields.proofs.Lists.{prefix_self, prefix_trans}
 use Rattle.reply_model.specs.Reply.{Ask, LandDraft}
 use Rattle.reply_model.specs.After.{Call, Asks, Answer, Answers, After, Memory, nothing, SeesMore}
 use Rattle.repo_machine.specs.Plans.{PlannedLanding, RebasedLanding, IsPlan, WasPlanned, rebased_of}

@@ -1,12 +1,12 @@
 -- What an exchange answers.
-use Rattle.std.proofs.Common.{◌≡◌, ℕ, List, Some, refl, sym, subst, inl, inr, ◌∙◌, append-nil}
+use Rattle.std.proofs.Common.{◌≡◌, ℕ, List, Some, refl, sym, subst, inl, inr, ◌∙◌}
 use Rattle.std.specs.Prelude.{IsSome, MatchOption}
 use Rattle.byte_fields.specs.Bytes.{Id}
 use Rattle.history_model.specs.Bookmark.{head}
 use Rattle.history_model.specs.History.{Entry}
 use Rattle.history_model.specs.Journal.{Header}
 use Rattle.reply_model.specs.Reply.{Ask, LandDraft, judge}
-use Rattle.reply_model.specs.After.{Answer, Answers, Asks, Memory, Replies, nothing}
+use Rattle.reply_model.specs.After.{Answer, Answers, Asks, Replies, nothing}
 use Rattle.repo_calls.specs.declared.refusal.Refusal.{Refusal}
 use Rattle.repo_calls.specs.Calls.{refused}
 use Rattle.repo_machine.specs.Landings.{IsRefusal}
@@ -14,7 +14,7 @@ use Rattle.repo_machine.specs.Plans.{PlannedLanding, RebasedLanding, IsPlan}
 use Rattle.repo_state.specs.Exchanging.{Exchanges}
 use Rattle.repo_state.specs.declared.exchanged.Exchanged.{Exchanged}
 use Rattle.repo_state.specs.declared.exchanged.Exchanged.TheVariants.{Landed, HeadMoved, Refused, DiskFault}
-use Rattle.seat_calls.specs.Asking.{stored_answer}
+use Rattle.repo_calls.specs.Asking.{stored_answer}
 use Rattle.shared_repo.specs.Landing.{IsMadeBefore, outcome_of}
 
 pub outcome_replies : (header : Header) (h new : List Entry) (who : ℕ) (r : RebasedLanding) (x : Exchanged) → Exchanges header h who r x new
@@ -30,9 +30,6 @@ outcome_there header h new who r (Landed landed) e at = refl
 outcome_there header h new who r (HeadMoved found) e at = absurd (e.2 (e.1 ∙ at))
 outcome_there header h new who r (Refused refusal) e at = refl
 outcome_there header h new who r DiskFault e at = refl
-
-pub memory_replies : (header : Header) (h : List Entry) (who : ℕ) (ask : Ask) → Replies header h who (Asks ask) Memory h
-memory_replies header h who ask = record { made = nothing; answers = refl; new_is = sym (append-nil h) }
 
 -- a refusal of a plan is an answer that makes nothing
 pub refused_plan : (header : Header) (h : List Entry) (ask : Ask) (e : Refusal) → IsRefusal (judge header h ask) e → Answers header h (Asks ask) (refused e) nothing

@@ -19,7 +19,7 @@ use Rattle.shared_repo.specs.contracts.repo.Repo as Repo
 use Rattle.shared_repo.specs.contracts.seat.RepoSeat as RepoSeat
 use Rattle.atomic_table.proofs.badge.Badge.TheSendSync as badges
 use Rattle.bookmark_lock.specs.contracts.lock.TurnLock as Lock
-use Rattle.turn_history.specs.declared.value.Recorded as recorded
+use Rattle.bookmark_lock.specs.declared.value.Recorded as recorded
 use Rattle.atomic_table.proofs.shared.Shared.TheSendSync as shares
 use Rattle.atomic_table.proofs.send_lease.SendLease.TheSendSync as leases
 use Rattle.atomic_table.specs.declared.shared.TableRule as rules

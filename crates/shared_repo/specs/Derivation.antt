@@ -1,9 +1,10 @@
 -- What a seat knows between the turns of a derivation.
+--     AsksManifestOf x question      the read is answered from the manifests of this changeset
 --     IsNextAt header h t x next      where a repository has these manifests: the next job of the changeset's chain, or its roots where nothing is lacking
 --     IsNextSome header h x next      it is so for the manifests of some changesets
 --     IsDerivedAt h done      it was derived of a changeset that the history makes known
 --     WasDerived h done      it was so at a history with which h begins
-use Rattle.std.specs.Prelude.{◌<◌, List, length, Some}
+use Rattle.std.specs.Prelude.{◌≡◌, ◌<◌, List, length, Some}
 use mathlib.Core.List.{IsPrefix}
 use Rattle.byte_fields.specs.Bytes.{Id}
 use Rattle.history_model.specs.History.{Entry, known}
@@ -15,9 +16,19 @@ use Rattle.manifest_store.specs.Manifests.{AreManifests}
 use Rattle.node_table.specs.Table.{Table}
 use Rattle.reply_model.specs.After as answers
 use Rattle.reply_model.specs.After.{Answers, Derives, nothing}
+use Rattle.reply_model.specs.Reply.{Question, HeadOf, ContentOf, ChangesetOf, LogFrom, FsnodeOf, UnodeOf, HistoryOf}
 use Rattle.repo_state.specs.Manifests.{IsNextOf}
 use Rattle.shared_repo.specs.declared.derivation_turns.Next.{Next}
 use Rattle.shared_repo.specs.declared.derivation_turns.Next.TheVariants.{Job, Roots}
+
+abbrev pub AsksManifestOf : Id → Question → Type 0
+AsksManifestOf x (HeadOf name) = ⊥
+AsksManifestOf x (ContentOf id) = ⊥
+AsksManifestOf x (ChangesetOf id) = ⊥
+AsksManifestOf x (LogFrom n) = ⊥
+AsksManifestOf x (FsnodeOf id d) = id ≡ x
+AsksManifestOf x (UnodeOf id p) = id ≡ x
+AsksManifestOf x (HistoryOf id p) = id ≡ x
 
 abbrev pub IsNextAt : Header → List Entry → Table → Id → Next → Type 0
 IsNextAt header h t x (Job job) = AreManifests (known h) t × IsNextOf (known h) t x (Some job)

@@ -5,7 +5,7 @@ use Rattle.std.specs.Prelude.{List}
 use Rattle.history_model.specs.History.{Entry}
 use Rattle.reply_model.specs.Legal.{IsLegal}
 use Rattle.repo_state.specs.State.{HasNoFault, IsQuiet, State}
-use Rattle.turn_history.specs.Opening.{Opening}
+use Rattle.bookmark_lock.specs.Opening.{Opening}
 
 pub record IsFront (opening : Opening) (h : List Entry) : Type 0 where
   pub legal : IsLegal opening.header h

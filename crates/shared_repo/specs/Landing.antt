@@ -10,8 +10,8 @@ use Rattle.repo_machine.specs.Again.{WasPlan}
 use Rattle.repo_machine.specs.Plans.{PlannedLanding}
 use Rattle.repo_state.specs.declared.exchanged.Exchanged.{Exchanged}
 use Rattle.repo_state.specs.declared.exchanged.Exchanged.TheVariants.{Landed, HeadMoved, Refused, DiskFault}
-use Rattle.seat_calls.specs.declared.calls.ChangeFault.{ChangeFault}
-use Rattle.seat_calls.specs.declared.calls.ChangeFault.TheVariants as faults
+use Rattle.repo_calls.specs.declared.calls.ChangeFault.{ChangeFault}
+use Rattle.repo_calls.specs.declared.calls.ChangeFault.TheVariants as faults
 
 pub record IsMadeBefore (h : List Entry) (name : List ℕ) (draft : Id) (plan : PlannedLanding) : Type 0 where
   pub planned : WasPlan h plan

@@ -6,7 +6,7 @@ ghost use Rattle.history_model.specs.History.{known};
 ghost use Rattle.manifest_store.specs.Settling.{IsCollision};
 ghost use Rattle.reply_model.specs.After.{After, Answers, Derives, nothing, SeesMore};
 ghost use Rattle.repo_state.specs.Manifests.{roots_answer};
-ghost use Rattle.seat_calls.specs.Asking.{fault_answer};
+ghost use Rattle.repo_calls.specs.Asking.{fault_answer};
 ghost use Rattle.shared_repo.specs.Derivation.{IsNextSome, WasDerived};
 ghost use Rattle.shared_repo.specs.Front.{IsFront};
 
@@ -17,8 +17,8 @@ use blob_disk::Disk;
 use derive_step::{Done, derive};
 use node_table::{Roots, TableFault};
 use object_id::Id;
+use repo_calls::AskFault;
 use repo_state::{RepoState, settle_fault};
-use seat_calls::AskFault;
 use std::alloc::Global;
 use std::sync::Wait;
 

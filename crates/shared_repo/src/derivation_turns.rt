@@ -4,7 +4,7 @@ ghost use Rattle.history_model.specs.History.{known};
 ghost use Rattle.manifest_store.specs.Jobs.{settled_by};
 ghost use Rattle.manifest_store.specs.Settling.{IsCollision};
 ghost use Rattle.reply_model.specs.After.{Answers, Derives, nothing};
-ghost use Rattle.seat_calls.specs.Asking.{fault_answer};
+ghost use Rattle.repo_calls.specs.Asking.{fault_answer};
 ghost use Rattle.shared_repo.specs.Derivation.{IsNextAt, WasDerived};
 ghost use Rattle.shared_repo.specs.Front.{IsFront};
 
@@ -12,8 +12,8 @@ use blob_disk::Disk;
 use derive_step::{Done, Job};
 use node_table::{Roots, TableFault};
 use object_id::Id;
+use repo_calls::AskFault;
 use repo_state::RepoState;
-use seat_calls::AskFault;
 use std::alloc::Global;
 
 /// What comes next in the derivation of a changeset.

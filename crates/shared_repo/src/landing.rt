@@ -6,7 +6,7 @@ ghost use Rattle.reply_model.specs.Reply.{LandDraft};
 ghost use Rattle.reply_model.specs.After.{After, Answers, Asks, Replies, nothing, SeesMore};
 ghost use Rattle.repo_calls.specs.Calls.{refused};
 ghost use Rattle.repo_machine.specs.Plans.{IsPlan, WasPlanned};
-ghost use Rattle.seat_calls.specs.Asking.{stored_answer};
+ghost use Rattle.repo_calls.specs.Asking.{stored_answer};
 ghost use Rattle.shared_repo.specs.Front.{IsFront, history_of, opening_of};
 ghost use Rattle.shared_repo.specs.Landing.{IsEarlier};
 
@@ -17,11 +17,10 @@ use crate::turns::exchange_in;
 use blob_disk::Disk;
 use object_id::Id;
 use ports::Gate;
-use repo_calls::{Granted, Refusal};
+use repo_calls::{ChangeFault, Granted, Refusal};
 use repo_machine::{Plan, Rebased};
 use repo_path::BookName;
 use repo_state::RepoState;
-use seat_calls::ChangeFault;
 use std::alloc::Global;
 use std::sync::Wait;
 
@@ -29,13 +28,12 @@ use std::sync::Wait;
 const MOST_ATTEMPTS: u32 = 99;
 
 impl<D: Disk> Repo<D> {
-    /// Lands a draft on a bookmark. An attempt plans under one turn, then rebases the stack and
-    /// passes the gate outside of every turn, and enters the landing under another turn. Where the
-    /// bookmark's head has moved meanwhile it is made again, at most 99 times in all. After that one
-    /// turn is kept from the plan to the entry, and no gate is passed. Each attempt after the first
-    /// makes the plan of the one before again, which looks at what is new since then alone.
+    // An attempt plans under one turn, then rebases the stack and passes the gate outside of every turn, and enters the
+    // landing under another turn. Where the bookmark's head has moved meanwhile it is made again, at most 99 times in all.
+    // After that one turn is kept from the plan to the entry, and no gate is passed. Each attempt after the first makes the
+    // plan of the one before again, which looks at what is new since then alone.
     #[tactic(auto, using(crate::proofs::Fronts::sees_nothing, crate::proofs::Fronts::after_more, crate::proofs::Fronts::own_plan, crate::proofs::Fronts::made_before))]
-    pub fn land<R: Wait, G: Gate>(
+    pub(crate) fn land_in_turns<R: Wait, G: Gate>(
         &self,
         rt: &R,
         alloc: Global,

@@ -6,22 +6,21 @@ ghost use Rattle.reply_model.specs.Reply.{LandDraft};
 ghost use Rattle.repo_calls.specs.Calls.{refused};
 ghost use Rattle.repo_machine.specs.Again.{WasPlan};
 ghost use Rattle.repo_machine.specs.Plans.{IsPlan};
-ghost use Rattle.seat_calls.specs.Asking.{stored_answer};
+ghost use Rattle.repo_calls.specs.Asking.{stored_answer};
 ghost use Rattle.shared_repo.specs.Front.{IsFront, history_of, opening_of};
 ghost use Rattle.shared_repo.specs.Landing.{IsEarlier};
 
 use crate::turns::{exchange_in, plan_in};
+use ancestry::Steps;
 use blob_disk::Disk;
 use object_id::Id;
-use repo_calls::{Granted, Refusal};
+use repo_calls::{ChangeFault, Granted, Refusal};
 use repo_machine::Plan;
 use repo_path::BookName;
 use repo_state::RepoState;
-use seat_calls::ChangeFault;
 use std::alloc::Global;
 use std::marker::Brand;
 use std::sync::ledger::{Blank, Ledger};
-use step_count::Steps;
 
 // The plan: that of the attempt before, made again, or a new one.
 #[tactic(auto, using(crate::proofs::Landings::planned_again, crate::proofs::Landings::refused_again))]
@@ -70,7 +69,7 @@ fn plan_again_in<D: Disk, L: Ledger>(
 }
 
 // A whole landing, during which the bookmark can't move.
-#[tactic(auto, using(crate::proofs::Fronts::planned_here, crate::proofs::Fronts::asked_for, crate::proofs::Landings::memory_replies))]
+#[tactic(auto, using(crate::proofs::Fronts::planned_here, crate::proofs::Fronts::asked_for, repo_machine::proofs::Judging::replies_memory))]
 pub(crate) fn land_in<D: Disk>(
     state: &mut RepoState<D>,
     alloc: Global,

@@ -2,12 +2,12 @@
 //! of one thread answers it, at the history that the seat has seen then.
 #![tactic(auto)]
 
+mod calls;
 mod changes;
 mod derivation;
 mod derivation_turns;
 mod landing;
 mod landing_turns;
-mod manifests;
 mod reads;
 mod repo;
 mod seat;

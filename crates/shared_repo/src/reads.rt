@@ -1,38 +1,62 @@
-//! Reads of a repository that many seats share, each one turn.
+//! Reads of a repository that many seats share. A content's bytes are hashed and a changeset is encoded outside of the turn,
+//! and what a read of manifests lacks is derived before its turn.
 ghost use Rattle.std.specs.Prelude.{◌≡◌, false, length, Some, IfOk, IfErr};
 ghost use Rattle.std.specs.Arc.{arc_value};
 ghost use Rattle.bookmark_lock.specs.Place.{with_front};
 ghost use Rattle.bookmark_lock.specs.Turns.{IsTurn};
-ghost use Rattle.reply_model.specs.Reply.{HeadOf, ContentOf, ChangesetOf, LogFrom};
+ghost use Rattle.reply_model.specs.Reply.{ContentOf, ChangesetOf};
 ghost use Rattle.history_model.specs.History.{changeset_of, content_len, known};
 ghost use Rattle.reply_model.specs.After.{After, Answer, Answers, Looks, Replies, nothing, SeesMore};
-ghost use Rattle.seat_calls.specs.Asking.{IsAnswer, bytes_answer, fault_answer, question_seen};
+ghost use Rattle.repo_calls.specs.Asking.{IsAnswer, bytes_answer, fault_answer, question_seen};
+ghost use Rattle.shared_repo.specs.Derivation.{AsksManifestOf};
 ghost use Rattle.shared_repo.specs.Front.{IsFront, history_of, opening_of};
 
 use crate::repo::Repo;
 use crate::seat::RepoSeat;
-use crate::turns::{changeset_in, content_in, look_in};
+use crate::turns::{TurnRead, changeset_in, content_in};
 use blob_disk::Disk;
 use bonsai::{Commit, encode};
 use object_id::Id;
-use repo_path::BookName;
+use repo_calls::{AskFault, Question, Seen};
 use repo_state::{RepoState, check_digest};
-use seat_calls::{AskFault, Question, Seen};
 use std::alloc::Global;
 use std::sync::{Arc, Wait};
 
 impl<D: Disk> Repo<D> {
-    /// The head of a bookmark.
-    pub fn head<R: Wait>(
+    /// Answers a read.
+    pub fn look<R: Wait>(
         &self,
         rt: &R,
         alloc: Global,
         seat: &mut RepoSeat,
-        name: &BookName,
+        question: &Question,
     ) -> Result<Seen, AskFault>
         requires place { seat.old.lock ≡ self.now }
         ensures seat { seat.new ≡ with_front seat.old seat.new.front }
-        ensures after { (answer : Answer) × IsAnswer result answer × After self.now.opening.header seat.old.front seat.old.number (Looks (HeadOf name.now)) answer seat.new.front }
+        ensures after { (answer : Answer) × IsAnswer result answer × After self.now.opening.header seat.old.front seat.old.number (Looks (question_seen question.now)) answer seat.new.front }
+        ensures front { IsFront self.now.opening seat.new.front }
+    {
+        match *question {
+            Question::Head(_) | Question::Log(_) => self.look_in_turn(rt, alloc, seat, question),
+            Question::Content(id) => self.checked_content(rt, alloc, seat, id),
+            Question::Changeset(id) => self.encoded_changeset(rt, alloc, seat, id),
+            Question::Fsnode(id, _) | Question::Unode(id, _) | Question::History(id, _) => {
+                self.look_derived(rt, alloc, seat, id, question)
+            }
+        }
+    }
+
+    // The turn of a read that is answered in it.
+    fn look_in_turn<R: Wait, Q: TurnRead<D>>(
+        &self,
+        rt: &R,
+        alloc: Global,
+        seat: &mut RepoSeat,
+        question: &Q,
+    ) -> Result<Seen, AskFault>
+        requires place { seat.old.lock ≡ self.now }
+        ensures seat { seat.new ≡ with_front seat.old seat.new.front }
+        ensures after { (answer : Answer) × IsAnswer result answer × After self.now.opening.header seat.old.front seat.old.number (Looks (Q.asked question.now)) answer seat.new.front }
         ensures front { IsFront self.now.opening seat.new.front }
     {
         let who = seat.inner.number();
@@ -40,15 +64,37 @@ impl<D: Disk> Repo<D> {
             rt,
             &mut seat.inner,
             |state: &mut RepoState<D>| -> (bool, Result<Seen, AskFault>)
-                ensures reply { (answer : Answer) × IsAnswer result.1 answer × Replies state.old.opening.header state.old.history who (Looks (HeadOf name.entry.now)) answer state.new.history }
+                ensures reply { (answer : Answer) × IsAnswer result.1 answer × Replies state.old.opening.header state.old.history who (Looks (Q.asked question.entry.now)) answer state.new.history }
                 ensures turn { IsTurn history_of opening_of who state.old state.new result.0 }
                 ensures front { IsFront state.new.opening state.new.history }
-            { look_in(state, alloc, who, &Question::Head(name)) },
+            { question.look_in(state, alloc, who) },
         )
     }
 
-    /// The bytes of a content, which are hashed outside of the turn.
-    pub fn content<R: Wait>(
+    // A read of manifests, in a turn in which nothing of the changeset's chain is lacking.
+    #[tactic(auto, using(crate::proofs::Derivations::not_derived, crate::proofs::Derivations::reads_after))]
+    fn look_derived<R: Wait>(
+        &self,
+        rt: &R,
+        alloc: Global,
+        seat: &mut RepoSeat,
+        id: Id,
+        question: &Question,
+    ) -> Result<Seen, AskFault>
+        requires place { seat.old.lock ≡ self.now }
+        requires manifest { AsksManifestOf id (question_seen question.now) }
+        ensures seat { seat.new ≡ with_front seat.old seat.new.front }
+        ensures after { (answer : Answer) × IsAnswer result answer × After self.now.opening.header seat.old.front seat.old.number (Looks (question_seen question.now)) answer seat.new.front }
+        ensures front { IsFront self.now.opening seat.new.front }
+    {
+        if let Err(fault) = self.derive_chain(rt, alloc, seat, id) {
+            return Err(fault);
+        }
+        self.look_in_turn(rt, alloc, seat, question)
+    }
+
+    // The bytes of a content, which are hashed outside of the turn.
+    fn checked_content<R: Wait>(
         &self,
         rt: &R,
         alloc: Global,
@@ -94,9 +140,9 @@ impl<D: Disk> Repo<D> {
         )
     }
 
-    /// The encoding of a changeset, which is made outside of the turn.
+    // The encoding of a changeset, which is made outside of the turn.
     #[tactic(auto, using(crate::proofs::Fronts::after_nothing))]
-    pub fn changeset<R: Wait>(
+    fn encoded_changeset<R: Wait>(
         &self,
         rt: &R,
         alloc: Global,
@@ -144,55 +190,6 @@ impl<D: Disk> Repo<D> {
                 ensures front { IsFront state.new.opening state.new.history }
             { (false, changeset_in(state, id)) },
         )
-    }
-
-    /// A page of the log, from this number on.
-    pub fn log<R: Wait>(
-        &self,
-        rt: &R,
-        alloc: Global,
-        seat: &mut RepoSeat,
-        from: u64,
-    ) -> Result<Seen, AskFault>
-        requires place { seat.old.lock ≡ self.now }
-        ensures seat { seat.new ≡ with_front seat.old seat.new.front }
-        ensures after { (answer : Answer) × IsAnswer result answer × After self.now.opening.header seat.old.front seat.old.number (Looks (LogFrom from)) answer seat.new.front }
-        ensures front { IsFront self.now.opening seat.new.front }
-    {
-        let who = seat.inner.number();
-        self.lock.enter(
-            rt,
-            &mut seat.inner,
-            |state: &mut RepoState<D>| -> (bool, Result<Seen, AskFault>)
-                ensures reply { (answer : Answer) × IsAnswer result.1 answer × Replies state.old.opening.header state.old.history who (Looks (LogFrom from)) answer state.new.history }
-                ensures turn { IsTurn history_of opening_of who state.old state.new result.0 }
-                ensures front { IsFront state.new.opening state.new.history }
-            { look_in(state, alloc, who, &Question::Log(from)) },
-        )
-    }
-
-    /// Answers a read.
-    pub fn look<R: Wait>(
-        &self,
-        rt: &R,
-        alloc: Global,
-        seat: &mut RepoSeat,
-        question: &Question,
-    ) -> Result<Seen, AskFault>
-        requires place { seat.old.lock ≡ self.now }
-        ensures seat { seat.new ≡ with_front seat.old seat.new.front }
-        ensures after { (answer : Answer) × IsAnswer result answer × After self.now.opening.header seat.old.front seat.old.number (Looks (question_seen question.now)) answer seat.new.front }
-        ensures front { IsFront self.now.opening seat.new.front }
-    {
-        match *question {
-            Question::Head(name) => self.head(rt, alloc, seat, name),
-            Question::Content(id) => self.content(rt, alloc, seat, id),
-            Question::Changeset(id) => self.changeset(rt, alloc, seat, id),
-            Question::Log(from) => self.log(rt, alloc, seat, from),
-            Question::Fsnode(id, dir) => self.fsnode(rt, alloc, seat, id, dir),
-            Question::Unode(id, path) => self.unode(rt, alloc, seat, id, path),
-            Question::History(id, path) => self.history(rt, alloc, seat, id, path),
-        }
     }
 }
 

@@ -2,14 +2,13 @@
 ghost use Rattle.std.specs.Prelude.{◌≡◌, []};
 ghost use Rattle.bookmark_lock.specs.Place.{Place, with_front};
 ghost use Rattle.reply_model.specs.After.{After};
-ghost use Rattle.seat_calls.proofs.Lawful.{shared};
+ghost use Rattle.repo_calls.proofs.Lawful.{shared};
 
 use crate::repo::Repo;
 use crate::seat::RepoSeat;
 use blob_disk::Disk;
 use ports::Gate;
-use repo_calls::{Ask, Granted};
-use seat_calls::{AskFault, ChangeFault, Question, Seat, Seen};
+use repo_calls::{Ask, AskFault, ChangeFault, Granted, Question, Seat, Seen};
 use std::alloc::Global;
 use std::marker::Model;
 use std::sync::Wait;

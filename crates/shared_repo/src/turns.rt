@@ -5,22 +5,22 @@ ghost use Rattle.bookmark_lock.specs.Turns.{IsTurn};
 ghost use Rattle.history_model.specs.Bookmark.{head};
 ghost use Rattle.history_model.specs.History.{changeset_of, content_len, known};
 ghost use Rattle.reply_model.specs.After.{Answer, Answers, Asks, Looks, Replies, nothing};
+ghost use Rattle.reply_model.specs.Reply as reply;
 ghost use Rattle.reply_model.specs.Reply.{ChangesetOf, ContentOf, LandDraft};
-ghost use Rattle.repo_calls.specs.Calls.{ask_seen, refused};
+ghost use Rattle.repo_calls.specs.Calls.{refused};
 ghost use Rattle.repo_machine.specs.Plans.{IsPlan, WasPlanned};
-ghost use Rattle.repo_machine.specs.Prepared.{IsPreparedFor};
-ghost use Rattle.seat_calls.specs.Asking.{IsAnswer, fault_answer, question_seen, stored_answer};
+ghost use Rattle.repo_machine.specs.Prepared.{IsPrepared, asked_by};
+ghost use Rattle.repo_calls.specs.Asking.{IsAnswer, fault_answer, question_seen, stored_answer};
 ghost use Rattle.shared_repo.specs.Front.{IsFront, history_of, opening_of};
 ghost use Rattle.shared_repo.specs.Landing.{outcome_of};
 
 use blob_disk::Disk;
 use bonsai::Commit;
 use object_id::Id;
-use repo_calls::{Ask, Granted, Refusal};
+use repo_calls::{AskFault, ChangeFault, Granted, Question, Refusal, Seen};
 use repo_machine::{Plan, Prepared, Rebased};
 use repo_path::BookName;
 use repo_state::{Exchanged, RepoState};
-use seat_calls::{AskFault, ChangeFault, Question, Seen};
 use std::alloc::Global;
 use std::sync::Arc;
 
@@ -30,52 +30,73 @@ fn differ(before: u64, after: u64) -> bool
     before != after
 }
 
-pub(crate) fn change_in<D: Disk>(
-    state: &mut RepoState<D>,
-    alloc: Global,
-    who: u64,
-    ask: &Ask,
-) -> (bool, Result<Granted, ChangeFault>)
-    ensures reply { Replies state.old.opening.header state.old.history who (Asks (ask_seen ask.now)) (stored_answer result.1) state.new.history }
-    ensures turn { IsTurn history_of opening_of who state.old state.new result.0 }
-    ensures front { IsFront state.new.opening state.new.history }
-{
-    let before = state.history_length();
-    let answer = state.store(alloc, who, ask);
-    (differ(before, state.history_length()), answer)
+/// A change that is ready, as a turn makes it. The closure of a turn keeps its contract where it captures a value of such a
+/// type, and not where it captures one of a type that names a lifetime.
+pub(crate) trait TurnChange<D: Disk>: Drop {
+    /// What is asked for.
+    ghost asked: { Self → reply.Ask };
+
+    /// What has to be so of it.
+    ghost ready: { Self → Type 0 };
+
+    fn store_in(
+        self,
+        state: &mut RepoState<D>,
+        alloc: Global,
+        who: u64,
+    ) -> (bool, Result<Granted, ChangeFault>)
+        requires { ready self }
+        ensures reply { Replies state.old.opening.header state.old.history who (Asks (asked self)) (stored_answer result.1) state.new.history }
+        ensures turn { IsTurn history_of opening_of who state.old state.new result.0 }
+        ensures front { IsFront state.new.opening state.new.history };
 }
 
-// The same of a change of which this is ready.
-pub(crate) fn store_in<D: Disk>(
-    state: &mut RepoState<D>,
-    alloc: Global,
-    who: u64,
-    ask: &Ask,
-    prepared: Prepared,
-) -> (bool, Result<Granted, ChangeFault>)
-    requires prepared { IsPreparedFor (ask_seen ask.now) prepared }
-    ensures reply { Replies state.old.opening.header state.old.history who (Asks (ask_seen ask.now)) (stored_answer result.1) state.new.history }
-    ensures turn { IsTurn history_of opening_of who state.old state.new result.0 }
-    ensures front { IsFront state.new.opening state.new.history }
-{
-    let before = state.history_length();
-    let answer = state.store_prepared(alloc, who, ask, prepared);
-    (differ(before, state.history_length()), answer)
+impl<D: Disk> TurnChange<D> for Prepared<'_> {
+    ghost asked = { asked_by };
+
+    ghost ready = { IsPrepared };
+
+    fn store_in(
+        self,
+        state: &mut RepoState<D>,
+        alloc: Global,
+        who: u64,
+    ) -> (bool, Result<Granted, ChangeFault>) {
+        let before = state.history_length();
+        let answer = state.store_prepared(alloc, who, self);
+        (differ(before, state.history_length()), answer)
+    }
 }
 
-pub(crate) fn look_in<D: Disk>(
-    state: &mut RepoState<D>,
-    alloc: Global,
-    who: u64,
-    question: &Question,
-) -> (bool, Result<Seen, AskFault>)
-    ensures reply { (answer : Answer) × IsAnswer result.1 answer × Replies state.old.opening.header state.old.history who (Looks (question_seen question.now)) answer state.new.history }
-    ensures turn { IsTurn history_of opening_of who state.old state.new result.0 }
-    ensures front { IsFront state.new.opening state.new.history }
-{
-    let before = state.history_length();
-    let answer = state.look(alloc, who, question);
-    (differ(before, state.history_length()), answer)
+/// A read, as a turn answers it, for the same reason.
+pub(crate) trait TurnRead<D: Disk> {
+    /// What is asked.
+    ghost asked: { Self → reply.Question };
+
+    fn look_in(
+        &self,
+        state: &mut RepoState<D>,
+        alloc: Global,
+        who: u64,
+    ) -> (bool, Result<Seen, AskFault>)
+        ensures reply { (answer : Answer) × IsAnswer result.1 answer × Replies state.old.opening.header state.old.history who (Looks (asked self.now)) answer state.new.history }
+        ensures turn { IsTurn history_of opening_of who state.old state.new result.0 }
+        ensures front { IsFront state.new.opening state.new.history };
+}
+
+impl<D: Disk> TurnRead<D> for Question<'_> {
+    ghost asked = { question_seen };
+
+    fn look_in(
+        &self,
+        state: &mut RepoState<D>,
+        alloc: Global,
+        who: u64,
+    ) -> (bool, Result<Seen, AskFault>) {
+        let before = state.history_length();
+        let answer = state.look(alloc, who, self);
+        (differ(before, state.history_length()), answer)
+    }
 }
 
 // The bytes in the file for a content, before their digest is compared.
@@ -140,7 +161,7 @@ fn outcome(exchanged: Exchanged) -> Option<Result<Granted, ChangeFault>>
 }
 
 // The landing's answer, or none where the bookmark's head isn't the planned one.
-#[tactic(auto, using(crate::proofs::Landings::outcome_replies, crate::proofs::Landings::outcome_there, crate::proofs::Landings::memory_replies))]
+#[tactic(auto, using(crate::proofs::Landings::outcome_replies, crate::proofs::Landings::outcome_there, repo_machine::proofs::Judging::replies_memory))]
 pub(crate) fn exchange_in<D: Disk>(
     state: &mut RepoState<D>,
     alloc: Global,

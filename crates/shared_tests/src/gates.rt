@@ -2,8 +2,8 @@
 use crate::steps::move_from;
 use object_id::Id;
 use ports::Gate;
+use repo_calls::Seat;
 use repo_path::BookName;
-use seat_calls::Seat;
 use std::alloc::Global;
 use std::sync::atomic::{AtomicU64, Ordering};
 use std::sync::{Mutex, Wait};

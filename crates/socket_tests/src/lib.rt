@@ -3,3 +3,7 @@
 
 #[cfg(test)]
 mod links;
+#[cfg(test)]
+mod silence;
+#[cfg(test)]
+mod still;

@@ -3,10 +3,9 @@
 use Rattle.std.proofs.Common.{◌≡◌, ℕ, ◌<◌, Bool, true, false, cond, ◌&&◌, ◌||◌, Option, Some, None, List, [], ◌∷◌, length, refl, sym, ap, subst, ◌∙◌, arith}
 use Rattle.std.specs.Prelude.{option_map, is_some, nat_lt, bytes_eq, find, filter_map}
 use Rattle.std.specs.List.{list_any, AllByRecursion}
-use Rattle.std.specs.Option.{option_and_then, option_or}
+use Rattle.std.specs.Option.{option_and_then}
 use Rattle.std.specs.FinMap.{is_sorted, find as find_key}
 use Rattle.std.specs.FinMap.Entries.{below_all}
-use Rattle.byte_fields.specs.Bytes.{first_some}
 use Rattle.byte_fields.proofs.Lists.{weaker}
 use Rattle.std.specs.Cmp.Lexicographic.{nat_list_eq_equiv}
 use Rattle.std.proofs.lemmas.Bool.{lt-ltb, false_from_ne_true}
@@ -17,9 +16,14 @@ use Rattle.history_model.specs.Tree.{decides_at}
 use Rattle.repo_path.specs.Order.{path_eq_equiv, path_eq_ties}
 use Rattle.std.specs.BTreeMap.{BTreeMap}
 use Rattle.tree_fold.specs.declared.file.File.{File as Stored}
-use Rattle.bonsai.proofs.Between.{first_of, second_of}
+use Rattle.repo_path.proofs.Faults.{first_of_two as first_of, second_of_two as second_of}
 use Rattle.tree_fold.specs.Fold.{IsFlat, is_set_of, clears, edited_once, edited, file_in, IsApart}
 use Rattle.tree_fold.proofs.Files.{same_path, path_eq_itself, is_some-file_in}
+use Rattle.byte_fields.proofs.Booleans.{either_false, or_false as or_none, or_true, unmapped}
+use Rattle.byte_fields.proofs.Lists.{none_first, none_found}
+use Rattle.changeset_model.proofs.Paths.{||-comm as or_swap}
+use Rattle.history_model.proofs.Clashes.{not_both as clash}
+use Rattle.history_model.proofs.Landings.{or_left, or_true as or_right, prefix_self as is_prefix_itself}
 
 abbrev pub Edits : Type 0
 Edits = List (Path × FileChange)
@@ -36,24 +40,6 @@ abbrev pub is_set : Option FileChange → Bool
 is_set None = false
 is_set (Some (Set f)) = true
 is_set (Some Delete) = false
-
-clash : (b : Bool) → b ≡ true → b ≡ false → ⊥
-clash b t f = absurd (cc)
-
-or_true : (b : Bool) → (b || true) ≡ true
-or_true true = refl
-or_true false = refl
-
-or_left : (a b : Bool) → a ≡ true → (a || b) ≡ true
-or_left true b h = refl
-or_left false b h = absurd (cc)
-
-or_right : (a b : Bool) → b ≡ true → (a || b) ≡ true
-or_right true b h = refl
-or_right false b h = h
-
-either_false : (a b : Bool) → a ≡ false → b ≡ false → (a || b) ≡ false
-either_false a b f g = (λ i. f i || g i)
 
 -- ---- the edit at a path
 
@@ -107,10 +93,6 @@ none_set : (es : Edits) (p : Path) → IsAway p es → list_any (is_set_of p) es
 none_set [] p away = refl
 none_set (e ∷ es) p away = either_false (is_set_of p e) (list_any (is_set_of p) es) (set_away e p away.0) (none_set es p away.1)
 
-or_none : (b : Bool) → (b || false) ≡ b
-or_none true = refl
-or_none false = refl
-
 set_by : (e : Path × FileChange) (es : Edits) (p : Path) → below_all path_cmp e.0 es ≡ true → list_any (is_set_of p) es ≡ is_set (at p es) → (b : Bool) → path_eq e.0 p ≡ b → (is_set_of p e || list_any (is_set_of p) es) ≡ is_set (cond b (Some e.1) (at p es))
 set_by e es p below ih true same =
     (λ i. set_here e p same i || none_set es p (subst (λ q. IsAway q es) (same_path e.0 p same) (away_behind e.0 es below)) i) ∙ or_none (is_set (Some e.1))
@@ -126,9 +108,6 @@ any-set (e ∷ es) p rises =
 
 bytes_same : (e f : List ℕ) → bytes_eq e f ≡ true → bytes_eq f e ≡ true
 bytes_same e f h = nat_list_eq_equiv.symm f e ∙ h
-
-bytes_itself : (e : List ℕ) → bytes_eq e e ≡ true
-bytes_itself e = nat_list_eq_equiv.refl e
 
 shorter : (p q : Path) → is_prefix p q ≡ true → path_eq q p ≡ false → length p < length q
 shorter [] [] h away = absurd (cc)
@@ -150,20 +129,10 @@ strict p q away = by (is_prefix p q) refl
     by true h = sym (lt-ltb (length p) (length q) (shorter p q h away))
     by false h = refl
 
-or_swap : (a b : Bool) → (a || b) ≡ (b || a)
-or_swap true true = refl
-or_swap true false = refl
-or_swap false true = refl
-or_swap false false = refl
-
 decides_away : (e : Path × FileChange) (p : Path) → path_eq e.0 p ≡ false → decides_at e.1 e.0 p ≡ clears p e
 decides_away (q, Set f) p away =
     (λ i. strict q p (path_eq_equiv.symm p q ∙ away) i || strict p q away i) ∙ or_swap (is_strict_prefix q p) (is_strict_prefix p q)
 decides_away (q, Delete) p away = away
-
-is_prefix_itself : (p : Path) → is_prefix p p ≡ true
-is_prefix_itself [] = refl
-is_prefix_itself (e ∷ p) = (λ i. bytes_itself e i && is_prefix_itself p i)
 
 decides_here : (e : Path × FileChange) (p : Path) → path_eq e.0 p ≡ true → decides_at e.1 e.0 p ≡ true
 decides_here (q, Set f) p same = or_left (is_prefix q p) (is_prefix p q) (ap (is_prefix q) (sym (same_path q p same)) ∙ is_prefix_itself q)
@@ -265,26 +234,6 @@ stays_flat es p q o r rises apart flat left right = by (list_any (λ e. decides_
     by false false e g = flat (was_there es p o left e) (was_there es q r right g)
 
 -- ---- a changeset without a self-conflict
-
-none_first : {X Y : Type 0} (f : X → Option Y) (xs : List X) → first_some f xs ≡ None → AllByRecursion (λ x. f x ≡ None) xs
-none_first f [] h = tt
-none_first {Y = Y} f (x ∷ xs) h = let parts = by (f x) (first_some f xs) h in (parts.0, none_first f xs parts.1)
-  where
-    by : (a b : Option Y) → option_or a b ≡ None → (a ≡ None) × (b ≡ None)
-    by None b h = (refl, h)
-    by (Some y) b h = absurd (cc)
-
-unmapped : {X Y : Type 0} (f : X → Y) (o : Option X) → option_map f o ≡ None → o ≡ None
-unmapped f None h = refl
-unmapped f (Some x) h = absurd (cc)
-
-none_found : {X : Type 0} (t : X → Bool) (xs : List X) → find t xs ≡ None → AllByRecursion (λ x. t x ≡ false) xs
-none_found t [] h = tt
-none_found {X = X} t (x ∷ xs) h = let parts = by (t x) (find t xs) h in (parts.0, none_found t xs parts.1)
-  where
-    by : (b : Bool) (o : Option X) → cond b (Some x) o ≡ None → (b ≡ false) × (o ≡ None)
-    by true o h = absurd (cc)
-    by false o h = (refl, h)
 
 abbrev sets : Edits → List (Path × File)
 sets es = filter_map (λ e. option_map (λ f. (e.0, f)) (file_of e.1)) es

@@ -1,6 +1,6 @@
 -- The children of a directory, listed in the order of the files below it.
 --     left_in dir es      the files in a directory at the front of es;  from_dir d es      files by their paths from there
-use Rattle.std.proofs.Common.{◌≡◌, ◌⊎◌, inl, inr, ℕ, Bool, true, false, cond, ◌&&◌, ◌||◌, Bor, Option, Some, None, List, [], ◌∷◌, map, length, drop, filter, refl, sym, ap, subst, ◌∙◌}
+use Rattle.std.proofs.Common.{◌≡◌, ◌⊎◌, inl, inr, ℕ, Bool, true, false, cond, ◌&&◌, Bor, Option, Some, None, List, [], ◌∷◌, map, length, drop, filter, refl, sym, ap, subst, ◌∙◌}
 use Rattle.std.specs.Prelude.{◌==◌, bytes_eq, nat_lt, filter_map}
 use Rattle.std.specs.List.{list_any, AllByRecursion, dedup, dedup_from, cons_option}
 use Rattle.std.specs.List.Sorted.{IsStrictlySortedBy}
@@ -23,12 +23,15 @@ use Rattle.changeset_model.specs.Changeset as model
 use Rattle.changeset_model.proofs.Paths.{path_cmp_total}
 use Rattle.history_model.specs.Tree.{file_at, is_dir, below, first_element, names, children}
 use Rattle.repo_path.specs.Order.{path_eq_ties}
-use Rattle.bonsai.proofs.Between.{first_of, second_of, less_of}
+use Rattle.repo_path.proofs.Faults.{first_of_two as first_of, second_of_two as second_of}
+use Rattle.changeset_model.proofs.Rising.{less_of}
 use Rattle.tree_fold.specs.declared.file.File.{File}
 use Rattle.tree_fold.specs.View.{file_view, files_view}
 use Rattle.tree_fold.specs.Listing.{dir_path, start_bound, is_in, is_again, alone, listed}
 use Rattle.tree_fold.proofs.Ranges.{front, front-after}
 use Rattle.tree_fold.proofs.Trees.{view_sorted, sorted_rising}
+use Rattle.byte_fields.proofs.Booleans.{neither}
+use Rattle.tree_fold.proofs.Trees.{both}
 
 abbrev Files : Type 0
 Files = List (Path × model.File)
@@ -189,9 +192,6 @@ cmp-from (e ∷ d) (f ∷ p) (k ∷ q) h g =
 abbrev one_below : Path → Bool → Path × model.File → Files → Files
 one_below d b f fs = cons_option (cond b (Some (drop (length d) f.0, f.1)) None) fs
 
-both : (a b : Bool) → a ≡ true → b ≡ true → (a && b) ≡ true
-both a b h g = (λ i. h i && g i)
-
 lower_by : (d p : Path) (f : Path × model.File) (fs : Files) → is_prefix d p ≡ true → path_lt p f.0 ≡ true → below_all path_cmp (drop (length d) p) fs ≡ true → (b : Bool) → is_prefix d f.0 ≡ b → below_all path_cmp (drop (length d) p) (one_below d b f fs) ≡ true
 lower_by d p f fs inside less rest true e = both (path_lt (drop (length d) p) (drop (length d) f.0)) (below_all path_cmp (drop (length d) p) fs) (ap is_lt (cmp-from d p f.0 inside e) ∙ less) rest
 lower_by d p f fs inside less rest false e = rest
@@ -293,10 +293,6 @@ children_rise fs d rises =
     subst IsRising (sym (named (λ n. file_at inside (n ∷ [])) (names inside) ∙ ap singles (dedup-heads (firsts inside)))) (heads-rise None inside sorted (any_begin inside)).rise
 
 -- ---- where no directory is
-
-neither : (a b : Bool) → (a || b) ≡ false → (a ≡ false) × (b ≡ false)
-neither true b h = absurd (cc)
-neither false b h = (refl, h)
 
 no_first : (d p : Path) → is_strict_prefix d p ≡ false → (b : Bool) → is_prefix d p ≡ b → (f : model.File) (fs : Files) → firsts (one_below d b (p, f) fs) ≡ firsts fs
 no_first d p apart true e f fs = ap (λ q. cons_option (first_element q) (firsts fs)) (drop_all (length d) p (ltb-false (length d) (length p) (ap (λ b. b && nat_lt (length d) (length p)) (sym e) ∙ apart)))

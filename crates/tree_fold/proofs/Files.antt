@@ -13,13 +13,14 @@ use Rattle.changeset_model.specs.Changeset as model
 use Rattle.changeset_model.proofs.Paths.{path_cmp_total, path_cmp-IsAntisymmetric}
 use Rattle.repo_path.specs.Order.{path_eq_equiv, path_eq_ties}
 use Rattle.object_id.specs.declared.id.Id.{Id}
-use Rattle.file_kind.specs.declared.kind.FileKind.{FileKind}
+use Rattle.bonsai.specs.declared.kind.FileKind.{FileKind}
 use Rattle.bonsai.specs.declared.change.Change.TheVariants as changes
 use Rattle.bonsai.specs.declared.edit.Edit.{Edit}
 use Rattle.bonsai.specs.View.{change_view, edit_view}
 use Rattle.tree_fold.specs.declared.file.File.{File}
 use Rattle.tree_fold.specs.View.{file_view}
 use Rattle.tree_fold.specs.Fold.{is_set_of, clears, edited_once, file_in}
+use Rattle.byte_fields.proofs.Booleans.{is_some_cond, or_false}
 
 -- ---- equal paths
 
@@ -92,10 +93,6 @@ keys_cond : {A : Type 0} (b : Bool) (e : Path × A) (es : List (Path × A)) → 
 keys_cond true e es = refl
 keys_cond false e es = refl
 
-is_some_cond : {A : Type 0} (b : Bool) (x : A) (o : Option A) → is_some (cond b (Some x) o) ≡ (b || is_some o)
-is_some_cond true x o = refl
-is_some_cond false x o = refl
-
 at_path : (p q : Path) → is_at (path_cmp p) q ≡ path_eq q p
 at_path p q = sym (path_eq_ties p q) ∙ path_eq_equiv.symm p q
 
@@ -119,10 +116,6 @@ pub any-under : (m : BTreeMap Path File) (q p : Path) (old new : List Path) → 
 any-under m q p old new e =
     ap (list_any (λ r. path_eq r p)) e ∙ list_any-append (λ r. path_eq r p) old (keys_of (filter (λ e. is_strict_prefix q e.0) m.entries))
     ∙ ap (λ b. list_any (λ r. path_eq r p) old || b) (any-keys-filter (is_strict_prefix q) p m.entries ∙ ap (λ b. is_strict_prefix q p && b) (sym (is_some-file_in m p)))
-
-or_false : (b : Bool) → (b || false) ≡ b
-or_false true = refl
-or_false false = refl
 
 both_ways : (o a b s : Bool) → ((o || (a && s)) || (b && s)) ≡ (o || ((a || b) && s))
 both_ways true a b s = refl

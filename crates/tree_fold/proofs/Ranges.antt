@@ -1,6 +1,6 @@
 -- What stands before and after a path among files in order.
 --     front q es      the files under q at the front of es
-use Rattle.std.proofs.Common.{◌≡◌, Bool, true, false, cond, ◌&&◌, ◌||◌, ◌⊎◌, inl, inr, None, List, [], ◌∷◌, refl, sym, ap, ◌∙◌}
+use Rattle.std.proofs.Common.{◌≡◌, Bool, true, false, cond, ◌&&◌, ◌⊎◌, inl, inr, None, List, [], ◌∷◌, refl, sym, ap, ◌∙◌}
 use Rattle.std.specs.Prelude.{filter, is_some}
 use Rattle.std.specs.List.{AllByRecursion}
 use Rattle.std.specs.List.Sorted.{IsStrictlySortedBy}
@@ -14,10 +14,12 @@ use Rattle.std.proofs.lemmas.Bool.{false_from_ne_true}
 use Rattle.std.proofs.lemmas.Map.Keys.{sorted_head, sorted_tail}
 use Rattle.changeset_model.specs.Path.{Path, path_cmp, path_lt, path_eq, is_strict_prefix}
 use Rattle.changeset_model.proofs.Paths.{path_lt_or}
-use Rattle.bonsai.proofs.Between.{under_between, under_is_more, less_of}
+use Rattle.bonsai.proofs.Between.{under_between, under_is_more}
+use Rattle.changeset_model.proofs.Rising.{less_of}
 use Rattle.tree_fold.specs.declared.file.File.{File}
 use Rattle.tree_fold.specs.Fold.{IsFlat, file_in}
 use Rattle.tree_fold.proofs.Files.{same_path, path_eq_itself, is_some-file_in}
+use Rattle.history_model.proofs.Clashes.{not_both as clash}
 
 abbrev pub front : Path → List (Path × File) → List (Path × File)
 front q [] = []
@@ -25,9 +27,6 @@ front q (e ∷ es) = cond (is_strict_prefix q e.0) (e ∷ front q es) []
 
 abbrev under : Path → List (Path × File) → List (Path × File)
 under q es = filter (λ e. is_strict_prefix q e.0) es
-
-clash : (b : Bool) → b ≡ true → b ≡ false → ⊥
-clash b t f = absurd (cc)
 
 -- behind a path that isn't under q, and comes after it, nothing is
 none_later : (q k : Path) (es : List (Path × File)) → is_strict_prefix q k ≡ false → path_lt q k ≡ true → AllByRecursion (λ y. path_cmp k y ≡ Less) (keys_of es) → under q es ≡ []
@@ -50,10 +49,6 @@ front-after q [] rises = refl
 front-after q (e ∷ es) rises = after_by q e es rises (front-after q es (sorted_tail path_cmp e.0 (keys_of es) rises)) (is_strict_prefix q e.0) (path_lt q e.0) refl refl
 
 -- ---- above a path
-
-pub or_false : (b : Bool) → (b || false) ≡ b
-or_false true = refl
-or_false false = refl
 
 both_false : (a s : Bool) → (a ≡ true → s ≡ true → ⊥) → false ≡ (a && s)
 both_false true true not_both = absurd (not_both refl refl)

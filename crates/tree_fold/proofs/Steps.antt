@@ -6,6 +6,7 @@ use Rattle.std.specs.List.{list_any}
 use Rattle.changeset_model.specs.Path.{Path, path_eq}
 use Rattle.std.specs.Borrow.{Bor}
 use Rattle.tree_fold.specs.declared.file.File.{File}
+use Rattle.byte_fields.proofs.Booleans.{neither as either_false}
 
 abbrev pub is_placed : Path → List (Bor Path) → Bool
 is_placed p ns = list_any (λ n. path_eq n.now p) ns
@@ -13,10 +14,6 @@ is_placed p ns = list_any (λ n. path_eq n.now p) ns
 abbrev pub placed_in : File → List (Bor Path) → Path → Option File → Option File
 placed_in f [] p o = o
 placed_in f (n ∷ ns) p o = placed_in f ns p (cond (path_eq n.now p) (Some f) o)
-
-either_false : (a b : Bool) → (a || b) ≡ false → (a ≡ false) × (b ≡ false)
-either_false true b h = absurd (cc)
-either_false false b h = (refl, h)
 
 pub placed_in-none : (f : File) (ns : List (Bor Path)) (p : Path) (o : Option File) → is_placed p ns ≡ false → placed_in f ns p o ≡ o
 placed_in-none f [] p o h = refl

@@ -5,10 +5,12 @@ use Rattle.std.specs.List.{onto_first}
 use Rattle.std.proofs.lemmas.Bool.{ne_eqb, lt-ltb, ltb-true, false_from_ne_true}
 use Rattle.std.proofs.Math.Seq.{drop-append_seam}
 use Rattle.std.proofs.lemmas.List.{length-append}
-use Rattle.std.specs.Cmp.Lexicographic.{nat_list_eq_equiv}
-use Rattle.std.proofs.lemmas.Slice.Eq.{bytes_eq-Decides}
 use Rattle.changeset_model.specs.Path.{Path, text_of, elements, is_prefix, is_strict_prefix}
-use Rattle.repo_path.proofs.Elements.{elements_by, some_elements, text_of-elements}
+use Rattle.repo_path.proofs.Elements.{elements_by}
+use Rattle.changeset_model.proofs.Accepting.{elements_some as some_elements, text_of-elements}
+use Rattle.bonsai.proofs.Between.{same_text as same_bytes}
+use Rattle.changeset_model.proofs.Spelling.{bytes_eq_refl as bytes_itself}
+use Rattle.repo_path.proofs.Faults.{first_of_two as first_of, second_of_two as second_of}
 
 -- ---- joined by a slash
 
@@ -38,9 +40,6 @@ not_alone a x = sym (ne_eqb (length (a ∷ elements x)) 1 (λ e. absurd (let som
 
 -- ---- under a path
 
-bytes_itself : (e : List ℕ) → bytes_eq e e ≡ true
-bytes_itself e = nat_list_eq_equiv.refl e
-
 prefix-append : (p q : Path) → is_prefix p (p ++ q) ≡ true
 prefix-append [] q = refl
 prefix-append (e ∷ p) q = (λ i. bytes_itself e i && prefix-append p q i)
@@ -52,23 +51,12 @@ pub drop-front : (p q : Path) → drop (length p) (p ++ q) ≡ q
 drop-front [] q = refl
 drop-front (e ∷ p) q = drop-front p q
 
-first_of : (a b : Bool) → (a && b) ≡ true → a ≡ true
-first_of true b h = refl
-first_of false b h = absurd (cc)
-
-second_of : (a b : Bool) → (a && b) ≡ true → b ≡ true
-second_of true b h = h
-second_of false b h = absurd (cc)
-
-same_bytes : (e f : List ℕ) → bytes_eq e f ≡ true → e ≡ f
-same_bytes e f h = (bytes_eq-Decides e f).0 h
-
-front_rest : (p q : Path) → is_prefix p q ≡ true → q ≡ p ++ drop (length p) q
+pub front_rest : (p q : Path) → is_prefix p q ≡ true → q ≡ p ++ drop (length p) q
 front_rest [] q h = refl
 front_rest (e ∷ p) [] h = absurd (cc)
 front_rest (e ∷ p) (f ∷ q) h = (λ i. sym (same_bytes e f (first_of (bytes_eq e f) (is_prefix p q) h)) i ∷ front_rest p q (second_of (bytes_eq e f) (is_prefix p q) h) i)
 
-text_of-joined : (p q : Path) → 0 < length p → 0 < length q → text_of (p ++ q) ≡ text_of p ++ 0x2F ∷ text_of q
+pub text_of-joined : (p q : Path) → 0 < length p → 0 < length q → text_of (p ++ q) ≡ text_of p ++ 0x2F ∷ text_of q
 text_of-joined [] q some other = absurd (omega arith)
 text_of-joined (e ∷ []) [] some other = absurd (omega arith)
 text_of-joined (e ∷ []) (f ∷ q) some other = refl

@@ -23,6 +23,7 @@ use Rattle.tree_fold.specs.declared.file.File.{File}
 use Rattle.tree_fold.specs.View.{file_view, files_view}
 use Rattle.tree_fold.specs.Fold.{file_in}
 use Rattle.tree_fold.proofs.Files.{same_path}
+use Rattle.repo_path.proofs.Faults.{first_of_two as first_of, second_of_two as second_of}
 
 abbrev Files : Type 0
 Files = List (Path × model.File)
@@ -37,7 +38,7 @@ pub file_at-view : (es : List (Path × File)) (p : Path) → file_at (files_view
 file_at-view [] p = refl
 file_at-view (e ∷ es) p = ap (cond (is_at (path_cmp p) e.0) (Some (file_view e.1))) (file_at-view es p) ∙ map_cond file_view (is_at (path_cmp p) e.0) e.1 (lookup (is_at (path_cmp p)) es)
 
-both : (a b : Bool) → a ≡ true → b ≡ true → (a && b) ≡ true
+pub both : (a b : Bool) → a ≡ true → b ≡ true → (a && b) ≡ true
 both a b h g = (λ i. h i && g i)
 
 below_view : (p : Path) (es : List (Path × File)) → AllByRecursion (λ q. path_cmp p q ≡ Less) (keys_of es) → below_all path_cmp p (files_view es) ≡ true
@@ -58,14 +59,6 @@ same_files fs gs rises other is = same_entries path_cmp path_cmp_total path_cmp-
     holds : (b : Bool) → b ≡ true → T b
     holds true h = tt
     holds false h = absurd (cc)
-
-first_of : (a b : Bool) → (a && b) ≡ true → a ≡ true
-first_of true b h = refl
-first_of false b h = absurd (cc)
-
-second_of : (a b : Bool) → (a && b) ≡ true → b ≡ true
-second_of true b h = h
-second_of false b h = absurd (cc)
 
 all_below : (p : Path) (fs : Files) → AllByRecursion (λ q. path_lt p q ≡ true) (map (λ f. f.0) fs) → below_all path_cmp p fs ≡ true
 all_below p [] all = refl

@@ -4,7 +4,7 @@
 use Rattle.std.specs.Prelude.{ℕ, List, map, Option, option_map, string_bytes}
 use Rattle.changeset_model.specs.Path.{Path}
 use Rattle.changeset_model.specs.Changeset as model
-use Rattle.file_kind.specs.Kinds.{kind_view}
+use Rattle.bonsai.specs.Kinds.{kind_view}
 use Rattle.tree_fold.specs.declared.file.File.{File}
 use Rattle.tree_fold.specs.declared.child.Child.{Child}
 

@@ -1,3 +1,4 @@
 pub mod FileMarks
 pub mod Lines
 pub mod Pasts
+pub mod Named

@@ -11,9 +11,7 @@ use Rattle.manifest_model.specs.Unode.{Unode, linknode_of, unode, unode_id}
 use Rattle.manifest_model.specs.FileHistory.{file_history}
 use Rattle.manifest_model.proofs.Links.{tree_on, tree_on-cons, was_there, unode_kept, unode_made}
 use Rattle.unode.specs.History.{parents_of, IsLine, file_unodes}
-
-none_some : (f : File) → ◌≡◌ {A = Option File} None (Some f) → ⊥
-none_some f e = absurd cc
+use Rattle.manifest_model.proofs.Links.{none_some}
 
 was_file : (c : Known) (older : List Known) (p : Path) (f : File) → tree_on (c ∷ older) p ≡ Some f → set_at c.changeset p ≡ None → tree_on older p ≡ Some f
 was_file c older p f e n = was_there (changesets (reverse older)) c.changeset p f n (sym (tree_on-cons c older p) ∙ e)

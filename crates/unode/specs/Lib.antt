@@ -1,3 +1,4 @@
 pub mod Parts
 pub mod Views
 pub mod History
+pub mod Lookup

@@ -6,10 +6,10 @@ use Rattle.std.specs.Option.{option_to_list}
 use Rattle.std.specs.Global.{Vec}
 use Rattle.byte_fields.specs.Bytes.{Id}
 use Rattle.manifest_model.specs.Unode.{Unode, Manifest, FileUnode, UnodeEntry, UnodeFile, UnodeDir}
-use Rattle.file_kind.specs.Kinds.{kind_view}
+use Rattle.bonsai.specs.Kinds.{kind_view}
 use Rattle.unode.specs.declared.entry.UnodeEntry.{UnodeEntry as RustEntry}
 use Rattle.unode.specs.declared.entry.UnodeEntry.TheVariants as entries
-use Rattle.unode.specs.declared.entry.UnodeChild.{UnodeChild}
+use Rattle.node_fields.specs.declared.child.Child.{Child}
 use Rattle.unode.specs.declared.file.FileUnode.{FileUnode as RustFile}
 
 abbrev pub parents_seen : Option Id → List Id
@@ -19,13 +19,13 @@ abbrev pub entry_seen : RustEntry → UnodeEntry
 entry_seen (entries.File id) = UnodeFile id
 entry_seen (entries.Directory id) = UnodeDir id
 
-abbrev pub child_seen : UnodeChild → List ℕ × UnodeEntry
+abbrev pub child_seen : Child RustEntry → List ℕ × UnodeEntry
 child_seen c = (c.name, entry_seen c.entry)
 
-abbrev pub children_seen : List UnodeChild → List (List ℕ × UnodeEntry)
+abbrev pub children_seen : List (Child RustEntry) → List (List ℕ × UnodeEntry)
 children_seen cs = map child_seen cs
 
-abbrev pub manifest_of_parts : Option Id → Id → Vec UnodeChild → Unode
+abbrev pub manifest_of_parts : Option Id → Id → Vec (Child RustEntry) → Unode
 manifest_of_parts parent linknode children = Manifest (parents_seen parent) linknode (children_seen children.items)
 
 abbrev pub file_seen : RustFile → Unode

@@ -1,6 +1,6 @@
 //! What a directory has under a name.
 
-use node_fields::Name;
+use node_fields::Child;
 use object_id::Id;
 
 /// A file or a directory, each by the id of its unode.
@@ -11,8 +11,4 @@ pub enum UnodeEntry {
 }
 
 /// An entry and its name.
-#[derive(Debug, Drop)]
-pub struct UnodeChild {
-    pub name: Name,
-    pub entry: UnodeEntry,
-}
+pub type UnodeChild = Child<UnodeEntry>;

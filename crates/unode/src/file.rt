@@ -1,6 +1,6 @@
 //! Unodes of files.
 
-use file_kind::FileKind;
+use bonsai::FileKind;
 use object_id::Id;
 
 /// A file as one changeset set it.

@@ -14,9 +14,9 @@ use crate::entry::{UnodeChild, UnodeEntry};
 use crate::file::FileUnode;
 use crate::manifest::UnodeManifest;
 use crate::node::Unode;
+use bonsai::kind_at;
 use byte_fields::fields::{exactly_at, id_at, u8_at, u8_below, u32_at};
 use byte_fields::{BadField, FieldFault};
-use file_kind::kind_at;
 use node_fields::field::{bad_node, name_at};
 use node_fields::{Name, NodeFault};
 use object_id::Id;
@@ -25,9 +25,9 @@ use std::alloc::Global;
 // The bytes of the shortest entry: a name of one byte, its kind and an id.
 const SHORTEST_ENTRY: usize = 35;
 
-const MANIFEST_MARK: u8 = 0x55;
+pub(crate) const MANIFEST_MARK: u8 = 0x55;
 
-const FILE_MARK: u8 = 0x56;
+pub(crate) const FILE_MARK: u8 = 0x56;
 
 /// The unode that the bytes spell, all of the bytes.
 pub fn decode(alloc: Global, bytes: &[u8]) -> Result<Unode, NodeFault>
@@ -133,7 +133,7 @@ fn file_at(bytes: &[u8]) -> Result<(FileUnode, &[u8]), BadField>
 }
 
 // The version, and none or one parent behind the count of them.
-fn parent_at(bytes: &[u8]) -> Result<(Option<Id>, &[u8]), BadField>
+pub(crate) fn parent_at(bytes: &[u8]) -> Result<(Option<Id>, &[u8]), BadField>
     ensures { Gives (λ x. (parents_seen x.0, x.1.now)) result (node_parents bytes.now) }
 {
     let rest = exactly_at(bytes, 1)?;
@@ -188,7 +188,7 @@ fn named_at<'a>(
     }
 }
 
-fn entry_at(bytes: &[u8]) -> Result<(UnodeEntry, &[u8]), BadField>
+pub(crate) fn entry_at(bytes: &[u8]) -> Result<(UnodeEntry, &[u8]), BadField>
     ensures { Gives (λ x. (entry_seen x.0, x.1.now)) result (one_unode_entry bytes.now) }
 {
     let (tag, rest) = u8_below(bytes, 2)?;

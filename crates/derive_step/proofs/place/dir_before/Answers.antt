@@ -1,7 +1,7 @@
 use Rattle.std.proofs.Common.{◌≡◌, ◌++◌, ◌∷◌, [], ap, sym, ◌∙◌, lit<, List, ℕ, Option, Some, None, Bor}
 use Rattle.std.proofs.lemmas.Str.Pattern.{strip_suffix_char}
 use Rattle.std.proofs.lemmas.List.{append_cancel_right}
-use Rattle.repo_path.proofs.Elements.{some_elements}
+use Rattle.changeset_model.proofs.Accepting.{elements_some as some_elements}
 use Rattle.changeset_model.specs.Path.{text_of, elements, is_path}
 use Rattle.derive_step.proofs.Paths.{cut_text, front_of, path_front, of_front}
 use Rattle.derive_step.proofs.place.dir_before.Goals as goal

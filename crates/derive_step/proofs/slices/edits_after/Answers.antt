@@ -7,7 +7,9 @@ use Rattle.bonsai.specs.declared.edit.Edit.{Edit}
 use Rattle.bonsai.specs.View.{edits_view}
 use Rattle.changeset_model.specs.Path.{path_cmp, path_lt}
 use Rattle.derive_step.specs.Slices.{edits_in}
-use Rattle.derive_step.proofs.Together.{not_true, not_false, parted_after, sorted_drop, below_drop, same_dropped}
+use Rattle.derive_step.proofs.Together.{parted_after, sorted_drop, below_drop, same_dropped}
+use Rattle.changeset_model.proofs.Spelling.{is_false as not_true}
+use Rattle.byte_fields.proofs.Booleans.{not_false}
 use Rattle.derive_step.proofs.slices.edits_after.Goals as goal
 
 pub returns-clause-sorted : goal.returns-clause-sorted

@@ -4,8 +4,8 @@ use Rattle.std.specs.Ordering.{eq_by_cmp}
 use Rattle.changeset_model.specs.Path.{Path, path_cmp, elements, is_path}
 use Rattle.manifest_laws.proofs.Changes.{prefix_trans}
 use Rattle.manifest_laws.proofs.Flat.{strict_parts}
-use Rattle.manifest_laws.proofs.Unodes.{prefix_self}
-use Rattle.repo_path.proofs.Elements.{some_elements}
+use Rattle.history_model.proofs.Landings.{prefix_self}
+use Rattle.changeset_model.proofs.Accepting.{elements_some as some_elements}
 use Rattle.repo_path.proofs.Faults.{path_is_text}
 use Rattle.derive_step.specs.Touched.{is_above}
 use Rattle.derive_step.proofs.Paths.{path_front}

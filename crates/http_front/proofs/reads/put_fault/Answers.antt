@@ -2,8 +2,8 @@ use Rattle.std.proofs.Common.{◌≡◌, ℕ, Bool, List, sym, ap, ◌∙◌}
 use Rattle.reply_model.specs.Reply.{Question}
 use Rattle.session_model.specs.Responses.{text_of}
 use Rattle.session_model.specs.Asking.{read_response}
-use Rattle.seat_calls.specs.declared.calls.AskFault.{AskFault}
-use Rattle.seat_calls.specs.Asking.{fault_answer}
+use Rattle.repo_calls.specs.declared.calls.AskFault.{AskFault}
+use Rattle.repo_calls.specs.Asking.{fault_answer}
 use Rattle.http_front.proofs.reads.put_fault.Goals as goal
 
 in_case : (fault this : AskFault) (question : Question) (text : List ℕ) (close head_only : Bool)

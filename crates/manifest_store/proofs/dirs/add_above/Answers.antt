@@ -1,6 +1,6 @@
 use Rattle.std.proofs.Common.{◌≡◌, ◌++◌, ◌∷◌, [], ap, sym, subst, ◌∙◌}
 use Rattle.changeset_model.specs.Path.{elements, is_path}
-use Rattle.manifest_laws.proofs.Unodes.{prefix_self}
+use Rattle.history_model.proofs.Landings.{prefix_self}
 use Rattle.derive_step.specs.Views.{before_seen}
 use Rattle.manifest_store.specs.Dirs.{IsFull, left}
 use Rattle.manifest_store.proofs.Gathered.{own, dir_of_ref, next_cut, some_snoc, front_path, next_full, rest_full}

@@ -1,6 +1,6 @@
 use Rattle.std.proofs.Common.{sym, ap, ◌∙◌}
 use Rattle.changeset_model.specs.Path.{elements, is_path}
-use Rattle.repo_path.proofs.Elements.{some_elements}
+use Rattle.changeset_model.proofs.Accepting.{elements_some as some_elements}
 use Rattle.derive_step.specs.Views.{before_seen}
 use Rattle.manifest_store.specs.Dirs.{AreFull}
 use Rattle.manifest_store.proofs.Gathered.{front_path}

@@ -1,7 +1,7 @@
 use Rattle.std.proofs.Common.{◌≡◌, ◌++◌, ◌∷◌, [], ap, sym, ◌∙◌, lit<, List, ℕ, Option, Some, None, Bor}
 use Rattle.std.proofs.lemmas.Str.Pattern.{strip_suffix_char}
 use Rattle.std.proofs.lemmas.List.{append_cancel_right}
-use Rattle.repo_path.proofs.Elements.{text_of-elements}
+use Rattle.changeset_model.proofs.Accepting.{text_of-elements}
 use Rattle.changeset_model.specs.Path.{text_of, elements}
 use Rattle.derive_step.proofs.Paths.{cut_text, front_of}
 use Rattle.manifest_store.specs.Dirs.{left}

@@ -1,6 +1,6 @@
 use Rattle.std.proofs.Common.{sym, ◌∙◌}
 use Rattle.changeset_model.specs.Path.{elements}
-use Rattle.repo_path.proofs.Elements.{some_elements}
+use Rattle.changeset_model.proofs.Accepting.{elements_some as some_elements}
 use Rattle.unode.specs.Parts.{entry_seen}
 use Rattle.manifest_store.specs.Nodes.{walk as walked}
 use Rattle.manifest_store.specs.Dirs.{left}

@@ -4,11 +4,11 @@ use Rattle.reply_model.specs.After.{After, Asks}
 use Rattle.repo_calls.specs.Calls.{ask_seen, granted_seen}
 use Rattle.repo_calls.specs.declared.ask.Granted.{Granted}
 use Rattle.reply_model.specs.Reply.{Ask}
-use Rattle.load_calls.specs.Answers.{Answered}
-use Rattle.load_calls.specs.declared.fault.LoadFault.{LoadFault}
-use Rattle.load_calls.proofs.Joined.{one_granted}
-use Rattle.seat_calls.specs.Asking.{stored_answer}
-use Rattle.seat_calls.specs.declared.calls.ChangeFault.{ChangeFault}
+use Rattle.run_gen.specs.Answers.{Answered}
+use Rattle.run_gen.specs.declared.fault.LoadFault.{LoadFault}
+use Rattle.run_gen.proofs.Joined.{one_granted}
+use Rattle.repo_calls.specs.Asking.{stored_answer}
+use Rattle.repo_calls.specs.declared.calls.ChangeFault.{ChangeFault}
 use Rattle.run_gen.proofs.Outcomes.{fits, stopped, never_fails}
 use Rattle.run_gen.proofs.asking.ask.Goals as goal
 

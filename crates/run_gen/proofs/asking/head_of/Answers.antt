@@ -1,5 +1,5 @@
 use Rattle.std.proofs.Common.{◌∙◌, ap, sym}
-use Rattle.load_calls.specs.Calls.{last_id}
+use Rattle.run_gen.specs.Calls.{last_id}
 use Rattle.run_gen.proofs.Outcomes.{last_is, none_left}
 use Rattle.run_gen.proofs.asking.head_of.Goals as goal
 

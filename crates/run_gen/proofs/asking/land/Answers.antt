@@ -1,4 +1,4 @@
-use Rattle.load_calls.proofs.Joined.{same_answered}
+use Rattle.run_gen.proofs.Joined.{same_answered}
 use Rattle.run_gen.proofs.asking.land.Goals as goal
 
 pub returns-clause-answered : goal.returns-clause-answered

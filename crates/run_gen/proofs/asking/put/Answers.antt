@@ -1,5 +1,5 @@
 use Rattle.repo_calls.specs.Calls.{ask_seen}
-use Rattle.load_calls.proofs.Joined.{same_answered}
+use Rattle.run_gen.proofs.Joined.{same_answered}
 use Rattle.run_gen.proofs.Outcomes.{upload_leaves}
 use Rattle.run_gen.proofs.asking.put.Goals as goal
 

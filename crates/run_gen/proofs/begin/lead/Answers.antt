@@ -8,9 +8,9 @@ use Rattle.history_model.specs.History.{Body, Book, Change, Entry}
 use Rattle.history_model.specs.Journal.{Header}
 use Rattle.reply_model.specs.Reply.{PutChangeset, SetBookmark}
 use Rattle.repo_state.specs.State.{IsQuiet}
-use Rattle.turn_history.specs.Opening.{Opening}
-use Rattle.load_stacks.specs.Stacks.{base, base_id, main}
-use Rattle.load_calls.specs.Loads.{base_entry, main_entry}
+use Rattle.bookmark_lock.specs.Opening.{Opening}
+use Rattle.run_gen.specs.Stacks.{base, base_id, main}
+use Rattle.run_gen.specs.Loads.{base_entry, main_entry}
 use Rattle.run_gen.specs.Begun.{Enters, IsLed, load_header}
 use Rattle.run_gen.proofs.Begins.{base_enters, main_enters}
 use Rattle.run_gen.proofs.begin.lead.Goals as goal

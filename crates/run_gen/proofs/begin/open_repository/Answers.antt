@@ -1,7 +1,7 @@
 use Rattle.std.proofs.Common.{◌≡◌, [], ap, subst, ◌∙◌}
 use Rattle.std.specs.Prelude.{Result, MatchResult}
 use Rattle.recovery.specs.Answers.{TellsNothing}
-use Rattle.turn_history.specs.Opening.{Opening}
+use Rattle.bookmark_lock.specs.Opening.{Opening}
 use Rattle.run_gen.specs.Begun.{load_header}
 use Rattle.run_gen.proofs.Begins.{quiet_opening}
 use Rattle.run_gen.proofs.begin.open_repository.Goals as goal

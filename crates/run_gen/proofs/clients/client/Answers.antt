@@ -1,4 +1,4 @@
-use Rattle.load_calls.proofs.Runs.{never_begun}
+use Rattle.run_gen.proofs.Runs.{never_begun}
 use Rattle.run_gen.proofs.clients.client.Goals as goal
 
 pub returns-in_default-clause-ran : goal.returns-in_default-clause-ran

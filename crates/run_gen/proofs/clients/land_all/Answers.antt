@@ -2,10 +2,10 @@ use Rattle.std.proofs.Common.{◌≡◌, ℕ, ◌+◌, [], ◌∷◌, Ok, Err, r
 use Rattle.byte_fields.specs.Bytes.{Id}
 use Rattle.sha2.specs.Sha256.{sha256}
 use Rattle.bookmark_lock.specs.Place.{Place, with_front}
-use Rattle.load_stacks.specs.Stacks.{stack_of}
-use Rattle.load_calls.specs.Answers.{Answered}
-use Rattle.load_calls.specs.Running.{IsAt}
-use Rattle.load_calls.proofs.Runs.{begins, goes_on, stops}
+use Rattle.run_gen.specs.Stacks.{stack_of}
+use Rattle.run_gen.specs.Answers.{Answered}
+use Rattle.run_gen.specs.Running.{IsAt}
+use Rattle.run_gen.proofs.Runs.{begins, goes_on, stops}
 use Rattle.run_gen.proofs.Stacking.{same_number}
 use Rattle.run_gen.proofs.clients.land_all.Goals as goal
 

@@ -1,6 +1,6 @@
 use Rattle.std.proofs.Common.{◌≡◌}
 use Rattle.bookmark_lock.specs.Place.{with_front}
-use Rattle.load_calls.specs.Running.{IsAt}
+use Rattle.run_gen.specs.Running.{IsAt}
 use Rattle.run_gen.proofs.clients.land_all.Given as goal
 
 abbrev pub invariant-loop-stack : goal.invariant-loop-stack

@@ -1,7 +1,7 @@
 use Rattle.std.proofs.Common.{◌≡◌, Err, refl, ap, sym, ◌∙◌}
 use Rattle.std.specs.Prelude.{None, Some}
 use Rattle.history_model.specs.Bookmark.{name_fault}
-use Rattle.load_stacks.specs.Stacks.{main}
+use Rattle.run_gen.specs.Stacks.{main}
 use Rattle.run_gen.proofs.clients.main_name.Goals as goal
 
 is_right : name_fault main ≡ None

@@ -3,7 +3,7 @@ use Rattle.std.proofs.Common.{◌≡◌, ℕ, ◌+◌, ◌<◌, ◌≤◌, List,
 use Rattle.history_model.specs.History.{Entry}
 use Rattle.bookmark_lock.specs.Place.{Place, Site}
 use Rattle.repo_machine.specs.Seats.{cleared}
-use Rattle.turn_history.specs.Opening.{Opening}
+use Rattle.bookmark_lock.specs.Opening.{Opening}
 use Rattle.run_gen.specs.Joining.{IsOf, seats_of}
 use Rattle.run_gen.specs.declared.crew.Finished.{Finished}
 use Rattle.run_gen.proofs.Crews.{begun_of, leaves, places}

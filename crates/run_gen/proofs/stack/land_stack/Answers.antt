@@ -1,7 +1,7 @@
 use Rattle.std.proofs.Common.{[], ◌∷◌, ℕ, List, subst}
 use Rattle.byte_fields.specs.Bytes.{Id}
 use Rattle.reply_model.specs.Reply.{LandDraft}
-use Rattle.load_calls.specs.Answers.{Answered}
+use Rattle.run_gen.specs.Answers.{Answered}
 use Rattle.run_gen.specs.Outcomes.{heads_given}
 use Rattle.run_gen.proofs.Stacking.{seat_then}
 use Rattle.run_gen.proofs.stack.land_stack.Goals as goal

@@ -1,8 +1,8 @@
 use Rattle.std.proofs.Common.{◌≡◌, ℕ, ◌+◌, [], Err, ap, subst, ◌∙◌}
 use Rattle.byte_fields.specs.Bytes.{Id}
 use Rattle.bookmark_lock.specs.Place.{Place, with_front}
-use Rattle.load_stacks.specs.Stacks.{no_parts, parts_of}
-use Rattle.load_calls.specs.Answers.{Answered}
+use Rattle.run_gen.specs.Stacks.{no_parts, parts_of}
+use Rattle.run_gen.specs.Answers.{Answered}
 use Rattle.run_gen.proofs.Stacking.{last_put, part_put, part_stopped, state_put}
 use Rattle.run_gen.proofs.stack.put_parts.Goals as goal
 

@@ -1,8 +1,8 @@
 use Rattle.std.proofs.Common.{◌≡◌, []}
 use Rattle.bookmark_lock.specs.Place.{with_front}
-use Rattle.load_stacks.specs.Stacks.{no_parts, parts_of}
-use Rattle.load_calls.specs.Answers.{Answered}
-use Rattle.load_calls.specs.Running.{done}
+use Rattle.run_gen.specs.Stacks.{no_parts, parts_of}
+use Rattle.run_gen.specs.Answers.{Answered}
+use Rattle.run_gen.specs.Running.{done}
 use Rattle.run_gen.proofs.stack.put_parts.Given as goal
 
 abbrev pub invariant-loop-place : goal.invariant-loop-place

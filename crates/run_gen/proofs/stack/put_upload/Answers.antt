@@ -1,6 +1,6 @@
 use Rattle.std.proofs.Common.{[], ◌∷◌, ℕ, List, subst}
 use Rattle.reply_model.specs.Reply.{PutChangeset}
-use Rattle.load_calls.specs.Answers.{Answered}
+use Rattle.run_gen.specs.Answers.{Answered}
 use Rattle.run_gen.proofs.Stacking.{seat_then}
 use Rattle.run_gen.proofs.stack.put_upload.Goals as goal
 

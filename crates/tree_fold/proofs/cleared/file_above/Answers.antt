@@ -3,7 +3,8 @@ use Rattle.std.specs.Prelude.{option_map, option_to_list}
 use Rattle.std.specs.List.{list_any}
 use Rattle.changeset_model.specs.Path.{Path, path_eq}
 use Rattle.tree_fold.specs.declared.file.File.{File}
-use Rattle.tree_fold.proofs.Ranges.{last_above, none_above, or_false}
+use Rattle.tree_fold.proofs.Ranges.{last_above, none_above}
+use Rattle.byte_fields.proofs.Booleans.{or_false}
 use Rattle.tree_fold.proofs.cleared.file_above.Goals as goal
 
 pub returns-in_err-before : goal.returns-in_err-before

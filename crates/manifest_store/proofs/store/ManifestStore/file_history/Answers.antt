@@ -1,5 +1,4 @@
 use Rattle.std.proofs.Common.{◌≡◌, true, Some, sym, ap, subst, ◌∙◌}
-use Rattle.std.specs.Prelude.{option_map}
 use Rattle.node_table.specs.Table.{Table, is_settled}
 use Rattle.unode.specs.Parts.{entry_seen}
 use Rattle.manifest_store.specs.Manifests.{AreManifests}
@@ -8,11 +7,11 @@ use Rattle.unode.specs.History.{file_unodes}
 use Rattle.manifest_store.proofs.Reading.{has_line, its_line, past_read, past_dir, past_none}
 use Rattle.manifest_store.proofs.store.ManifestStore.file_history.Goals as goal
 
-pub returns-in_default-2-clause-absent : goal.returns-in_default-2-clause-absent
-returns-in_default-2-clause-absent c = λ ks are.
+pub returns-in_default-walk-clause-absent : goal.returns-in_default-walk-clause-absent
+returns-in_default-walk-clause-absent c = λ ks are.
     let a : AreManifests ks c.self.inside.table = subst (AreManifests ks) (sym c.self.view_is) are in
     let settled : is_settled c.self.inside.table c.args.number ≡ true = ap (λ (t : Table). is_settled t c.args.number) c.self.view_is ∙ c.requires.settled in
-    past_none ks c.self.inside.table a c.args.number settled c.in-Some.roots (sym c.in-Some.is ∙ c.roots.ensures.value) c.args.path.now (sym (ap (option_map entry_seen) c.in_default-2.is) ∙ c.in_ok-entry.ensures)
+    past_none ks c.self.inside.table a c.args.number settled c.in-Some.roots (sym c.in-Some.is ∙ c.roots.ensures.value) c.args.path.now c.in_default-walk.ensures
 
 pub file_history-requires : goal.file_history-requires
 file_history-requires c =
@@ -20,17 +19,17 @@ file_history-requires c =
     let are = c.requires.manifests.1 in
     let a : AreManifests ks c.self.inside.table = subst (AreManifests ks) (sym c.self.view_is) are in
     let settled : is_settled c.self.inside.table c.args.number ≡ true = ap (λ (t : Table). is_settled t c.args.number) c.self.view_is ∙ c.requires.settled in
-    has_line ks c.self.inside.table a c.args.number settled c.in-Some.roots (sym c.in-Some.is ∙ c.roots.ensures.value) c.args.path.now c.in-File.id (sym (ap (option_map entry_seen) (c.in-Some-2.is ∙ ap Some c.in-File.is)) ∙ c.in_ok-entry.ensures)
+    has_line ks c.self.inside.table a c.args.number settled c.in-Some.roots (sym c.in-Some.is ∙ c.roots.ensures.value) c.args.path.now c.in-File.id (sym (ap (λ e. Some (entry_seen e)) c.in-File.is) ∙ c.in-Some-walk.ensures)
 
 pub returns-in_ok-file_history-in-File-clause-ids : goal.returns-in_ok-file_history-in-File-clause-ids
 returns-in_ok-file_history-in-File-clause-ids c = λ ks are.
     let a : AreManifests ks c.self.inside.table = subst (AreManifests ks) (sym c.self.view_is) are in
     let settled : is_settled c.self.inside.table c.args.number ≡ true = ap (λ (t : Table). is_settled t c.args.number) c.self.view_is ∙ c.requires.settled in
-    past_read ks c.self.inside.table a c.args.number settled c.in-Some.roots (sym c.in-Some.is ∙ c.roots.ensures.value) c.args.path.now c.in-File.id (sym (ap (option_map entry_seen) (c.in-Some-2.is ∙ ap Some c.in-File.is)) ∙ c.in_ok-entry.ensures) c.in_ok-file_history-in-File.field-0.items
-    (c.in_ok-file_history-in-File.ensures (file_unodes (line_at ks c.args.number) c.args.path.now) (its_line ks c.self.inside.table a c.args.number settled c.in-Some.roots (sym c.in-Some.is ∙ c.roots.ensures.value) c.args.path.now c.in-File.id (sym (ap (option_map entry_seen) (c.in-Some-2.is ∙ ap Some c.in-File.is)) ∙ c.in_ok-entry.ensures)))
+    past_read ks c.self.inside.table a c.args.number settled c.in-Some.roots (sym c.in-Some.is ∙ c.roots.ensures.value) c.args.path.now c.in-File.id (sym (ap (λ e. Some (entry_seen e)) c.in-File.is) ∙ c.in-Some-walk.ensures) c.in_ok-file_history-in-File.field-0.items
+    (c.in_ok-file_history-in-File.ensures (file_unodes (line_at ks c.args.number) c.args.path.now) (its_line ks c.self.inside.table a c.args.number settled c.in-Some.roots (sym c.in-Some.is ∙ c.roots.ensures.value) c.args.path.now c.in-File.id (sym (ap (λ e. Some (entry_seen e)) c.in-File.is) ∙ c.in-Some-walk.ensures)))
 
 pub returns-in-Directory-clause-absent : goal.returns-in-Directory-clause-absent
 returns-in-Directory-clause-absent c = λ ks are.
     let a : AreManifests ks c.self.inside.table = subst (AreManifests ks) (sym c.self.view_is) are in
     let settled : is_settled c.self.inside.table c.args.number ≡ true = ap (λ (t : Table). is_settled t c.args.number) c.self.view_is ∙ c.requires.settled in
-    past_dir ks c.self.inside.table a c.args.number settled c.in-Some.roots (sym c.in-Some.is ∙ c.roots.ensures.value) c.args.path.now c.in-Directory.field-0 (sym (ap (option_map entry_seen) (c.in-Some-2.is ∙ ap Some c.in-Directory.is)) ∙ c.in_ok-entry.ensures)
+    past_dir ks c.self.inside.table a c.args.number settled c.in-Some.roots (sym c.in-Some.is ∙ c.roots.ensures.value) c.args.path.now c.in-Directory.field-0 (sym (ap (λ e. Some (entry_seen e)) c.in-Directory.is) ∙ c.in-Some-walk.ensures)

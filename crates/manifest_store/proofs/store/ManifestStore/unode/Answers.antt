@@ -1,5 +1,4 @@
 use Rattle.std.proofs.Common.{◌≡◌, true, sym, ap, subst, ◌∙◌}
-use Rattle.std.specs.Prelude.{option_map}
 use Rattle.std.specs.FinMap as map
 use Rattle.node_table.specs.Table.{Table, is_settled}
 use Rattle.unode.specs.Parts.{entry_seen}
@@ -8,11 +7,11 @@ use Rattle.manifest_store.specs.Reads.{dir_of}
 use Rattle.manifest_store.proofs.Reading.{entry_got, entry_read, un_none}
 use Rattle.manifest_store.proofs.store.ManifestStore.unode.Goals as goal
 
-pub returns-in_default-2-clause-absent : goal.returns-in_default-2-clause-absent
-returns-in_default-2-clause-absent c = λ ks are.
+pub returns-in_default-walk-clause-absent : goal.returns-in_default-walk-clause-absent
+returns-in_default-walk-clause-absent c = λ ks are.
     let a : AreManifests ks c.self.inside.table = subst (AreManifests ks) (sym c.self.view_is) are in
     let settled : is_settled c.self.inside.table c.args.number ≡ true = ap (λ (t : Table). is_settled t c.args.number) c.self.view_is ∙ c.requires.settled in
-    un_none ks c.self.inside.table a c.args.number settled c.in-Some.roots (sym c.in-Some.is ∙ c.roots.ensures.value) (dir_of c.args.path) (sym (ap (option_map entry_seen) c.in_default-2.is) ∙ c.in_ok-entry.ensures)
+    un_none ks c.self.inside.table a c.args.number settled c.in-Some.roots (sym c.in-Some.is ∙ c.roots.ensures.value) (dir_of c.args.path) c.in_default-walk.ensures
 
 pub bytes_of-requires : goal.bytes_of-requires
 bytes_of-requires c =
@@ -20,10 +19,10 @@ bytes_of-requires c =
     let are = c.requires.manifests.1 in
     let a : AreManifests ks c.self.inside.table = subst (AreManifests ks) (sym c.self.view_is) are in
     let settled : is_settled c.self.inside.table c.args.number ≡ true = ap (λ (t : Table). is_settled t c.args.number) c.self.view_is ∙ c.requires.settled in
-    (_, ap (λ (t : Table). map.get t.nodes c.id_of.result) (sym c.self.view_is) ∙ entry_got ks c.self.inside.table a c.args.number settled c.in-Some.roots (sym c.in-Some.is ∙ c.roots.ensures.value) (dir_of c.args.path) (entry_seen c.in-Some-2.entry) c.id_of.result c.id_of.ensures (sym (ap (option_map entry_seen) c.in-Some-2.is) ∙ c.in_ok-entry.ensures))
+    (_, ap (λ (t : Table). map.get t.nodes c.id_of.result) (sym c.self.view_is) ∙ entry_got ks c.self.inside.table a c.args.number settled c.in-Some.roots (sym c.in-Some.is ∙ c.roots.ensures.value) (dir_of c.args.path) (entry_seen c.in-Some-walk.entry) c.id_of.result c.id_of.ensures c.in-Some-walk.ensures)
 
 pub returns-clause-bytes : goal.returns-clause-bytes
 returns-clause-bytes c = λ ks are.
     let a : AreManifests ks c.self.inside.table = subst (AreManifests ks) (sym c.self.view_is) are in
     let settled : is_settled c.self.inside.table c.args.number ≡ true = ap (λ (t : Table). is_settled t c.args.number) c.self.view_is ∙ c.requires.settled in
-    entry_read ks c.self.inside.table a c.args.number settled c.in-Some.roots (sym c.in-Some.is ∙ c.roots.ensures.value) (dir_of c.args.path) (entry_seen c.in-Some-2.entry) c.id_of.result c.id_of.ensures c.in_ok-bytes_of.field-0.items (sym (ap (option_map entry_seen) c.in-Some-2.is) ∙ c.in_ok-entry.ensures) (ap (λ (t : Table). map.get t.nodes c.id_of.result) c.self.view_is ∙ c.in_ok-bytes_of.ensures)
+    entry_read ks c.self.inside.table a c.args.number settled c.in-Some.roots (sym c.in-Some.is ∙ c.roots.ensures.value) (dir_of c.args.path) (entry_seen c.in-Some-walk.entry) c.id_of.result c.id_of.ensures c.in_ok-bytes_of.field-0.items c.in-Some-walk.ensures (ap (λ (t : Table). map.get t.nodes c.id_of.result) c.self.view_is ∙ c.in_ok-bytes_of.ensures)

@@ -1,7 +1,7 @@
 use Rattle.std.proofs.Common.{◌≡◌, true, length, sym, ap, subst, ◌∙◌}
 use Rattle.byte_fields.specs.Bytes.{is_bytes}
 use Rattle.bonsai.specs.Encodings.{encodings}
-use Rattle.bonsai.proofs.Lengths.{id_long}
+use Rattle.changeset_model.proofs.Spelling.{len_of as id_long}
 use Rattle.changeset_store.specs.Shared.{values}
 use Rattle.history_model.specs.Pushrebase.{rewrite}
 use Rattle.repo_machine.specs.Plans.{rebased_of, landing_in}

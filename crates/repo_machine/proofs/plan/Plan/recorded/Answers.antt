@@ -8,7 +8,7 @@ use Rattle.history_model.specs.Pushrebase.{rewrite}
 use Rattle.repo_events.specs.Entries.{landing_head}
 use Rattle.repo_events.proofs.Written.{frame_completed}
 use Rattle.repo_machine.specs.Plans.{rebased_of, landing_in}
-use Rattle.repo_machine.proofs.LandingEntry.{length-rewrite}
+use Rattle.repo_calls.proofs.Fitting.{length-rewrite}
 use Rattle.repo_machine.proofs.plan.Plan.recorded.Goals as goal
 
 pub returns-clause-frame : goal.returns-clause-frame

@@ -1,6 +1,6 @@
 use Rattle.std.proofs.Common.{◌≡◌, ◌≤◌, true, length, sym, ap, subst, ◌∙◌, string_bytes}
 use Rattle.changeset_model.specs.Path.{text_of, is_path}
-use Rattle.repo_path.proofs.Elements.{text_of-elements}
+use Rattle.changeset_model.proofs.Accepting.{text_of-elements}
 use Rattle.repo_path.proofs.Faults.{path_is_short}
 use Rattle.repo_path.proofs.path.RepoPath.as_str.Goals as goal
 

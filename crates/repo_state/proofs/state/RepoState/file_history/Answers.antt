@@ -3,7 +3,7 @@ use Rattle.history_model.specs.History.{known}
 use Rattle.reply_model.specs.After.{Answers, Looks, nothing}
 use Rattle.reply_model.specs.Reply.{HistoryOf}
 use Rattle.manifest_store.specs.Manifests.{AreManifests}
-use Rattle.seat_calls.specs.Asking.{fault_answer}
+use Rattle.repo_calls.specs.Asking.{fault_answer}
 use Rattle.repo_state.specs.Manifests.{ids_answer}
 use Rattle.repo_state.specs.State.{State}
 use Rattle.repo_state.proofs.Reading.{history_saw, history_absent, history_not_derived}

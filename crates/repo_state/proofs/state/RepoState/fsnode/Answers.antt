@@ -3,7 +3,7 @@ use Rattle.history_model.specs.History.{known}
 use Rattle.reply_model.specs.After.{Answers, Looks, nothing}
 use Rattle.reply_model.specs.Reply.{FsnodeOf}
 use Rattle.manifest_store.specs.Manifests.{AreManifests}
-use Rattle.seat_calls.specs.Asking.{bytes_answer, fault_answer, place_of}
+use Rattle.repo_calls.specs.Asking.{bytes_answer, fault_answer, place_of}
 use Rattle.repo_state.specs.State.{State}
 use Rattle.repo_state.proofs.Reading.{fsnode_saw, fsnode_absent, fsnode_not_derived}
 use Rattle.repo_state.proofs.state.RepoState.fsnode.Goals.{in-Ok, in-Err}

@@ -5,7 +5,7 @@ use Rattle.reply_model.specs.After.{Answers, Derives, nothing}
 use Rattle.changeset_store.specs.Store.{number_in}
 use Rattle.manifest_store.specs.Jobs.{IsNextJob}
 use Rattle.manifest_store.specs.Settling.{IsCollision}
-use Rattle.seat_calls.specs.Asking.{fault_answer}
+use Rattle.repo_calls.specs.Asking.{fault_answer}
 use Rattle.repo_state.specs.Manifests.{IsNextOf}
 use Rattle.repo_state.specs.State.{State}
 use Rattle.repo_state.proofs.Reading.{missing, next_of, done_right, done_ready, collided, stay_settled, fewer_missing, chain_settled}

@@ -1,7 +1,7 @@
 use Rattle.std.proofs.Common.{ap, arith, ◌∙◌}
 use Rattle.std.specs.Prelude.{Err}
-use Rattle.repo_calls.specs.Calls.{ask_seen}
 use Rattle.repo_journal.specs.Answers.{is_disk_fault, is_full_answer}
+use Rattle.repo_machine.specs.Prepared.{asked_by}
 use Rattle.repo_state.proofs.Changes.{change_none}
 use Rattle.repo_state.specs.State.{State}
 use Rattle.repo_state.proofs.Landed.{lands_as}
@@ -13,7 +13,7 @@ use Rattle.repo_state.proofs.state.RepoState.store_prepared.Goals as goal
 pub returns-in_default-clause-reply : goal.returns-in_default-clause-reply
 returns-in_default-clause-reply g c =
     rw (← c.self.view_is, c.admit.ensures.granted)
-    (granted_replies c.self.inside.machine.header c.self.inside.machine.history c.judge_prepared.new.self.history c.admit.new.self.history c.args.who (ask_seen c.args.ask.now) (c.in-Ok.judged)
+    (granted_replies c.self.inside.machine.header c.self.inside.machine.history c.judge_prepared.new.self.history c.admit.new.self.history c.args.who (asked_by c.args.prepared) (c.in-Ok.judged)
     c.judge_prepared.ensures.history c.admit.ensures.history c.in-Ok.ensures.ok.by c.in-Ok.ensures.ok.is_judged)
 
 pub returns-in_default-clause-leaves : goal.returns-in_default-clause-leaves
@@ -32,7 +32,7 @@ invariant_of-self-in-Ok-append g c =
     let made = making _ _ _ judged c.in-Some.frame.now c.in-Ok.ensures.ok.is_judged c.in-Some.ensures.frame in
     let e = c.in-Ok-append.ensures in
     let out = outcome_appended c.self.inside.machine.header c.judge_prepared.new.self.header c.admit-in-Ok-append.new.self.header c.self.inside.machine.history c.judge_prepared.new.self.history c.admit-in-Ok-append.new.self.history
-    c.args.who (ask_seen c.args.ask.now) judged c.in-Some.frame.now c.self.inside.journal c.append.new.self (g.D.Disk.meaning c.self.inside.first.value) (g.D.Disk.meaning c.self.inside.disk) (g.D.Disk.meaning c.append.new.disk)
+    c.args.who (asked_by c.args.prepared) judged c.in-Some.frame.now c.self.inside.journal c.append.new.self (g.D.Disk.meaning c.self.inside.first.value) (g.D.Disk.meaning c.self.inside.disk) (g.D.Disk.meaning c.append.new.disk)
     c.judge_prepared.ensures.header c.admit-in-Ok-append.ensures.header c.judge_prepared.ensures.history c.admit-in-Ok-append.ensures.history c.in-Ok.ensures.ok.by made e.ok e.long
     (record { kept = e.kept; counts = e.faults; calm = e.quiet; crash = e.crash; sealed = λ _. e.sealed }) c.self.invariant.0 in
     (out.holds, manifests_grow_after _ _ _ _ _ _ _ _ c.judge_prepared.ensures.header c.admit-in-Ok-append.ensures.header c.judge_prepared.ensures.history c.admit-in-Ok-append.ensures.history c.admit-in-Ok-append.ensures.legal c.self.invariant.1)
@@ -44,7 +44,7 @@ invariant_of-self-in-Err-DiskFault g c =
     let e = c.in-Err-DiskFault.ensures in
     let fails = ap (λ f. is_disk_fault {T = Unit {0}} (Err f)) c.in-Err-DiskFault.field-0-is in
     let out = outcome_failed c.self.inside.machine.header c.judge_prepared.new.self.header c.fault.new.self.header c.self.inside.machine.history c.judge_prepared.new.self.history c.fault.new.self.history
-    c.args.who (ask_seen c.args.ask.now) judged c.in-Some.frame.now c.self.inside.journal c.append.new.self (g.D.Disk.meaning c.self.inside.first.value) (g.D.Disk.meaning c.self.inside.disk) (g.D.Disk.meaning c.append.new.disk)
+    c.args.who (asked_by c.args.prepared) judged c.in-Some.frame.now c.self.inside.journal c.append.new.self (g.D.Disk.meaning c.self.inside.first.value) (g.D.Disk.meaning c.self.inside.disk) (g.D.Disk.meaning c.append.new.disk)
     c.judge_prepared.ensures.header c.fault.ensures.header c.judge_prepared.ensures.history c.fault.ensures.history made (e.broken fails)
     (append_failed _ _ _ _ _ fails e.kept e.faults e.quiet e.crash) c.self.invariant.0 in
     (out.holds, manifests_grow_after _ _ _ _ _ _ _ _ c.judge_prepared.ensures.header c.fault.ensures.header c.judge_prepared.ensures.history c.fault.ensures.history c.fault.ensures.legal c.self.invariant.1)
@@ -63,7 +63,7 @@ returns-in-Ok-append-clause-reply g c =
     let made = making _ _ _ judged c.in-Some.frame.now c.in-Ok.ensures.ok.is_judged c.in-Some.ensures.frame in
     let e = c.in-Ok-append.ensures in
     let out = outcome_appended c.self.inside.machine.header c.judge_prepared.new.self.header c.admit-in-Ok-append.new.self.header c.self.inside.machine.history c.judge_prepared.new.self.history c.admit-in-Ok-append.new.self.history
-    c.args.who (ask_seen c.args.ask.now) judged c.in-Some.frame.now c.self.inside.journal c.append.new.self (g.D.Disk.meaning c.self.inside.first.value) (g.D.Disk.meaning c.self.inside.disk) (g.D.Disk.meaning c.append.new.disk)
+    c.args.who (asked_by c.args.prepared) judged c.in-Some.frame.now c.self.inside.journal c.append.new.self (g.D.Disk.meaning c.self.inside.first.value) (g.D.Disk.meaning c.self.inside.disk) (g.D.Disk.meaning c.append.new.disk)
     c.judge_prepared.ensures.header c.admit-in-Ok-append.ensures.header c.judge_prepared.ensures.history c.admit-in-Ok-append.ensures.history c.in-Ok.ensures.ok.by made e.ok e.long
     (record { kept = e.kept; counts = e.faults; calm = e.quiet; crash = e.crash; sealed = λ _. e.sealed }) c.self.invariant.0 in
     rw (← c.self.view_is, c.admit-in-Ok-append.ensures.granted) out.reply
@@ -74,7 +74,7 @@ returns-in-Ok-append-clause-sound g c =
     let made = making _ _ _ judged c.in-Some.frame.now c.in-Ok.ensures.ok.is_judged c.in-Some.ensures.frame in
     let e = c.in-Ok-append.ensures in
     let out = outcome_appended c.self.inside.machine.header c.judge_prepared.new.self.header c.admit-in-Ok-append.new.self.header c.self.inside.machine.history c.judge_prepared.new.self.history c.admit-in-Ok-append.new.self.history
-    c.args.who (ask_seen c.args.ask.now) judged c.in-Some.frame.now c.self.inside.journal c.append.new.self (g.D.Disk.meaning c.self.inside.first.value) (g.D.Disk.meaning c.self.inside.disk) (g.D.Disk.meaning c.append.new.disk)
+    c.args.who (asked_by c.args.prepared) judged c.in-Some.frame.now c.self.inside.journal c.append.new.self (g.D.Disk.meaning c.self.inside.first.value) (g.D.Disk.meaning c.self.inside.disk) (g.D.Disk.meaning c.append.new.disk)
     c.judge_prepared.ensures.header c.admit-in-Ok-append.ensures.header c.judge_prepared.ensures.history c.admit-in-Ok-append.ensures.history c.in-Ok.ensures.ok.by made e.ok e.long
     (record { kept = e.kept; counts = e.faults; calm = e.quiet; crash = e.crash; sealed = λ _. e.sealed }) c.self.invariant.0 in
     out.holds.0
@@ -85,7 +85,7 @@ returns-in-Ok-append-clause-leaves g c =
     let made = making _ _ _ judged c.in-Some.frame.now c.in-Ok.ensures.ok.is_judged c.in-Some.ensures.frame in
     let e = c.in-Ok-append.ensures in
     let out = outcome_appended c.self.inside.machine.header c.judge_prepared.new.self.header c.admit-in-Ok-append.new.self.header c.self.inside.machine.history c.judge_prepared.new.self.history c.admit-in-Ok-append.new.self.history
-    c.args.who (ask_seen c.args.ask.now) judged c.in-Some.frame.now c.self.inside.journal c.append.new.self (g.D.Disk.meaning c.self.inside.first.value) (g.D.Disk.meaning c.self.inside.disk) (g.D.Disk.meaning c.append.new.disk)
+    c.args.who (asked_by c.args.prepared) judged c.in-Some.frame.now c.self.inside.journal c.append.new.self (g.D.Disk.meaning c.self.inside.first.value) (g.D.Disk.meaning c.self.inside.disk) (g.D.Disk.meaning c.append.new.disk)
     c.judge_prepared.ensures.header c.admit-in-Ok-append.ensures.header c.judge_prepared.ensures.history c.admit-in-Ok-append.ensures.history c.in-Ok.ensures.ok.by made e.ok e.long
     (record { kept = e.kept; counts = e.faults; calm = e.quiet; crash = e.crash; sealed = λ _. e.sealed }) c.self.invariant.0 in
     rw (← c.self.view_is) out.leaves
@@ -97,7 +97,7 @@ returns-in-Err-DiskFault-clause-reply g c =
     let e = c.in-Err-DiskFault.ensures in
     let fails = ap (λ f. is_disk_fault {T = Unit {0}} (Err f)) c.in-Err-DiskFault.field-0-is in
     let out = outcome_failed c.self.inside.machine.header c.judge_prepared.new.self.header c.fault.new.self.header c.self.inside.machine.history c.judge_prepared.new.self.history c.fault.new.self.history
-    c.args.who (ask_seen c.args.ask.now) judged c.in-Some.frame.now c.self.inside.journal c.append.new.self (g.D.Disk.meaning c.self.inside.first.value) (g.D.Disk.meaning c.self.inside.disk) (g.D.Disk.meaning c.append.new.disk)
+    c.args.who (asked_by c.args.prepared) judged c.in-Some.frame.now c.self.inside.journal c.append.new.self (g.D.Disk.meaning c.self.inside.first.value) (g.D.Disk.meaning c.self.inside.disk) (g.D.Disk.meaning c.append.new.disk)
     c.judge_prepared.ensures.header c.fault.ensures.header c.judge_prepared.ensures.history c.fault.ensures.history made (e.broken fails)
     (append_failed _ _ _ _ _ fails e.kept e.faults e.quiet e.crash) c.self.invariant.0 in
     rw (← c.self.view_is) out.reply
@@ -109,7 +109,7 @@ returns-in-Err-DiskFault-clause-sound g c =
     let e = c.in-Err-DiskFault.ensures in
     let fails = ap (λ f. is_disk_fault {T = Unit {0}} (Err f)) c.in-Err-DiskFault.field-0-is in
     let out = outcome_failed c.self.inside.machine.header c.judge_prepared.new.self.header c.fault.new.self.header c.self.inside.machine.history c.judge_prepared.new.self.history c.fault.new.self.history
-    c.args.who (ask_seen c.args.ask.now) judged c.in-Some.frame.now c.self.inside.journal c.append.new.self (g.D.Disk.meaning c.self.inside.first.value) (g.D.Disk.meaning c.self.inside.disk) (g.D.Disk.meaning c.append.new.disk)
+    c.args.who (asked_by c.args.prepared) judged c.in-Some.frame.now c.self.inside.journal c.append.new.self (g.D.Disk.meaning c.self.inside.first.value) (g.D.Disk.meaning c.self.inside.disk) (g.D.Disk.meaning c.append.new.disk)
     c.judge_prepared.ensures.header c.fault.ensures.header c.judge_prepared.ensures.history c.fault.ensures.history made (e.broken fails)
     (append_failed _ _ _ _ _ fails e.kept e.faults e.quiet e.crash) c.self.invariant.0 in
     out.holds.0
@@ -121,7 +121,7 @@ returns-in-Err-DiskFault-clause-leaves g c =
     let e = c.in-Err-DiskFault.ensures in
     let fails = ap (λ f. is_disk_fault {T = Unit {0}} (Err f)) c.in-Err-DiskFault.field-0-is in
     let out = outcome_failed c.self.inside.machine.header c.judge_prepared.new.self.header c.fault.new.self.header c.self.inside.machine.history c.judge_prepared.new.self.history c.fault.new.self.history
-    c.args.who (ask_seen c.args.ask.now) judged c.in-Some.frame.now c.self.inside.journal c.append.new.self (g.D.Disk.meaning c.self.inside.first.value) (g.D.Disk.meaning c.self.inside.disk) (g.D.Disk.meaning c.append.new.disk)
+    c.args.who (asked_by c.args.prepared) judged c.in-Some.frame.now c.self.inside.journal c.append.new.self (g.D.Disk.meaning c.self.inside.first.value) (g.D.Disk.meaning c.self.inside.disk) (g.D.Disk.meaning c.append.new.disk)
     c.judge_prepared.ensures.header c.fault.ensures.header c.judge_prepared.ensures.history c.fault.ensures.history made (e.broken fails)
     (append_failed _ _ _ _ _ fails e.kept e.faults e.quiet e.crash) c.self.invariant.0 in
     rw (← c.self.view_is) out.leaves
@@ -129,7 +129,7 @@ returns-in-Err-DiskFault-clause-leaves g c =
 pub returns-in-Err-clause-reply : goal.returns-in-Err-clause-reply
 returns-in-Err-clause-reply g c =
     rw (← c.self.view_is)
-    (refused_replies c.self.inside.machine.header c.self.inside.machine.history c.judge_prepared.new.self.history c.args.who (ask_seen c.args.ask.now) c.in-Err.refusal c.judge_prepared.ensures.history c.in-Err.ensures.err)
+    (refused_replies c.self.inside.machine.header c.self.inside.machine.history c.judge_prepared.new.self.history c.args.who (asked_by c.args.prepared) c.in-Err.refusal c.judge_prepared.ensures.history c.in-Err.ensures.err)
 
 -- ---- the trees after it, and its steps
 

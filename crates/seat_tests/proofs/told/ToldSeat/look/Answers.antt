@@ -1,10 +1,10 @@
 use Rattle.std.proofs.Common.{Result, Ok, Err, refl}
 use Rattle.std.specs.Result.{IsErr}
 use Rattle.reply_model.specs.After.{Answer, Call, Looks}
-use Rattle.seat_calls.specs.declared.calls.AskFault.{AskFault}
-use Rattle.seat_calls.specs.declared.calls.AskFault.TheVariants.{NoContent, NoChangeset, NoPath, NotADir, NotAFile, Collision, ReadFault, BadBytes, Memory}
-use Rattle.seat_calls.specs.declared.calls.Seen.{Seen}
-use Rattle.seat_calls.specs.Asking.{fault_answer, IsAnswer, question_seen}
+use Rattle.repo_calls.specs.declared.calls.AskFault.{AskFault}
+use Rattle.repo_calls.specs.declared.calls.AskFault.TheVariants.{NoContent, NoChangeset, NoPath, NotADir, NotAFile, Collision, ReadFault, BadBytes, Memory}
+use Rattle.repo_calls.specs.declared.calls.Seen.{Seen}
+use Rattle.repo_calls.specs.Asking.{fault_answer, IsAnswer, question_seen}
 use Rattle.seat_tests.specs.Told.{IsTold}
 use Rattle.seat_tests.proofs.told.ToldSeat.look.Goals as goal
 

@@ -1,7 +1,7 @@
 use Rattle.std.proofs.Common.{sym, subst}
 use Rattle.reply_model.specs.After.{Answers, Derives, nothing}
 use Rattle.repo_state.proofs.Reading.{collided}
-use Rattle.seat_calls.specs.Asking.{fault_answer}
+use Rattle.repo_calls.specs.Asking.{fault_answer}
 use Rattle.shared_repo.specs.Derivation.{IsNextSome}
 use Rattle.shared_repo.proofs.Derivations.{was_derived}
 use Rattle.shared_repo.proofs.repo.Repo.derive_next.Goals as goal

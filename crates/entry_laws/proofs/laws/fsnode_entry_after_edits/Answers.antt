@@ -1,5 +1,0 @@
-use Rattle.entry_laws.proofs.FsSide.{fs_after}
-use Rattle.entry_laws.proofs.laws.fsnode_entry_after_edits.Goals as goal
-
-pub returns : goal.returns
-returns c = λ cs change d name made clear rise right. fs_after cs change d name clear rise made right

@@ -1,5 +1,0 @@
-pub mod Statuses
-pub mod Reports
-pub mod Making
-pub mod Opening
-pub mod Counting

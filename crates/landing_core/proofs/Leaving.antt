@@ -1,0 +1,143 @@
+-- What a step that is no step of manifests leaves: the manifests, the jobs, and the history but for more entries.
+use Rattle.std.proofs.Common.{◌≡◌, ℕ, Bool, true, false, cond, List, [], ◌∷◌, ◌++◌, refl, sym, ap, subst, ◌∙◌, append_assoc}
+use Rattle.std.specs.Prelude.{Option, None, Some, is_some, is_none, ◌&&◌, slice_get, option_map, if◌then◌else◌, find, bytes_eq}
+use Rattle.std.specs.List.{AllByRecursion}
+use Rattle.std.specs.Option.{option_and_then}
+use mathlib.Core.Bool.{true≢false}
+use Rattle.std.proofs.lemmas.List.{append-nil}
+use Rattle.byte_fields.specs.Bytes.{Id}
+use Rattle.byte_fields.proofs.Lists.{weaker}
+use Rattle.history_model.specs.History.{Body, Fault, Entry, Known, bodies, known}
+use Rattle.history_model.specs.Journal.{Header}
+use Rattle.manifest_model.specs.Manifests.{Manifests, manifests_on, Job}
+use Rattle.reply_model.specs.Reply.{Ask, is_ask, judge}
+use Rattle.reply_model.proofs.Lines.{known_grows, line_grows}
+use Rattle.core_model.specs.Core.{State, Step, Sealing, Stage, Decided, Written, Flushed, Opened, PlanLanding, Exchange, Look, WriteRecord, SyncRecord, OpenGate, Seal, Acknowledge, TakeJob, Settle, Crash, set_for, is_sealed, sealing_of, is_as_planned, exchanged, added, broken, come_to, sealed, device_call, acknowledged_with, settled_in, after_step, after_steps}
+use Rattle.core_model.proofs.Cores.{some_is, when_ok}
+use Rattle.landing_core.specs.Settled.{IsRow, IsTaken, ShowsSettled, HasJob, leaves_manifests}
+use Rattle.landing_core.proofs.Rows.{line_known}
+
+pub record Leaves (s t : State) : Type 0 where
+  pub more : List Entry
+  pub history_is : t.history ≡ s.history ++ more
+  pub table_is : t.table ≡ s.table
+  pub jobs_is : t.jobs ≡ s.jobs
+
+alike : (s t : State) → t.history ≡ s.history → t.table ≡ s.table → t.jobs ≡ s.jobs → Leaves s t
+alike s t history table jobs = record { more = []; history_is = history ∙ sym (append-nil s.history); table_is = table; jobs_is = jobs }
+
+itself : (s : State) → Leaves s s
+itself s = alike s s refl refl refl
+
+adds : (who : ℕ) (body : Body) (s : State) → Leaves s (added who body s)
+adds who body s = record { more = record { who = who; body = body } ∷ []; history_is = refl; table_is = refl; jobs_is = refl }
+
+choose : (b : Bool) (s t u : State) → Leaves s t → Leaves s u → Leaves s (cond b t u)
+choose true s t u l r = l
+choose false s t u l r = r
+
+through : (s t u : State) → Leaves s t → Leaves t u → Leaves s u
+through s t u l r = record {
+  more = l.more ++ r.more;
+  history_is = r.history_is ∙ ap (λ (h : List Entry). h ++ r.more) l.history_is ∙ append_assoc s.history l.more r.more;
+  table_is = r.table_is ∙ l.table_is;
+  jobs_is = r.jobs_is ∙ l.jobs_is;
+}
+
+fails : (r : Sealing) (opening : Bool) (s : State) → Leaves s (broken r opening s)
+fails r opening s = record { more = record { who = r.who; body = Fault true } ∷ []; history_is = refl; table_is = refl; jobs_is = refl }
+
+-- ---- a step
+
+exchanged_leaves : (header : Header) (s : State) (who : ℕ) (ask : Ask) → Leaves s (exchanged header s who ask)
+exchanged_leaves header s who ask =
+    choose (is_as_planned s.history (s.plan who) ask) s (record s { sealing = sealing_of who (judge header s.history ask) s.sealing }) (record s { plan = set_for who None s.plan })
+    (alike s _ refl refl refl) (alike s _ refl refl refl)
+
+call_leaves : (step : Step) (r : Sealing) (stage : Stage) (s t : State) → device_call step r stage s ≡ Some t → Leaves s t
+call_leaves (WriteRecord done) r Decided s t e = subst (Leaves s) (some_is _ t e) (choose done s (come_to r Written s) (broken r false s) (alike s _ refl refl refl) (fails r false s))
+call_leaves (SyncRecord done) r Written s t e = subst (Leaves s) (some_is _ t e) (choose done s (come_to r Flushed s) (broken r false s) (alike s _ refl refl refl) (fails r false s))
+call_leaves (OpenGate done) r Flushed s t e = subst (Leaves s) (some_is _ t e) (choose done s (come_to r Opened s) (broken r true s) (alike s _ refl refl refl) (fails r true s))
+call_leaves (Seal done) r Opened s t e = subst (Leaves s) (some_is _ t e) (choose done s (sealed r s) (broken r true s) (record { more = record { who = r.who; body = r.body } ∷ []; history_is = refl; table_is = refl; jobs_is = refl }) (fails r true s))
+call_leaves step r stage s t e = absurd cc
+
+append_leaves : (step : Step) (s t : State) (o : Option Sealing) → option_and_then (λ r. device_call step r r.stage s) o ≡ Some t → Leaves s t
+append_leaves step s t None e = absurd cc
+append_leaves step s t (Some r) e = call_leaves step r r.stage s t e
+
+answer_by : (s t : State) (who number : ℕ) (o : Option Body) → option_map (acknowledged_with s who number) o ≡ Some t → Leaves s t
+answer_by s t who number None e = absurd cc
+answer_by s t who number (Some body) e = subst (Leaves s) (some_is _ t e) (alike s (acknowledged_with s who number body) refl refl refl)
+
+answer_leaves : (s t : State) (who : ℕ) (o : Option ℕ) → option_and_then (λ number. option_map (acknowledged_with s who number) (slice_get (bodies s.history) number)) o ≡ Some t → Leaves s t
+answer_leaves s t who None e = absurd cc
+answer_leaves s t who (Some number) e = answer_by s t who number (slice_get (bodies s.history) number) e
+
+pub step_leaves : (header : Header) (s t : State) (step : Step) → leaves_manifests step ≡ true → after_step header s step ≡ Some t → Leaves s t
+step_leaves header s t (PlanLanding who name draft) l e = subst (Leaves s) (some_is _ t e) (alike s _ refl refl refl)
+step_leaves header s t (Exchange who ask) l e =
+    let w = when_ok (is_ask ask && is_sealed s.sealing && is_none (s.unanswered who)) (exchanged header s who ask) t e in
+    subst (Leaves s) w.1 (exchanged_leaves header s who ask)
+step_leaves header s t (Look who done) l e =
+    let w = when_ok (is_sealed s.sealing) (if done then s else added who (Fault false) s) t e in
+    subst (Leaves s) w.1 (choose done s s (added who (Fault false) s) (itself s) (adds who (Fault false) s))
+step_leaves header s t (WriteRecord done) l e = append_leaves (WriteRecord done) s t s.sealing e
+step_leaves header s t (SyncRecord done) l e = append_leaves (SyncRecord done) s t s.sealing e
+step_leaves header s t (OpenGate done) l e = append_leaves (OpenGate done) s t s.sealing e
+step_leaves header s t (Seal done) l e = append_leaves (Seal done) s t s.sealing e
+step_leaves header s t (Acknowledge who) l e = answer_leaves s t who (s.unanswered who) e
+step_leaves header s t (TakeJob x) l e = absurd (true≢false (sym l))
+step_leaves header s t (Settle x) l e = absurd (true≢false (sym l))
+step_leaves header s t (Crash kept) l e = absurd (true≢false (sym l))
+
+-- ---- a list of steps
+
+leave_by : (header : Header) (s t : State) (steps : List Step) (o : Option State) → ((next : State) → o ≡ Some next → Leaves s next) → ((next : State) → after_steps header next steps ≡ Some t → Leaves next t) → option_and_then (λ next. after_steps header next steps) o ≡ Some t → Leaves s t
+leave_by header s t steps None first later e = absurd cc
+leave_by header s t steps (Some next) first later e = through s next t (first next refl) (later next e)
+
+pub steps_leave : (header : Header) (steps : List Step) (s t : State) → AllByRecursion (λ step. leaves_manifests step ≡ true) steps → after_steps header s steps ≡ Some t → Leaves s t
+steps_leave header [] s t all e = subst (Leaves s) (some_is s t e) (itself s)
+steps_leave header (step ∷ steps) s t all e =
+    leave_by header s t steps (after_step header s step)
+    (λ next at. step_leaves header s next step all.0 at)
+    (λ next at. steps_leave header steps next t all.1 at) e
+
+-- ---- where more is known
+
+row_grows : (h g : List Entry) (m : Manifests) → IsRow (known h) m → IsRow (known (h ++ g)) m
+row_grows h g m row = (known_grows h g m.id row.0, row.1 ∙ ap (manifests_on m.id) (sym (line_grows h g m.id row.0)))
+
+taken_grows : (h g : List Entry) (table : List Manifests) (job : Job) → IsTaken (known h) table job → IsTaken (known (h ++ g)) table job
+taken_grows h g table job taken =
+    let same = line_grows h g job.changeset.id (line_known (known h) job.changeset.id job.changeset taken.older taken.line_is) in
+    record {
+      older = taken.older;
+      line_is = same ∙ taken.line_is;
+      parent = taken.parent;
+      derives = taken.derives ∙ ap (manifests_on job.changeset.id) (sym same);
+    }
+
+-- manifests and jobs that are right
+pub record AreTrue (ks : List Known) (table : List Manifests) (jobs : List Job) : Type 0 where
+  pub rows : AllByRecursion (IsRow ks) table
+  pub taken : AllByRecursion (IsTaken ks table) jobs
+
+pub true_left : (s t : State) → Leaves s t → AreTrue (known s.history) s.table s.jobs → AreTrue (known t.history) t.table t.jobs
+true_left s t l are =
+    subst (λ jobs. AreTrue (known t.history) t.table jobs) (sym l.jobs_is)
+    (subst (λ table. AreTrue (known t.history) table s.jobs) (sym l.table_is)
+    (subst (λ h. AreTrue (known h) s.table s.jobs) (sym l.history_is) (record {
+      rows = weaker (IsRow (known s.history)) (IsRow (known (s.history ++ l.more))) (row_grows s.history l.more) s.table are.rows;
+      taken = weaker (IsTaken (known s.history) s.table) (IsTaken (known (s.history ++ l.more)) s.table) (taken_grows s.history l.more s.table) s.jobs are.taken;
+    })))
+
+pub shows_left : (header : Header) (settled : Id → Bool) (steps : List Step) (s t : State) → AllByRecursion (λ step. leaves_manifests step ≡ true) steps → after_steps header s steps ≡ Some t → ShowsSettled (known s.history) settled s → ShowsSettled (known t.history) settled t
+shows_left header settled steps s t all e shows =
+    let l = steps_leave header steps s t all e in
+    let are = true_left s t l (record { rows = shows.rows; taken = shows.jobs }) in
+    record { settled_is = λ x. ap (λ table. is_some (settled_in table x)) l.table_is ∙ shows.settled_is x; rows = are.rows; jobs = are.taken }
+
+pub job_left : (header : Header) (x : Id) (steps : List Step) (s t : State) → AllByRecursion (λ step. leaves_manifests step ≡ true) steps → after_steps header s steps ≡ Some t → HasJob s x → HasJob t x
+job_left header x steps s t all e has =
+    ap (λ jobs. is_some (find (λ (job : Job). bytes_eq job.changeset.id x) jobs)) (steps_leave header steps s t all e).jobs_is ∙ has

@@ -1,0 +1,17 @@
+pub mod Lists
+pub mod Growing
+pub mod Extending
+pub mod Reached
+pub mod Whole
+pub mod Makes
+pub mod Planned
+pub mod Down
+pub mod Asked
+pub mod Exchanged
+pub mod Others
+pub mod Rows
+pub mod Apart
+pub mod Taking
+pub mod Settling
+pub mod Leaving
+pub mod Running

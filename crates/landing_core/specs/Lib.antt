@@ -1,0 +1,4 @@
+pub mod Gained
+pub mod Whole
+pub mod Steps
+pub mod Settled

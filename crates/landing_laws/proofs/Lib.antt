@@ -1,3 +1,0 @@
-pub mod Inverting
-pub mod Collisions
-pub mod Landing

@@ -1,5 +1,0 @@
-use Rattle.landing_laws.proofs.Landing.{trees_after}
-use Rattle.landing_laws.proofs.laws.a_landing_among_others_applies_its_stack.Goals as goal
-
-pub returns : goal.returns
-returns c = trees_after

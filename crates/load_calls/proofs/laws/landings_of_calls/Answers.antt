@@ -1,5 +1,0 @@
-use Rattle.load_calls.proofs.Own.{went_lands}
-use Rattle.load_calls.proofs.laws.landings_of_calls.Goals as goal
-
-pub returns : goal.returns
-returns c header who from calls to w = went_lands header who from calls to w

@@ -1,0 +1,175 @@
+//! The entry of one payload.
+ghost use Rattle.std.specs.Prelude.{◌≡◌, ◌↔◌, ◌++◌, ◌∷◌, ℕ, List, [], None, Some, Ok, Err, OnOk, OnErr, IsTrue, IsSome};
+ghost use Rattle.sha2.specs.Sha256.{sha256};
+ghost use Rattle.changeset_model.specs.Changeset.{spelling};
+ghost use Rattle.changeset_model.specs.Decoding.{decoded};
+ghost use Rattle.history_model.specs.History as model;
+ghost use Rattle.history_model.specs.History.{Book, stored, unnumbered};
+ghost use Rattle.history_model.specs.Journal.{framed, payload, IsPayload};
+ghost use Rattle.history_model.specs.Payload.{payload_body};
+ghost use Rattle.reply_model.specs.Legal.{IsLegal};
+ghost use Rattle.reply_model.specs.Opening.{next_entry};
+ghost use Rattle.reply_model.specs.Reply.{PutContent, PutChangeset, SetBookmark, LandDraft};
+ghost use Rattle.repo_events.specs.Entries.{body_of, move_of};
+ghost use Rattle.repo_machine.specs.Entering.{IsJudgedHere};
+ghost use Rattle.repo_machine.specs.Held.{HasRoom};
+ghost use Rattle.repo_machine.specs.Judged.{Frames};
+ghost use Rattle.recovery.specs.Entering.{asked_entry, Enters};
+
+use crate::replay_fault::ReplayFault;
+use bonsai::{Commit, MOST_CONTENT};
+use object_id::Id;
+use repo_events::{Body, Landing, Move, decode_payload};
+use repo_machine::{Judged, Machine};
+use std::alloc::Global;
+
+/// The seat of entries that are read from a file.
+const NO_SEAT: u64 = 0;
+
+/// Enters what a payload stands for, if it is the entry that comes next in a journal. Nothing is entered otherwise.
+pub fn enter_payload(
+    alloc: Global,
+    machine: &mut Machine,
+    payload: &[u8],
+) -> Result<(), ReplayFault>
+    requires legal { IsLegal machine.old.header machine.old.history }
+    requires stored { machine.old.history ≡ stored machine.old.history }
+    ensures ok { OnOk result ((body : model.Body) × (next_entry machine.old.header machine.old.history payload.now ≡ Some body) × (machine.new.history ≡ machine.old.history ++ unnumbered body ∷ [])) }
+    ensures bad { result ≡ Err ReplayFault.BadPayload → next_entry machine.old.header machine.old.history payload.now ≡ None }
+    ensures err { OnErr result (machine.new.history ≡ machine.old.history) }
+    ensures header { machine.new.header ≡ machine.old.header }
+    ensures legal { IsLegal machine.new.header machine.new.history }
+    ensures stored { machine.new.history ≡ stored machine.new.history }
+{
+    let body = decode_payload(alloc, payload)?;
+    enter_body(alloc, machine, body, payload)
+}
+
+// Enters what was decoded of a payload, if it is the entry that comes next.
+fn enter_body(
+    alloc: Global,
+    machine: &mut Machine,
+    body: Body,
+    payload: &[u8],
+) -> Result<(), ReplayFault>
+    requires decoded { payload_body payload.now ≡ Ok (body_of body) }
+    requires spelled { IsPayload (body_of body) payload.now }
+    requires legal { IsLegal machine.old.header machine.old.history }
+    ensures enters { Enters machine.old.history (next_entry machine.old.header machine.old.history payload.now) result machine.new.history }
+    ensures header { machine.new.header ≡ machine.old.header }
+    ensures legal { IsLegal machine.new.header machine.new.history }
+{
+    match body {
+        Body::Content { id, length: _ } => enter_content(alloc, machine, id, &payload[1..]),
+        Body::Change(commit) => enter_changeset(alloc, machine, commit, payload),
+        Body::Book(movement) => enter_move(alloc, machine, &movement),
+        Body::Land(landing) => enter_landing(alloc, machine, &landing, payload),
+    }
+}
+
+// Enters a content that may be put there.
+fn enter_content(
+    alloc: Global,
+    machine: &mut Machine,
+    id: Id,
+    content: &[u8],
+) -> Result<(), ReplayFault>
+    requires id { id ≡ sha256 content.now }
+    requires legal { IsLegal machine.old.header machine.old.history }
+    ensures enters { Enters machine.old.history (asked_entry machine.old.header machine.old.history (0x42 ∷ content.now) (PutContent content.now)) result machine.new.history }
+    ensures header { machine.new.header ≡ machine.old.header }
+    ensures legal { IsLegal machine.new.header machine.new.history }
+{
+    if content.len() as u64 > MOST_CONTENT {
+        return Err(ReplayFault::BadPayload);
+    }
+    let judged = machine.judge_hashed(alloc, NO_SEAT, id, content)?;
+    enter_judged(machine, judged)
+}
+
+// Enters a changeset that may be put there.
+fn enter_changeset(
+    alloc: Global,
+    machine: &mut Machine,
+    commit: Commit,
+    payload: &[u8],
+) -> Result<(), ReplayFault>
+    requires spelled { payload.now ≡ spelling commit }
+    requires decoded { decoded (spelling commit) ≡ Ok commit }
+    ensures enters { Enters machine.old.history (asked_entry machine.old.header machine.old.history (spelling commit) (PutChangeset (spelling commit))) result machine.new.history }
+    ensures header { machine.new.header ≡ machine.old.header }
+    ensures legal { IsLegal machine.new.header machine.new.history }
+{
+    let judged = machine.judge_commit(alloc, NO_SEAT, commit, payload)?;
+    enter_judged(machine, judged)
+}
+
+// Enters a bookmark's move that may be made there.
+fn enter_move(alloc: Global, machine: &mut Machine, movement: &Move) -> Result<(), ReplayFault>
+    ensures enters { Enters machine.old.history (asked_entry machine.old.header machine.old.history (payload (Book (move_of movement.now)) []) (SetBookmark movement.now.name movement.now.from movement.now.to)) result machine.new.history }
+    ensures header { machine.new.header ≡ machine.old.header }
+    ensures legal { IsLegal machine.new.header machine.new.history }
+{
+    let judged = machine.judge_bookmark(
+        alloc,
+        NO_SEAT,
+        &movement.name,
+        movement.from,
+        movement.to,
+    )?;
+    enter_judged(machine, judged)
+}
+
+// Enters a landing, if it is the one that the machine makes of its draft.
+fn enter_landing(
+    alloc: Global,
+    machine: &mut Machine,
+    landing: &Landing,
+    payload: &[u8],
+) -> Result<(), ReplayFault>
+    ensures enters { Enters machine.old.history (asked_entry machine.old.header machine.old.history payload.now (LandDraft landing.now.name landing.now.draft)) result machine.new.history }
+    ensures header { machine.new.header ≡ machine.old.header }
+    ensures legal { IsLegal machine.new.header machine.new.history }
+{
+    let judged = machine.judge_landing(alloc, NO_SEAT, &landing.name, landing.draft)?;
+    if !makes_payload(&judged, payload) {
+        return Err(ReplayFault::BadPayload);
+    }
+    enter_judged(machine, judged)
+}
+
+// Whether an entry is made whose record has this payload.
+fn makes_payload(judged: &Judged, payload: &[u8]) -> bool
+    requires { Frames judged.now.made judged.now.frame }
+    ensures { IsTrue result ↔ (IsSome judged.now.made × (judged.now.frame ≡ framed payload.now)) }
+{
+    match judged.frame() {
+        Some(frame) => payload_in(frame) == payload,
+        None => false,
+    }
+}
+
+// The payload in a framed record: what stands behind its length of 4 bytes and before the closed gate.
+fn payload_in(frame: &[u8]) -> &[u8]
+    requires { (payload : List ℕ) × (frame.now ≡ framed payload) }
+    ensures { frame.now ≡ framed result.now }
+{
+    &frame[4..frame.len() - 1]
+}
+
+// Enters what was judged there, if it makes an entry.
+fn enter_judged(machine: &mut Machine, judged: Judged) -> Result<(), ReplayFault>
+    requires by { judged.who ≡ NO_SEAT }
+    requires judged { IsJudgedHere machine.old.header machine.old.history judged }
+    requires room { HasRoom machine.old.room judged.made }
+    requires legal { IsLegal machine.old.header machine.old.history }
+    ensures enters { Enters machine.old.history judged.made result machine.new.history }
+    ensures header { machine.new.header ≡ machine.old.header }
+    ensures legal { IsLegal machine.new.header machine.new.history }
+{
+    if judged.frame().is_none() {
+        return Err(ReplayFault::BadPayload);
+    }
+    let _granted = machine.admit(judged);
+    Ok(())
+}

@@ -1,0 +1,40 @@
+//! Why a payload wasn't entered.
+ghost use Rattle.std.specs.Prelude.{◌≡◌};
+ghost use Rattle.recovery.specs.ReplayFaults.{decode_fault, refusal_fault};
+
+use repo_calls::Refusal;
+use repo_events::PayloadFault;
+use thiserror::Error;
+
+/// Why a payload wasn't entered.
+#[derive(Clone, Copy, Debug, PartialEq, Eq, Error)]
+pub enum ReplayFault {
+    /// It isn't the payload of the entry that comes next.
+    #[error("not the payload of an entry that comes next")]
+    BadPayload,
+    /// Memory ran out.
+    #[error("memory ran out")]
+    Memory,
+}
+
+impl From<Refusal> for ReplayFault {
+    ghost from_gives = { λ e fault. fault ≡ refusal_fault e };
+
+    fn from(e: Refusal) -> ReplayFault {
+        match e {
+            Refusal::Memory => ReplayFault::Memory,
+            _ => ReplayFault::BadPayload,
+        }
+    }
+}
+
+impl From<PayloadFault> for ReplayFault {
+    ghost from_gives = { λ e fault. fault ≡ decode_fault e };
+
+    fn from(e: PayloadFault) -> ReplayFault {
+        match e {
+            PayloadFault::BadPayload { at: _ } => ReplayFault::BadPayload,
+            PayloadFault::Memory => ReplayFault::Memory,
+        }
+    }
+}

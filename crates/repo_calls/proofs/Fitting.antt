@@ -1,0 +1,99 @@
+-- A change is granted what it asks for.
+use Rattle.std.proofs.Common.{◌≡◌, ◌≤◌, ℕ, true, false, Bool, cond, List, [], ◌∷◌, map, length, refl, sym, subst, arith}
+use Rattle.std.specs.Prelude.{Option, Some, Result, Ok, Err, is_some, find, bytes_eq, nat_lt, ok_or, ◌==◌, not}
+use Rattle.std.specs.Option.{option_eq, option_to_list}
+use Rattle.std.proofs.lemmas.Bool.{ltb-false}
+use Rattle.std.proofs.lemmas.List.{length-map}
+use Rattle.sha2.specs.Sha256.{sha256}
+use Rattle.byte_fields.specs.Bytes.{Id, first_some}
+use Rattle.changeset_model.specs.Changeset.{Changeset, id_of, sets_of, touched_paths}
+use Rattle.changeset_model.specs.Decoding.{decoded}
+use Rattle.history_model.specs.History.{Body, Content, Change, Book, Land, Entry, is_down, known, is_known, content_len}
+use Rattle.history_model.specs.Bookmark.{head}
+use Rattle.history_model.specs.Pushrebase.{fork, clash, rewrite, on_parent}
+use Rattle.history_model.specs.Journal.{Header, payload_len, most_payload, size, is_full}
+use Rattle.reply_model.specs.Reply.{Down, Merge, NoParent, content_refusal, collides, Collision, NoChangeset, Moved, TooLarge, first_collision, NoBookmark, NoRoot, TooFarBehind, AlreadyIn, StackTooLong, Clash, most_range, most_stack, Ask, PutContent, PutChangeset, SetBookmark, LandDraft, Refusal, Granted, ContentPut, ChangesetPut, BookmarkSet, Landed, Judged, ◌>>=◌, Full, refuse_if, refuse_some, unchanged, entered, put_content, accepted, put_changeset, set_bookmark, enter_landing, land, by_ask, judge}
+use Rattle.repo_calls.specs.Replying.{Fits}
+
+abbrev FitsIn : Ask → Result Judged Refusal → Type 0
+FitsIn ask (Ok judged) = Fits ask judged.granted
+FitsIn ask (Err refusal) = Unit {0}
+
+record Granting (ask : Ask) (r : Result Judged Refusal) : Type 0 where
+  each : FitsIn ask r
+
+through : {A : Type 0} (ask : Ask) (r : Result A Refusal) (f : A → Result Judged Refusal) → ((x : A) → r ≡ Ok x → Granting ask (f x)) → Granting ask (r >>= f)
+through ask (Ok x) f all = all x refl
+through ask (Err e) f all = record { each = tt }
+
+one : (ask : Ask) (granted : Granted) → Fits ask granted → Granting ask (unchanged granted)
+one ask granted fits = record { each = fits }
+
+entering : (header : Header) (h : List Entry) (ask : Ask) (granted : Granted) (body : Body) → Fits ask granted → Granting ask (entered header h granted body)
+entering header h ask granted body fits =
+    through ask (refuse_if (is_full header h (payload_len body)) (Full (size h) (payload_len body))) (λ _. Ok (record { granted = granted; made = Some body })) (λ _ _. record { each = fits })
+
+either : (ask : Ask) (b : Bool) (x y : Result Judged Refusal) → Granting ask x → Granting ask y → Granting ask (cond b x y)
+either ask true x y p q = p
+either ask false x y p q = q
+
+content_fits : (header : Header) (h : List Entry) (bytes : List ℕ) → Granting (PutContent bytes) (put_content header h bytes)
+content_fits header h bytes =
+    through (PutContent bytes) _ (λ _. cond (is_some (content_len h (sha256 bytes))) (unchanged (ContentPut (sha256 bytes))) (entered header h (ContentPut (sha256 bytes)) (Content (sha256 bytes) (length bytes))))
+    (λ _ _. either (PutContent bytes) (is_some (content_len h (sha256 bytes))) _ _ (one _ (ContentPut (sha256 bytes)) tt) (entering header h (PutContent bytes) (ContentPut (sha256 bytes)) (Content (sha256 bytes) (length bytes)) tt))
+
+changeset_fits : (header : Header) (h : List Entry) (bytes : List ℕ) → Granting (PutChangeset bytes) (put_changeset header h bytes)
+changeset_fits header h bytes =
+    let ask : Ask = PutChangeset bytes in
+    through ask (accepted (decoded bytes)) _ (λ c _.
+    through ask (refuse_if (nat_lt 1 (length c.parents)) Merge) _ (λ _ _.
+    through ask (refuse_some (find (λ p. not (is_known (known h) p)) c.parents) NoParent) _ (λ _ _.
+    through ask (refuse_some (first_some (λ e. content_refusal e (content_len h e.1.content)) (sets_of c)) (λ refusal. refusal)) _ (λ _ _.
+    through ask (refuse_if (collides (known h) c) (Collision (id_of c))) _ (λ _ _.
+    either ask (is_known (known h) (id_of c)) _ _ (one ask (ChangesetPut (id_of c)) tt) (entering header h ask (ChangesetPut (id_of c)) (Change c) tt))))))
+
+bookmark_fits : (header : Header) (h : List Entry) (name : List ℕ) (from to : Option Id) → Granting (SetBookmark name from to) (set_bookmark header h name from to)
+bookmark_fits header h name from to =
+    let ask : Ask = SetBookmark name from to in
+    through ask (refuse_some (find (λ x. not (is_known (known h) x)) (option_to_list to)) NoChangeset) _ (λ _ _.
+    through ask (refuse_if (not (option_eq bytes_eq (head h name) from)) (Moved (head h name))) _ (λ _ _.
+    either ask (option_eq bytes_eq from to) _ _ (one ask BookmarkSet tt) (entering header h ask BookmarkSet (Book (record { name = name; from = from; to = to })) tt)))
+
+pub length-rewrite : (stack : List Changeset) (head : Id) → length (rewrite stack head) ≡ length stack
+length-rewrite [] head = refl
+length-rewrite (c ∷ cs) head = let rest = length-rewrite cs (id_of (on_parent head c)) in omega arith
+
+passed : (b : Bool) (e : Refusal) (x : Unit {0}) → refuse_if b e ≡ Ok x → b ≡ false
+passed true e x same = absurd cc
+passed false e x same = refl
+
+landing_fits : (header : Header) (h : List Entry) (name : List ℕ) (old draft : Id) (new : List Changeset) → length new ≤ most_stack → Granting (LandDraft name draft) (enter_landing header h name old draft new)
+landing_fits header h name old draft new few =
+    let ask : Ask = LandDraft name draft in
+    let body : Body = Land (record { name = name; old = old; draft = draft; new = new }) in
+    let ids : length (map id_of new) ≤ most_stack = subst (λ n. n ≤ most_stack) (sym (length-map new id_of)) few in
+    through ask (refuse_if (nat_lt most_payload (payload_len body)) (TooLarge (payload_len body))) _ (λ _ _.
+    through ask (refuse_some (first_collision (known h) new) Collision) _ (λ _ _.
+    entering header h ask (Landed old (map id_of new)) body ids))
+
+land_fits : (header : Header) (h : List Entry) (name : List ℕ) (draft : Id) → Granting (LandDraft name draft) (land header h name draft)
+land_fits header h name draft =
+    let ask : Ask = LandDraft name draft in
+    through ask (ok_or (head h name) NoBookmark) _ (λ old _.
+    through ask (refuse_if (not (is_known (known h) draft)) (NoChangeset draft)) _ (λ _ _.
+    through ask (ok_or (fork (known h) old draft) NoRoot) _ (λ f _.
+    through ask (refuse_if (nat_lt most_range (length f.range)) (TooFarBehind (length f.range))) _ (λ _ _.
+    through ask (refuse_if (length f.stack == 0) AlreadyIn) _ (λ _ _.
+    through ask (refuse_if (nat_lt most_stack (length f.stack)) (StackTooLong (length f.stack))) _ (λ x e.
+    through ask (refuse_some (clash (touched_paths f.stack) (touched_paths f.range)) (λ pair. Clash pair.0 pair.1)) _ (λ _ _.
+    let few : length f.stack ≤ most_stack = ltb-false most_stack (length f.stack) (passed (nat_lt most_stack (length f.stack)) (StackTooLong (length f.stack)) x e) in
+    landing_fits header h name old draft (rewrite f.stack old) (subst (λ n. n ≤ most_stack) (sym (length-rewrite f.stack old)) few))))))))
+
+ask_fits : (header : Header) (h : List Entry) (ask : Ask) → Granting ask (by_ask header h ask)
+ask_fits header h (PutContent bytes) = content_fits header h bytes
+ask_fits header h (PutChangeset bytes) = changeset_fits header h bytes
+ask_fits header h (SetBookmark name from to) = bookmark_fits header h name from to
+ask_fits header h (LandDraft name draft) = land_fits header h name draft
+
+pub judged_fits : (header : Header) (h : List Entry) (ask : Ask) (granted : Granted) (made : Option Body) → judge header h ask ≡ Ok (record { granted = granted; made = made }) → Fits ask granted
+judged_fits header h ask granted made e = subst (FitsIn ask) e (through ask (refuse_if (is_down h) Down) _ (λ _ _. ask_fits header h ask)).each

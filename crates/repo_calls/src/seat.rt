@@ -1,0 +1,49 @@
+//! One seat of a repository.
+ghost use Rattle.std.specs.Prelude.{◌≡◌, ℕ, List};
+ghost use Rattle.history_model.specs.History.{Entry};
+ghost use Rattle.history_model.specs.Journal.{Header};
+ghost use Rattle.reply_model.specs.After.{Relation, Answer, Asks, Looks};
+ghost use Rattle.repo_calls.specs.Calls.{ask_seen};
+ghost use Rattle.repo_calls.specs.Asking.{IsAnswer, question_seen, stored_answer};
+ghost use Rattle.repo_calls.specs.Replying.{IsReplying};
+
+use crate::calls::{AskFault, ChangeFault, Question, Seen};
+use crate::{Ask, Granted};
+use std::alloc::Global;
+
+/// One seat of a repository, served alone or beside others.
+pub trait Seat {
+    /// What the repository's file was made with.
+    ghost header: { Self → Header };
+
+    /// The history that the seat has seen.
+    ghost front: { Self → List Entry };
+
+    /// The number under which its own entries stand.
+    ghost number: { Self → ℕ };
+
+    // What no call changes: where the seat belongs.
+    ghost Home: { Type 0 };
+
+    ghost home: { Self → Home };
+
+    /// How a call is answered: the header, the front before, the seat's number, the call, the
+    /// answer, and the front after.
+    ghost replies: { Relation };
+
+    /// Makes a change.
+    fn change(&mut self, alloc: Global, ask: &Ask) -> Result<Granted, ChangeFault>
+        ensures reply { replies (header self.old) (front self.old) (number self.old) (Asks (ask_seen ask.now)) (stored_answer result) (front self.new) }
+        ensures header { header self.new ≡ header self.old }
+        ensures number { number self.new ≡ number self.old }
+        ensures home { home self.new ≡ home self.old };
+
+    /// Answers a read.
+    fn look(&mut self, alloc: Global, question: &Question) -> Result<Seen, AskFault>
+        ensures reply { (answer : Answer) × IsAnswer result answer × replies (header self.old) (front self.old) (number self.old) (Looks (question_seen question.now)) answer (front self.new) }
+        ensures header { header self.new ≡ header self.old }
+        ensures number { number self.new ≡ number self.old }
+        ensures home { home self.new ≡ home self.old };
+
+    ghost lawful: { IsReplying replies };
+}

@@ -1,0 +1,125 @@
+-- What a change is granted, and the entry that it makes.
+use Rattle.std.proofs.Common.{◌≡◌, ◌≢◌, ◌<◌, ℕ, true, false, Bool, cond, List, [], ◌∷◌, map, length, refl, subst, arith}
+use Rattle.std.specs.Prelude.{Option, None, Some, Result, Ok, Err, is_some, find, bytes_eq, nat_lt, ok_or, ◌==◌, not}
+use Rattle.std.specs.Option.{option_eq, option_to_list}
+use Rattle.std.proofs.lemmas.Bool.{eqb-false}
+use Rattle.sha2.specs.Sha256.{sha256}
+use Rattle.byte_fields.specs.Bytes.{Id, first_some}
+use Rattle.changeset_model.specs.Changeset.{Changeset, id_of, sets_of, touched_paths}
+use Rattle.changeset_model.specs.Decoding.{decoded}
+use Rattle.history_model.specs.History.{Body, Content, Change, Book, Land, Fault, Entry, is_down, known, is_known, content_len}
+use Rattle.history_model.specs.Bookmark.{head}
+use Rattle.history_model.specs.Pushrebase.{fork, clash, rewrite}
+use Rattle.history_model.specs.Journal.{Header, payload_len, most_payload, size, is_full}
+use Rattle.reply_model.specs.Reply.{Down, Merge, NoParent, content_refusal, collides, Collision, NoChangeset, Moved, TooLarge, first_collision, NoBookmark, NoRoot, TooFarBehind, AlreadyIn, StackTooLong, Clash, most_range, most_stack, Ask, PutContent, PutChangeset, SetBookmark, LandDraft, Refusal, Granted, ContentPut, ChangesetPut, BookmarkSet, Landed, Judged, ◌>>=◌, Full, refuse_if, refuse_some, unchanged, entered, put_content, accepted, put_changeset, set_bookmark, enter_landing, land, by_ask, judge}
+use Rattle.run_gen.specs.Calls.{heads_in, landings_in}
+use Rattle.run_gen.specs.Grants.{FitsAsk}
+use Rattle.opening_laws.proofs.Made.{not_refused as passed}
+
+-- no bookmark has no head after it that had one before it
+abbrev pub KeepsHead : Body → Type 0
+KeepsHead (Content x n) = Unit {0}
+KeepsHead (Change c) = Unit {0}
+KeepsHead (Book move) = ⊥
+KeepsHead (Land landing) = 0 < length landing.new
+KeepsHead (Fault breaking) = Unit {0}
+
+abbrev pub KeptBy : Option Body → Type 0
+KeptBy None = Unit {0}
+KeptBy (Some body) = KeepsHead body
+
+abbrev pub KeptIn : Ask → Option Body → Type 0
+KeptIn (PutContent bytes) made = KeptBy made
+KeptIn (PutChangeset bytes) made = KeptBy made
+KeptIn (SetBookmark name from to) made = Unit {0}
+KeptIn (LandDraft name draft) made = KeptBy made
+
+pub record Suits (ask : Ask) (granted : Granted) (made : Option Body) : Type 0 where
+  pub landings : landings_in (option_to_list made) ≡ length (heads_in granted)
+  pub kept : KeptIn ask made
+  pub fits : FitsAsk ask granted
+
+abbrev SuitsIn : Ask → Result Judged Refusal → Type 0
+SuitsIn ask (Ok judged) = Suits ask judged.granted judged.made
+SuitsIn ask (Err refusal) = Unit {0}
+
+record Granting (ask : Ask) (r : Result Judged Refusal) : Type 0 where
+  each : SuitsIn ask r
+
+through : {A : Type 0} (ask : Ask) (r : Result A Refusal) (f : A → Result Judged Refusal) → ((x : A) → r ≡ Ok x → Granting ask (f x)) → Granting ask (r >>= f)
+through ask (Ok x) f all = all x refl
+through ask (Err e) f all = record { each = tt }
+
+one : (ask : Ask) (granted : Granted) → Suits ask granted None → Granting ask (unchanged granted)
+one ask granted suits = record { each = suits }
+
+entering : (header : Header) (h : List Entry) (ask : Ask) (granted : Granted) (body : Body) → Suits ask granted (Some body) → Granting ask (entered header h granted body)
+entering header h ask granted body suits =
+    through ask (refuse_if (is_full header h (payload_len body)) (Full (size h) (payload_len body))) (λ _. Ok (record { granted = granted; made = Some body })) (λ _ _. record { each = suits })
+
+either : (ask : Ask) (b : Bool) (x y : Result Judged Refusal) → Granting ask x → Granting ask y → Granting ask (cond b x y)
+either ask true x y p q = p
+either ask false x y p q = q
+
+content_suits : (header : Header) (h : List Entry) (bytes : List ℕ) → Granting (PutContent bytes) (put_content header h bytes)
+content_suits header h bytes =
+    let ask : Ask = PutContent bytes in
+    let granted : Granted = ContentPut (sha256 bytes) in
+    let body : Body = Content (sha256 bytes) (length bytes) in
+    through ask _ (λ _. cond (is_some (content_len h (sha256 bytes))) (unchanged granted) (entered header h granted body))
+    (λ _ _. either ask (is_some (content_len h (sha256 bytes))) _ _ (one ask granted (record { landings = refl; kept = tt; fits = refl })) (entering header h ask granted body (record { landings = refl; kept = tt; fits = refl })))
+
+changeset_suits : (header : Header) (h : List Entry) (bytes : List ℕ) → Granting (PutChangeset bytes) (put_changeset header h bytes)
+changeset_suits header h bytes =
+    let ask : Ask = PutChangeset bytes in
+    through ask (accepted (decoded bytes)) _ (λ c _.
+    through ask (refuse_if (nat_lt 1 (length c.parents)) Merge) _ (λ _ _.
+    through ask (refuse_some (find (λ p. not (is_known (known h) p)) c.parents) NoParent) _ (λ _ _.
+    through ask (refuse_some (first_some (λ e. content_refusal e (content_len h e.1.content)) (sets_of c)) (λ refusal. refusal)) _ (λ _ _.
+    through ask (refuse_if (collides (known h) c) (Collision (id_of c))) _ (λ _ _.
+    either ask (is_known (known h) (id_of c)) _ _ (one ask (ChangesetPut (id_of c)) (record { landings = refl; kept = tt; fits = refl }))
+    (entering header h ask (ChangesetPut (id_of c)) (Change c) (record { landings = refl; kept = tt; fits = refl })))))))
+
+bookmark_suits : (header : Header) (h : List Entry) (name : List ℕ) (from to : Option Id) → Granting (SetBookmark name from to) (set_bookmark header h name from to)
+bookmark_suits header h name from to =
+    let ask : Ask = SetBookmark name from to in
+    through ask (refuse_some (find (λ x. not (is_known (known h) x)) (option_to_list to)) NoChangeset) _ (λ _ _.
+    through ask (refuse_if (not (option_eq bytes_eq (head h name) from)) (Moved (head h name))) _ (λ _ _.
+    either ask (option_eq bytes_eq from to) _ _ (one ask BookmarkSet (record { landings = refl; kept = tt; fits = refl }))
+    (entering header h ask BookmarkSet (Book (record { name = name; from = from; to = to })) (record { landings = refl; kept = tt; fits = refl }))))
+
+some_rewritten : (stack : List Changeset) (head : Id) → length stack ≢ 0 → 0 < length (rewrite stack head)
+some_rewritten [] head some = absurd (some refl)
+some_rewritten (c ∷ cs) head some = omega arith
+
+landing_suits : (header : Header) (h : List Entry) (name : List ℕ) (old draft : Id) (new : List Changeset) → 0 < length new → Granting (LandDraft name draft) (enter_landing header h name old draft new)
+landing_suits header h name old draft new some =
+    let ask : Ask = LandDraft name draft in
+    let body : Body = Land (record { name = name; old = old; draft = draft; new = new }) in
+    through ask (refuse_if (nat_lt most_payload (payload_len body)) (TooLarge (payload_len body))) _ (λ _ _.
+    through ask (refuse_some (first_collision (known h) new) Collision) _ (λ _ _.
+    entering header h ask (Landed old (map id_of new)) body (record { landings = refl; kept = some; fits = tt })))
+
+land_suits : (header : Header) (h : List Entry) (name : List ℕ) (draft : Id) → Granting (LandDraft name draft) (land header h name draft)
+land_suits header h name draft =
+    let ask : Ask = LandDraft name draft in
+    through ask (ok_or (head h name) NoBookmark) _ (λ old _.
+    through ask (refuse_if (not (is_known (known h) draft)) (NoChangeset draft)) _ (λ _ _.
+    through ask (ok_or (fork (known h) old draft) NoRoot) _ (λ f _.
+    through ask (refuse_if (nat_lt most_range (length f.range)) (TooFarBehind (length f.range))) _ (λ _ _.
+    through ask (refuse_if (length f.stack == 0) AlreadyIn) _ (λ x e.
+    through ask (refuse_if (nat_lt most_stack (length f.stack)) (StackTooLong (length f.stack))) _ (λ _ _.
+    through ask (refuse_some (clash (touched_paths f.stack) (touched_paths f.range)) (λ pair. Clash pair.0 pair.1)) _ (λ _ _.
+    landing_suits header h name old draft (rewrite f.stack old) (some_rewritten f.stack old (eqb-false (length f.stack) 0 (passed (length f.stack == 0) AlreadyIn x e))))))))))
+
+asked_suits : (header : Header) (h : List Entry) (ask : Ask) → Granting ask (by_ask header h ask)
+asked_suits header h (PutContent bytes) = content_suits header h bytes
+asked_suits header h (PutChangeset bytes) = changeset_suits header h bytes
+asked_suits header h (SetBookmark name from to) = bookmark_suits header h name from to
+asked_suits header h (LandDraft name draft) = land_suits header h name draft
+
+judging : (header : Header) (h : List Entry) (ask : Ask) → Granting ask (judge header h ask)
+judging header h ask = through ask (refuse_if (is_down h) Down) (λ _. by_ask header h ask) (λ _ _. asked_suits header h ask)
+
+pub judged_suits : (header : Header) (h : List Entry) (ask : Ask) (granted : Granted) (made : Option Body) → judge header h ask ≡ Ok (record { granted = granted; made = made }) → Suits ask granted made
+judged_suits header h ask granted made is = subst (SuitsIn ask) is (judging header h ask).each
