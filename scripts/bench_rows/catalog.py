@@ -1,0 +1,22 @@
+"""The rows, by their names."""
+
+from __future__ import annotations
+
+from . import answers, calls, landings, memory, names, opening, ranges, upload
+from .row import Row
+
+LISTED = (
+    Row("landings", "stacks a second, beside the raw log of the same appends", landings.stacks),
+    Row("range", "landing over 9,990 changesets, beside one over 1", ranges.landing),
+    Row("range-opening", "opening such landings, beside those over 1", ranges.opening),
+    Row("names", "reads of one name in wide directories, beside the root", names.reads),
+    Row("commit", "a commit in a directory of 10,000, beside hashing its nodes", names.commit),
+    Row("opening", "opening 100 MiB and 1 GiB, beside openssl's SHA-256", opening.opening),
+    Row("contents", "upload of 1 MiB, new and known, beside hashing it", upload.contents),
+    Row("changesets", "uploads of changesets, and landings, beside contents", upload.changesets),
+    Row("reads", "small reads, 16 at once, beside hello-world servers", answers.small),
+    Row("calls", "calls of the system a small read, beside those it needs", calls.calls),
+    Row("log", "log pages of 100, beside servers of the same bytes", answers.page),
+    Row("memory", "bytes of an entry and of an idle connection", memory.rows),
+)
+ROWS = {row.name: row for row in LISTED}
