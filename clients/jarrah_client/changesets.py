@@ -116,9 +116,14 @@ def refuse_fields(changeset: Changeset, author: bytes) -> None:
     ):
         raise CannotSpell("the date doesn't fit its field")
     for path in changeset.changes:
-        fault = path_fault(path.encode())
-        if fault:
-            raise CannotSpell(f"the path {path!r} is refused: {fault}")
+        refuse_path(path)
+
+
+def refuse_path(path: str) -> None:
+    """Refuses a path that breaks a rule."""
+    fault = path_fault(path.encode())
+    if fault:
+        raise CannotSpell(f"the path {path!r} is refused: {fault}")
 
 
 def encode_change(path: str, file: File | None) -> bytes:

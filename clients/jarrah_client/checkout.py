@@ -19,8 +19,7 @@ Files = list[tuple[str, File]]
 
 
 def check_out(pool: Pool, files: Files, folder: Path) -> None:
-    """Writes files into a new or empty folder."""
-    prepare(folder)
+    """Writes files into a folder that is new or empty."""
     with Progress("files", len(files)) as progress:
         for path, file, data in with_contents(pool, files):
             write(folder / path, file, data)

@@ -11,10 +11,13 @@ from argparse import Namespace
 from dataclasses import dataclass
 from datetime import datetime, timedelta
 
-from .changesets import MOST_CONTENT_BYTES, Changeset, File, Kind, digest
+from .changesets import MOST_CONTENT_BYTES, Changeset, File, Kind, digest, refuse_path
+from .names import resolve
 from .paths import is_bookmark_name, path_key
-from .repository import need_head, resolve
+from .refusals import Refused
+from .repository import need_head
 from .server import Server, Trouble
+from .trees import Tree, tree_of
 
 ROOT = Changeset((), "jarrah", 0, 0, "")
 """The root that `init` makes. All bookmarks share it, so drafts can land on each."""
@@ -44,6 +47,33 @@ def changes_of(options: Namespace) -> Written:
     return written
 
 
+def deleted(server: Server, parent: str | None, paths: list[str], recursive: bool) -> list[str]:
+    """The files that deletes of some paths mean; each has to be there."""
+    for path in paths:
+        refuse_path(path)
+    tree = tree_of(server, parent) if parent and paths else None
+    return [one for path in paths for one in deleted_by(tree, path, recursive)]
+
+
+def deleted_by(tree: Tree | None, path: str, recursive: bool) -> list[str]:
+    """The files that the delete of one path means."""
+    if tree is None:
+        raise Trouble(f"there is nothing at {path} to delete")
+    try:
+        tree.file(path)
+        return [path]
+    except Refused as refusal:
+        if refusal.code == "no-path":
+            raise Trouble(f"there is nothing at {path} to delete") from None
+        if refusal.code != "not-a-file":
+            raise
+    below = [one for one, _ in tree.files(path)]
+    if not recursive:
+        count = f"{len(below):,} file{'' if len(below) == 1 else 's'}"
+        raise Trouble(f"{path} is a directory of {count}: `-r` deletes and lists them")
+    return below
+
+
 def put(written: Written, path: str, data: bytes, kind: Kind) -> None:
     """Adds a set of a path."""
     if len(data) > MOST_CONTENT_BYTES:
@@ -71,14 +101,18 @@ def file_bytes(source: str) -> bytes:
         raise Trouble(f"{source}: {fault.strerror}") from None
 
 
-def upload(server: Server, options: Namespace, parent: str | None) -> Changeset:
+def upload(
+    server: Server, options: Namespace, parent: str | None, written: Written
+) -> Changeset:
     """Uploads the contents of a draft, each once, and then the draft."""
-    written = changes_of(options)
     author = options.author or default_author()
     seconds, offset = options.date or now()
     parents = (parent,) if parent else ()
-    changes = {path: written.changes[path] for path in sorted(written.changes, key=path_key)}
-    changeset = Changeset(parents, author, seconds, offset, options.message, changes)
+    sets = {path: file for path, file in written.changes.items() if file}
+    gone = deleted(server, parent, options.delete, options.recursive)
+    changes = sets | {path: None for path in gone if path not in sets}
+    ordered = {path: changes[path] for path in sorted(changes, key=path_key)}
+    changeset = Changeset(parents, author, seconds, offset, options.message, ordered)
     refuse_faulty(changeset)
     for id, data in written.contents.items():
         server.put_content(id, data)

@@ -13,7 +13,7 @@ from pathlib import Path
 from .changesets import MOST_CHANGES, MOST_CONTENT_BYTES, Changeset, File, digest
 from .git_source import GitChange, GitCommit, GitRepository
 from .marks import Marks
-from .paths import path_fault, path_key
+from .paths import own_name, path_fault, path_key
 from .pool import Pool
 from .progress import Progress
 from .refusals import Refused, about
@@ -125,6 +125,9 @@ class Reader:
             self.leave_out(commit, change, f"the path is refused: {fault}")
             return
         path = change.path.decode()
+        if own_name(path):
+            self.leave_out(commit, change, f"it has the element `{own_name(path)}`")
+            return
         file = self.file(commit, change, uploads)
         if file or change.was_file:
             changes[path] = file
@@ -217,9 +220,9 @@ def plan(server: Server, bookmark: str, line: list[str], marks: Marks) -> Plan:
     head = server.head(bookmark)
     count = marks.last_of(line)
     if count:
-        parent = marks.changesets[line[count - 1]]
+        parent = marks.known[line[count - 1]]
         need_known(server, parent, marks)
-        if head is not None and head not in marks.changesets.values():
+        if head is not None and head not in marks.known.values():
             need_empty(server, bookmark, head)
         return Plan(head, parent, line[count - 1], line[count:])
     if head is not None:
@@ -250,7 +253,7 @@ def need_empty(server: Server, bookmark: str, head: str) -> None:
 
 
 def import_git(
-    url: str,
+    server: Server,
     repository: Path,
     branch: str,
     bookmark: str,
@@ -262,7 +265,7 @@ def import_git(
     with GitRepository(repository) as source:
         line = source.line(branch)
         place = marks_file or source.directory / "jarrah" / f"{bookmark}.marks"
-        with closing(Marks(place)) as marks, Pool(url, connections) as pool:
+        with closing(Marks(place)) as marks, Pool(server, connections) as pool:
             going = pool.ask(lambda server: plan(server, bookmark, line, marks)).result()
             report = Report(bookmark, going.parent, known=len(line) - len(going.oids))
             upload_all(source, pool, going, marks, report)

@@ -1,20 +1,24 @@
-"""The file of marks: which commit became which changeset, so that an import can go on."""
+"""The file of marks: what became what, so that an import or an export can go on."""
 
 from __future__ import annotations
 
+import re
 from pathlib import Path
 from typing import TextIO
 
-from .paths import is_id
 from .server import Trouble
 
-HEADER = "jarrah marks 1\n"
+IMPORTED = "jarrah marks 1\n"
+"""Begins a file of commits with their changesets."""
+EXPORTED = "jarrah exported 1\n"
+"""Begins a file of changesets with their commits."""
+WORD = re.compile(r"[0-9a-f]{40,64}", re.ASCII)
 
 
 class Marks:
-    """Commits with their changesets, in a file that grows by one line for each."""
+    """Ids with what they became, in a file that grows by one line for each."""
 
-    def __init__(self, place: Path):
+    def __init__(self, place: Path, header: str = IMPORTED):
         self.place = place
         try:
             place.parent.mkdir(parents=True, exist_ok=True)
@@ -22,41 +26,41 @@ class Marks:
         except OSError as fault:
             raise Trouble(f"{place}: {fault.strerror}") from None
         try:
-            self.changesets, length = read(self.file, place)
+            self.known, length = read(self.file, place, header)
         except UnicodeDecodeError:
             raise Trouble(f"{place} is no file of marks") from None
         self.file.truncate(length)
         if not length:
-            self.file.write(HEADER)
+            self.file.write(header)
 
-    def add(self, commit: str, changeset: str) -> None:
-        """Keeps a commit's changeset."""
-        self.changesets[commit] = changeset
-        self.file.write(f"{commit} {changeset}\n")
+    def add(self, old: str, new: str) -> None:
+        """Keeps what an id became."""
+        self.known[old] = new
+        self.file.write(f"{old} {new}\n")
         self.file.flush()
 
     def close(self) -> None:
         self.file.close()
 
     def last_of(self, line: list[str]) -> int:
-        """How many commits of a line, oldest first, are imported."""
+        """How many ids of a line, oldest first, are known."""
         for count in range(len(line), 0, -1):
-            if line[count - 1] in self.changesets:
+            if line[count - 1] in self.known:
                 return count
         return 0
 
 
-def read(file: TextIO, place: Path) -> tuple[dict[str, str], int]:
+def read(file: TextIO, place: Path, header: str) -> tuple[dict[str, str], int]:
     """The marks of a file, and the length up to a last line that was cut off."""
     file.seek(0)
     data = file.read()
-    if data and not data.startswith(HEADER):
+    if data and not data.startswith(header):
         raise Trouble(f"{place} is no file of marks")
     whole = data[: data.rfind("\n") + 1]
     marks: dict[str, str] = {}
     for line in whole.splitlines()[1:]:
-        commit, _, changeset = line.partition(" ")
-        if not is_id(changeset):
+        old, _, new = line.partition(" ")
+        if not WORD.fullmatch(new):
             raise Trouble(f"{place} has a line that is no mark: {line[:80]!r}")
-        marks[commit] = changeset
+        marks[old] = new
     return marks, len(whole)

@@ -3,6 +3,8 @@
 from __future__ import annotations
 
 import json
+import os
+import re
 import sys
 from collections.abc import Iterable
 from datetime import datetime, timedelta, timezone
@@ -10,6 +12,9 @@ from typing import Any
 
 from .changesets import Changeset, File
 from .nodes import Directory
+
+
+PAINTED = re.compile(r"(\x1b\[[0-9;]+m)(.*)(\x1b\[0m)", re.DOTALL)
 
 
 class Output:
@@ -21,15 +26,32 @@ class Output:
     def tell(self, document: Any, lines: str | Iterable[str]) -> None:
         """Writes a document as JSON, or its lines."""
         if self.as_json:
-            print(json.dumps(document, ensure_ascii=False), flush=True)
+            print(as_json(document), flush=True)
             return
         for line in [lines] if isinstance(lines, str) else lines:
             print(clean(line), flush=True)
+
+    @property
+    def has_colours(self) -> bool:
+        """Whether lines go to a terminal that shows colours (`NO_COLOR` asks for none)."""
+        plain = self.as_json or os.environ.get("NO_COLOR") or os.environ.get("TERM") == "dumb"
+        return not plain and sys.stdout.isatty()
+
+    def painted(self, line: str) -> None:
+        """Writes a line that may begin and end with colours."""
+        found = PAINTED.fullmatch(line)
+        paint, text, end = found.groups() if found else ("", line, "")
+        print(f"{paint}{clean(text)}{end}", flush=True)
 
     def bytes(self, data: bytes) -> None:
         """Writes bytes as they are."""
         sys.stdout.buffer.write(data)
         sys.stdout.buffer.flush()
+
+
+def as_json(document: Any) -> str:
+    """A document as JSON; bytes of a name that are no text become halves of surrogate pairs."""
+    return json.dumps(document, ensure_ascii=False).encode(errors="backslashreplace").decode()
 
 
 def clean(text: str) -> str:
@@ -44,6 +66,11 @@ def date(seconds: int, offset: int) -> str:
         return datetime.fromtimestamp(seconds, zone).strftime("%Y-%m-%d %H:%M:%S %z")
     except (ValueError, OverflowError, OSError):
         return f"@{seconds} {offset:+}"
+
+
+def day(seconds: int, offset: int) -> str:
+    """The day of a date."""
+    return date(seconds, offset)[:10]
 
 
 def title(message: str) -> str:
@@ -84,17 +111,31 @@ def change_line(path: str, file: File | None) -> str:
     return f"set {kind_letter(file)} {file.size:>11,}  {path}"
 
 
+def change_word(old: File | None, new: File | None) -> str:
+    """What became of a file between two trees."""
+    if old is None:
+        return "added"
+    return "edited" if new else "deleted"
+
+
 def kind_letter(entry: File | Directory | None) -> str:
     """One letter for a regular file, an executable, a symlink or a directory."""
     return "fxl"[entry.kind] if isinstance(entry, File) else "d"
 
 
-def changeset_lines(changeset: Changeset, names: list[str], with_paths: bool) -> Iterable[str]:
-    """A changeset of a log for people, with the bookmarks that are at it."""
+def changeset_lines(
+    changeset: Changeset,
+    names: list[str],
+    with_paths: bool,
+    landing: tuple[str, int] | None = None,
+) -> Iterable[str]:
+    """A changeset of a log for people, with the bookmarks that are at it and where it landed."""
     at = f"  ({', '.join(names)})" if names else ""
     yield f"changeset {changeset.id}{at}"
     yield f"author    {changeset.author}"
     yield f"date      {date(changeset.seconds, changeset.offset)}"
+    if landing:
+        yield f"landed    on {landing[0]}, entry {landing[1]:,}"
     yield ""
     for line in changeset.message.strip().splitlines():
         yield f"    {line}".rstrip()
@@ -107,8 +148,8 @@ def changeset_lines(changeset: Changeset, names: list[str], with_paths: bool) ->
 
 def short_lines(changeset: Changeset) -> str:
     """A changeset in one line: its id, day, author and title."""
-    day = date(changeset.seconds, changeset.offset)[:10]
-    return f"{changeset.id}  {day}  {changeset.author}  {title(changeset.message)}"
+    at = day(changeset.seconds, changeset.offset)
+    return f"{changeset.id}  {at}  {changeset.author}  {title(changeset.message)}"
 
 
 def entry_line(entry: dict[str, Any]) -> str:

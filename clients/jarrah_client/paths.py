@@ -7,6 +7,8 @@ import re
 MOST_PATH_BYTES = 4_096
 MOST_ELEMENT_BYTES = 255
 MOST_NAME_BYTES = 128
+OWN_NAMES = (".git", ".jarrah")
+"""Names of folders, in any case, in which git and this client keep what is theirs."""
 
 BOOKMARK_NAME = re.compile(r"[A-Za-z0-9_.-]{1,%d}" % MOST_NAME_BYTES, re.ASCII)
 HEX_ID = re.compile(r"[0-9a-fA-F]{64}", re.ASCII)
@@ -45,6 +47,11 @@ def element_fault(element: bytes) -> str | None:
     if b"/" in element:
         return "it has a slash in a name"
     return None
+
+
+def own_name(path: str) -> str | None:
+    """The first element of a path that names git's or this client's own folder, or None."""
+    return next((one for one in path.split("/") if one.lower() in OWN_NAMES), None)
 
 
 def is_text(data: bytes) -> bool:

@@ -7,8 +7,10 @@ import queue
 import threading
 from collections.abc import Callable
 from concurrent.futures import Future
+from contextlib import suppress
 from typing import TypeVar
 
+from .refusals import Fault
 from .server import Server
 
 Answer = TypeVar("Answer")
@@ -20,15 +22,18 @@ STOP, FIRST, LATER = 0, 1, 2
 class Pool:
     """Connections that take requests from one queue, the urgent ones first.
 
-    A connection takes part once the server has answered its first question. A server serves as
-    many connections at a time as it has lanes; the others wait, and no request waits with them.
+    A connection takes part once the server has answered its first question, and again after it
+    was made anew. A server serves as many connections at a time as it has lanes; the others wait,
+    and no request waits with them. The connection that it is made from is ended, since that would
+    hold a lane.
     """
 
-    def __init__(self, url: str, connections: int):
+    def __init__(self, server: Server, connections: int):
+        server.close()
         self.waiting: queue.PriorityQueue = queue.PriorityQueue()
         self.order = itertools.count()
         self.greeted: queue.Queue[Exception | None] = queue.Queue()
-        self.servers = [Server(url) for _ in range(connections)]
+        self.servers = [server.another() for _ in range(connections)]
         self.threads = [
             threading.Thread(target=self.work, args=(server,), daemon=True)
             for server in self.servers
@@ -66,12 +71,20 @@ class Pool:
             self.greeted.put(fault)
             return
         self.greeted.put(None)
-        while True:
-            _, _, task = self.waiting.get()
-            if task is None:
-                return
+        while task := self.next_task(server):
             call, future = task
             try:
                 future.set_result(call(server))
             except Exception as fault:
                 future.set_exception(fault)
+        server.close()
+
+    def next_task(self, server: Server) -> tuple[Callable, Future] | None:
+        """The next task; one that would wait for a new connection is left to the others first."""
+        place = self.waiting.get()
+        if place[2] and server.is_stale():
+            self.waiting.put(place)
+            with suppress(Fault):
+                server.log(0)
+            place = self.waiting.get()
+        return place[2]

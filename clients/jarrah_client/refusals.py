@@ -60,10 +60,16 @@ class Fault(Exception):
 
     about = ""
     """What was asked for, said before the words."""
+    advice = ""
+    """What can be done, said after them."""
 
     def __str__(self) -> str:
-        words = super().__str__()
+        words = super().__str__() + (f"; {self.advice}" if self.advice else "")
         return f"{self.about}: {words}" if self.about else words
+
+
+class WrongWords(Fault):
+    """The words of the command line don't go together."""
 
 
 class Refused(Fault):

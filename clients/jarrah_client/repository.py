@@ -6,7 +6,6 @@ from collections.abc import Iterator
 from typing import Any
 
 from .changesets import Changeset
-from .paths import is_bookmark_name, is_id
 from .server import Server, Trouble
 
 LEAST_ABBREVIATION = 6
@@ -17,9 +16,16 @@ class Log:
 
     def __init__(self, server: Server):
         self.server = server
+        self.forget()
+
+    def forget(self) -> None:
+        """Begins anew."""
         self.next = 0
+        self.total = 0
         self.bookmarks: dict[str, str] = {}
         self.changesets: dict[str, None] = {}
+        self.landings: dict[str, tuple[str, int]] = {}
+        """Landed changesets, with the bookmark and the number of the first such entry."""
 
     def read_on(self) -> None:
         """Reads the entries that are new."""
@@ -30,6 +36,12 @@ class Log:
         """The new entries, in order."""
         while True:
             page = self.server.log(self.next)
+            if page.total < self.total:
+                raise Trouble(
+                    f"{self.server.url} has {page.total:,} entries now, and had {self.total:,}:"
+                    " it serves another repository"
+                )
+            self.total = page.total
             for entry in page.entries:
                 self.take(entry)
                 yield entry
@@ -44,28 +56,29 @@ class Log:
         elif entry["kind"] == "landing":
             self.changesets.update(dict.fromkeys(entry["ids"]))
             self.bookmarks[entry["name"]] = entry["ids"][-1]
+            for id in entry["ids"]:
+                self.landings.setdefault(id, (entry["name"], entry["number"]))
         elif entry["kind"] == "bookmark":
             if entry["to"] is None:
                 self.bookmarks.pop(entry["name"], None)
             else:
                 self.bookmarks[entry["name"]] = entry["to"]
 
-
-def resolve(server: Server, name: str) -> str:
-    """The id that a person means: a bookmark, an id, or the front of one in the log."""
-    if is_id(name):
-        return name.lower()
-    head = server.head(name) if is_bookmark_name(name) else None
-    if head is not None:
-        return head
-    if len(name) < LEAST_ABBREVIATION or set(name.lower()) - set("0123456789abcdef"):
-        raise Trouble(f"there is no bookmark {name}")
-    return by_front(server, name.lower())
+    def names(self) -> dict[str, list[str]]:
+        """The names of the bookmarks at each changeset that has one."""
+        found: dict[str, list[str]] = {}
+        for name in sorted(self.bookmarks):
+            found.setdefault(self.bookmarks[name], []).append(name)
+        return found
 
 
-def by_front(server: Server, front: str) -> str:
+def is_front(name: str) -> bool:
+    """Whether a name may be the front of an id."""
+    return len(name) >= LEAST_ABBREVIATION and not set(name.lower()) - set("0123456789abcdef")
+
+
+def by_front(log: Log, front: str) -> str:
     """The one changeset of the log whose id begins so."""
-    log = Log(server)
     log.read_on()
     found = [id for id in log.changesets if id.startswith(front)]
     if len(found) != 1:

@@ -4,6 +4,7 @@ from __future__ import annotations
 
 import http.client
 import json
+import select
 import socket
 import time
 from dataclasses import dataclass
@@ -13,11 +14,21 @@ from urllib.parse import quote, urlsplit
 from .changesets import Changeset, decode
 from .fields import BadEncoding, digest
 from .nodes import Fsnode, Unode, decode_fsnode, decode_unode
+from .progress import tell_waiting
 from .refusals import Fault, Refused
 
-TIMEOUT_SECONDS = 90.0
-IDLE_SECONDS = 30.0
+ANSWER_SECONDS = 90.0
+MANIFEST_SECONDS = 600.0
+"""An answer may take so long without a `--timeout`; a manifest may have to be derived first."""
+TOLD_AFTER_SECONDS = 1.0
+TOLD_AGAIN_SECONDS = 5.0
+"""How long a manifest is waited for before that is told, and told again."""
+IDLE_SECONDS = 8.0
 """A connection that was silent for so long is made anew: the server ends silent ones."""
+AGAIN_SECONDS = (0.1, 0.4, 1.5)
+"""What is waited before each further try of a request that only reads."""
+PASSING = (502, 503, 504)
+"""Statuses of a server, or of a proxy before it, after which a read is tried again."""
 SESSION_BYTES = 1_000_000_000
 """After so many sent bytes a connection is made anew, before the server's bound ends it."""
 NO_BOOKMARK = "none"
@@ -40,8 +51,15 @@ class NotReached(Trouble):
     """The connection couldn't be made, or broke."""
 
 
+class NoAnswer(NotReached):
+    """What another try doesn't help: a host that isn't known, or an answer that takes too long."""
+
+
 class BadAnswer(Trouble):
     """The server's answer isn't one that its documents have."""
+
+    status = 200
+    """The answer's status, which may be a proxy's."""
 
 
 @dataclass(frozen=True)
@@ -62,57 +80,100 @@ class Page:
 
 
 class Server:
-    """One connection, kept alive. A request that fails is never sent again."""
+    """One connection, kept alive. Requests that only read are tried again, and changes never."""
 
-    def __init__(self, url: str):
+    def __init__(self, url: str, timeout: float | None = None):
         parts = urlsplit(url if "//" in url else "http://" + url)
         elsewhere = parts.path not in ("", "/") or parts.query or parts.fragment
         if parts.scheme not in ("http", "https") or not parts.hostname or elsewhere:
             raise Trouble(f"{url} is no URL of a server; one is like http://127.0.0.1:8080")
         self.url = f"{parts.scheme}://{parts.netloc}"
+        self.timeout = timeout
         make = (
             http.client.HTTPSConnection if parts.scheme == "https" else http.client.HTTPConnection
         )
         try:
-            self.connection = make(parts.hostname, parts.port, timeout=TIMEOUT_SECONDS)
+            self.connection = make(parts.hostname, parts.port)
         except ValueError as fault:
             raise Trouble(f"{url} is no URL of a server: {fault}") from None
         self.last_used = 0.0
         self.sent = 0
+
+    def another(self) -> Server:
+        """A connection of its own to the same server."""
+        return Server(self.url, self.timeout)
 
     def close(self) -> None:
         """Ends the connection; the next request makes a new one."""
         self.connection.close()
         self.sent = 0
 
-    def ask(self, method: str, target: str, body: bytes | None = None) -> bytes:
+    def ask(
+        self, method: str, target: str, body: bytes | None = None, *, derives: bool = False
+    ) -> bytes:
         """The body of a 200, or Refused, NotReached or BadAnswer."""
+        for seconds in AGAIN_SECONDS if method == "GET" else ():
+            try:
+                return self.ask_once(method, target, body, derives)
+            except Fault as fault:
+                if not is_passing(fault):
+                    raise
+            time.sleep(seconds)
+        return self.ask_once(method, target, body, derives)
+
+    def ask_once(self, method: str, target: str, body: bytes | None, derives: bool) -> bytes:
+        """The same, without a second try."""
         self.refresh(len(body or b""))
+        seconds = self.timeout or (MANIFEST_SECONDS if derives else ANSWER_SECONDS)
         try:
-            self.connection.request(method, target, body=body, headers={"Accept": "*/*"})
-            response = self.connection.getresponse()
-            answer = response.read()
+            response, answer = self.exchange(method, target, body, seconds, derives)
         except http.client.HTTPException as fault:
             self.close()
             raise NotReached(f"{self.url} broke off its answer ({type(fault).__name__})") from None
         except OSError as fault:
             self.close()
-            raise NotReached(f"no answer from {self.url}: {reason(fault)}") from None
+            kind = NoAnswer if isinstance(fault, (TimeoutError, socket.gaierror)) else NotReached
+            raise kind(f"no answer from {self.url}: {reason(fault, seconds)}") from None
         self.last_used = time.monotonic()
         if response.status != 200:
             raise refused(response.status, answer)
         return answer
 
+    def exchange(
+        self, method: str, target: str, body: bytes | None, seconds: float, derives: bool
+    ) -> tuple[http.client.HTTPResponse, bytes]:
+        """Sends a request, and reads what answers it."""
+        self.connection.timeout = seconds
+        if self.connection.sock:
+            self.connection.sock.settimeout(seconds)
+        self.connection.request(method, target, body=body, headers={"Accept": "*/*"})
+        if derives:
+            wait_for_answer(self.connection.sock, "deriving", seconds)
+        response = self.connection.getresponse()
+        return response, response.read()
+
     def refresh(self, length: int) -> None:
-        """Ends a connection that the server would end, before a request is on its way."""
-        idle = time.monotonic() - self.last_used > IDLE_SECONDS
-        if idle or self.sent + length > SESSION_BYTES:
+        """Ends a connection that the server would end, or has, before a request is on its way."""
+        if self.is_stale() or self.sent + length > SESSION_BYTES:
             self.close()
         self.sent += length + 1_000
 
-    def ask_json(self, method: str, target: str, code: str, body: bytes | None = None) -> dict:
+    def is_stale(self) -> bool:
+        """Whether the server would end the connection soon, or has."""
+        idle = time.monotonic() - self.last_used > IDLE_SECONDS
+        return idle or has_ended(self.connection.sock)
+
+    def ask_json(
+        self,
+        method: str,
+        target: str,
+        code: str,
+        body: bytes | None = None,
+        *,
+        derives: bool = False,
+    ) -> dict:
         """The members of a 200's JSON body, which has this code."""
-        answer = parsed(self.ask(method, target, body)) or {}
+        answer = parsed(self.ask(method, target, body, derives=derives)) or {}
         if answer.get("code") != code or not all(member in answer for member in MEMBERS[code]):
             raise BadAnswer(f"{self.url} answered {method} {target} with something unknown")
         return answer
@@ -187,13 +248,14 @@ class Server:
         """A node of either kind."""
         target = f"/{route}/{id}" + (f"/{long_part(path)}" if path else "")
         try:
-            return decoder(self.ask("GET", target))
+            return decoder(self.ask("GET", target, derives=True))
         except BadEncoding as fault:
             raise BadAnswer(f"{self.url} sent no {route} for {target}: {fault}") from None
 
     def history(self, id: str, path: str) -> list[str]:
         """The changesets that set a file, newest first."""
-        return self.ask_json("GET", f"/history/{id}/{long_part(path)}", "history")["ids"]
+        target = f"/history/{id}/{long_part(path)}"
+        return self.ask_json("GET", target, "history", derives=True)["ids"]
 
 
 def part(text: str) -> str:
@@ -219,15 +281,43 @@ def refused(status: int, body: bytes) -> Exception:
     """The refusal that a response with another status than 200 tells."""
     members = parsed(body)
     if members is None or not isinstance(members.get("code"), str):
-        return BadAnswer(f"the server answered with status {status} and a body that is no refusal")
+        bad = BadAnswer(f"the server answered with status {status} and a body that is no refusal")
+        bad.status = status
+        return bad
     code = members.pop("code")
     return Refused(status, code, members)
 
 
-def reason(fault: OSError) -> str:
+def reason(fault: OSError, seconds: float) -> str:
     """Why a connection failed, in words."""
     if isinstance(fault, socket.gaierror):
         return "there is no host of this name"
     if isinstance(fault, TimeoutError):
-        return f"it took longer than {TIMEOUT_SECONDS:.0f} seconds"
+        return f"it took longer than {seconds:g} seconds"
     return fault.strerror or str(fault) or type(fault).__name__
+
+
+def is_passing(fault: Exception) -> bool:
+    """Whether another try may go better."""
+    if isinstance(fault, (Refused, BadAnswer)):
+        return fault.status in PASSING
+    return isinstance(fault, NotReached) and not isinstance(fault, NoAnswer)
+
+
+def has_ended(link: socket.socket | None) -> bool:
+    """Whether a connection on which nothing is asked has ended: there is something to read."""
+    if link is None or hasattr(link, "pending"):
+        return False
+    return bool(select.select([link], [], [], 0)[0])
+
+
+def wait_for_answer(link: socket.socket, what: str, seconds: float) -> None:
+    """Waits for the first byte of an answer, and tells what for where that takes long."""
+    begun = time.monotonic()
+    pause = min(TOLD_AFTER_SECONDS, seconds)
+    while not select.select([link], [], [], pause)[0]:
+        spent = time.monotonic() - begun
+        if spent >= seconds:
+            raise TimeoutError
+        tell_waiting(what, spent)
+        pause = min(TOLD_AGAIN_SECONDS, seconds - spent)

@@ -34,6 +34,9 @@ class Tree(Protocol):
     def count(self) -> int:
         """How many files there are."""
 
+    def by(self, server: Server) -> Tree:
+        """The same tree, read on over another connection."""
+
 
 class FsnodeTree:
     """A tree by fsnodes, each directory read once."""
@@ -76,6 +79,11 @@ class FsnodeTree:
 
     def count(self) -> int:
         return self.nodes[""].summary.descendant_files
+
+    def by(self, server: Server) -> Tree:
+        other = FsnodeTree(server, self.id, self.nodes[""])
+        other.nodes = self.nodes
+        return other
 
 
 class FoldedTree:
@@ -156,6 +164,9 @@ class FoldedTree:
 
     def count(self) -> int:
         return self.total
+
+    def by(self, server: Server) -> Tree:
+        return self
 
 
 def files_in(entry: dict | File | None) -> int:

@@ -9,6 +9,7 @@ import io
 import itertools
 import json
 import os
+import re
 import shutil
 import signal
 import subprocess
@@ -33,10 +34,15 @@ GIVEN = os.environ.get("JARRAH_SERVER")
 """A running server that the tests are to use, in place of the stand-in."""
 SERVES = os.environ.get("JARRAH_PROGRAM", "").split()
 """The first words of the server's commands, where the tests are to start it for the stand-in."""
+PATIENCE = re.compile(r"jarrah: deriving, |[\d,]+(/[\d,]+)? [a-z ]+  [\d,]+/s")
+"""Lines that a command writes from time to time while it goes on."""
 RUN = uuid.uuid4().hex[:8]
 COUNT = itertools.count()
 ENVIRONMENT = {name: value for name, value in os.environ.items() if name != "JARRAH_SERVER"}
 ENVIRONMENT |= {"JARRAH_AUTHOR": "A Tester <tester@example.org>", "LC_ALL": "C.UTF-8", "TZ": "UTC"}
+CACHE = tempfile.TemporaryDirectory(prefix="jarrah-cache-")
+ENVIRONMENT["XDG_CACHE_HOME"] = CACHE.name
+os.environ["XDG_CACHE_HOME"] = CACHE.name
 
 
 @dataclass(frozen=True)
@@ -46,6 +52,7 @@ class Ran:
     status: int
     out: str
     err: str
+    data: bytes = b""
 
     @property
     def document(self) -> Any:
@@ -53,21 +60,34 @@ class Ran:
         return json.loads(self.out)
 
     @property
+    def complaint(self) -> str:
+        """What was written as an error, but for what is told where something takes long."""
+        lines = self.err.splitlines(keepends=True)
+        return "".join(line for line in lines if not PATIENCE.match(line))
+
+    @property
     def documents(self) -> list[Any]:
         return [json.loads(line) for line in self.out.splitlines()]
 
 
-def jarrah_process(*words: object, server: str | None = None, data: bytes = b"") -> Ran:
+def jarrah_process(
+    *words: object, server: str | None = None, data: bytes = b"", folder: Path | None = None
+) -> Ran:
     """Runs the program in a process of its own, as people do."""
     command = [sys.executable, str(PROGRAM), *(["--server", server] if server else [])]
     done = subprocess.run(
-        [*command, *map(str, words)], input=data, capture_output=True, env=ENVIRONMENT, timeout=100
+        [*command, *map(str, words)],
+        input=data,
+        capture_output=True,
+        env=ENVIRONMENT,
+        timeout=100,
+        cwd=folder,
     )
     return Ran(done.returncode, done.stdout.decode(), done.stderr.decode())
 
 
-def jarrah(*words: object, server: str, data: bytes = b"") -> Ran:
-    """Runs the program in this process, which is faster."""
+def jarrah(*words: object, server: str, data: bytes = b"", binary: bool = False) -> Ran:
+    """Runs the program in this process, which is faster; binary output isn't read as text."""
     out, err = (io.TextIOWrapper(io.BytesIO(), "utf-8", newline="\n") for _ in range(2))
     given = io.TextIOWrapper(io.BytesIO(data))
     with (
@@ -76,7 +96,13 @@ def jarrah(*words: object, server: str, data: bytes = b"") -> Ran:
         mock.patch.object(sys, "stdin", given),
         mock.patch.dict(os.environ, ENVIRONMENT),
     ):
-        status = main(["--server", server, *map(str, words)])
+        try:
+            status = main(["--server", server, *map(str, words)])
+        except SystemExit as end:
+            status = int(end.code or 0)
+    if binary:
+        out.flush()
+        return Ran(status, "", written(err), out.buffer.getvalue())
     return Ran(status, written(out), written(err))
 
 
@@ -117,6 +143,12 @@ class Program:
         self.process.communicate(timeout=20)
         self.run("fsck", str(self.file))
         shutil.rmtree(self.folder)
+
+
+def enter(test: unittest.TestCase, context: contextlib.AbstractContextManager) -> None:
+    """Enters a context until a test is over."""
+    context.__enter__()
+    test.addCleanup(context.__exit__, None, None, None)
 
 
 @functools.cache
@@ -177,7 +209,7 @@ class Case(unittest.TestCase):
     def ok(self, *words: object, data: bytes = b"") -> Ran:
         """Runs the program, which has to end well and quietly."""
         ran = jarrah(*words, server=self.server, data=data)
-        self.assertEqual((ran.status, ran.err), (0, ""), words)
+        self.assertEqual((ran.status, ran.complaint), (0, ""), words)
         return ran
 
     def ask(self, *words: object) -> Any:
@@ -187,9 +219,10 @@ class Case(unittest.TestCase):
     def refused(self, *words: object, data: bytes = b"") -> str:
         """Runs the program, which has to be refused: one line, and nothing else."""
         ran = jarrah(*words, server=self.server, data=data)
-        self.assertEqual((ran.status, ran.out, ran.err.count("\n")), (1, "", 1), (words, ran))
-        self.assertTrue(ran.err.startswith("jarrah: "))
-        return ran.err.removeprefix("jarrah: ").rstrip("\n")
+        said = ran.complaint
+        self.assertEqual((ran.status, ran.out, said.count("\n")), (1, "", 1), (words, ran))
+        self.assertTrue(said.startswith("jarrah: "))
+        return said.removeprefix("jarrah: ").rstrip("\n")
 
     def draft(self, parent: str, *words: object, data: bytes = b"") -> str:
         """Uploads a draft and gives its id."""
@@ -204,9 +237,11 @@ class Case(unittest.TestCase):
 
 
 def folder_files(folder: Path) -> dict[str, tuple[str, bytes]]:
-    """All files under a folder, each with what it is and its bytes."""
+    """All files under a folder but a working copy's own, each with what it is and its bytes."""
     found: dict[str, tuple[str, bytes]] = {}
     for place in sorted(folder.rglob("*")):
+        if ".jarrah" in place.relative_to(folder).parts:
+            continue
         name = os.fsencode(place.relative_to(folder)).decode(errors="surrogateescape")
         if place.is_symlink():
             found[name] = ("symlink", os.fsencode(os.readlink(place)))

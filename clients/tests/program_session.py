@@ -11,6 +11,7 @@ from contextlib import nullcontext
 from types import SimpleNamespace
 
 from .harness import TOP
+from .program_misses import MISSES
 from .stand_in.http import Service, Session
 from .stand_in.repository import Repository
 from .stand_in.spelling import digest
@@ -18,72 +19,6 @@ from .stand_in.spelling import digest
 PROGRAM = TOP / "crates" / "hg_cli"
 ABC = "ba7816bf8f01cfea414140de5dae2223b00361a396177a9cb410ff61f20015ad"
 """The content that the program's file has at first (FIPS 180-4)."""
-
-MISSES = """
-PUT /content/
-PUT /contents
-PUT /conten
-PUT /%63ontent
-GET /
-GET //content
-GET /changeset/
-GET /changeset/{abc}/
-GET /bookmark/
-GET /bookmark
-PUT /bookmark/main/none/
-PUT /bookmark/main/none
-PUT /bookmark//none/{abc}
-PUT /bookmark/main/none/{abc}/x
-POST /land/main
-GET /log/
-GET /log/1/2
-PUT content
-PUT ?/content
-GET /changeset/{abc}
-GET /changeset/{ABC}
-GET /changeset/%62{abc[1:]}
-GET /changeset/{abc[:63]}
-GET /changeset/{abc}0
-GET /changeset/%FF
-GET /bookmark/main
-GET /bookmark/main?x
-GET /bookmark/ma%69n
-GET /bookmark/a%2Fb
-GET /bookmark/a%2
-GET /bookmark/%FF
-PUT /bookmark/main/none/{abc}
-PUT /bookmark/main/%6Eone/{abc}
-PUT /bookmark/main/{abc}/{abc}
-PUT /bookmark/main/{abc}/none
-PUT /bookmark/main/none/none
-PUT /bookmark/main/x/{abc}
-PUT /bookmark/main/none/b
-PUT /bookmark/a+b/x/y
-PUT /bookmark/main/None/{abc}
-POST /land/main/{abc}
-POST /land/main/none
-POST /land/m%20n/none
-GET /log/0
-GET /log/00
-GET /log/%31
-GET /log/9999999999999999999
-GET /log/10000000000000000000
-GET /log/00000000000000000000
-GET /log/x
-GET /log/+1
-GET /log/%FF
-DELETE /content
-put /content
-HEADS /content?x=1
-GET /changeset
-PUT /changeset/ID
-POST /bookmark/main
-GET /bookmark/main/none/ID
-PUT /bookmark/main
-GET /land/main/ID
-PUT /log/0
-"""
-"""Targets and methods that a repository of one content has nothing for, or refuses."""
 
 HEADS = [
     b"PUT /content HTTP/1.1\r\nCONTENT-LENGTH: 3 \t\r\n\r\nabc",
@@ -342,7 +277,8 @@ history
 def manifests(script: Script, root: str) -> None:
     """Reads of manifests, of ends of two chains and of the root that they have in common."""
     tree = script.commit(spelled(sets("a/x"), sets("b", b""), parents=(root,)))
-    gone = script.commit(spelled(deletes("p"), parents=(digest(spelled(sets("p"), parents=(root,))),)))
+    before = digest(spelled(sets("p"), parents=(root,)))
+    gone = script.commit(spelled(deletes("p"), parents=(before,)))
     lines = script.commit(spelled(sets("p"), parents=(gone,)))
     for line in TREE_READS.split("\n")[1:-1]:
         for mark, text in [("{tree}", tree), ("{root}", root), ("{lines}", lines)]:

@@ -4,12 +4,14 @@ from __future__ import annotations
 
 import http.client
 import json
+import shutil
 import subprocess
 import sys
 from html.parser import HTMLParser
 from urllib.parse import quote, urlsplit
 
-from jarrah_client.browse import Library
+from jarrah_client.server import Server
+from jarrah_client.web.library import Library, Question
 
 from .harness import ENVIRONMENT, PROGRAM, Case, fresh, jarrah
 from .test_encoding import ABC
@@ -89,6 +91,16 @@ class Browse(Case):
         self.assertEqual(self.api("server")["url"], self.server)
         loads = [target for target in page.loads if not target.startswith(("#", "data:"))]
         self.assertEqual(loads, [])
+        for absolute in (b'"/api', b"`/api", b'"/raw', b"`/raw"):
+            self.assertNotIn(absolute, data)
+
+    def test_its_script_can_be_read(self):
+        node = shutil.which("node")
+        if not node:
+            self.skipTest("node reads scripts")
+        script = self.fetch("/")[2].decode().partition("<script>")[2].partition("</script>")[0]
+        place = self.write("page.js", script.encode())
+        subprocess.run([node, "--check", place], check=True, capture_output=True)
 
     def test_bookmarks(self):
         found = {one["name"]: one["head"] for one in self.api("bookmarks")["bookmarks"]}
@@ -156,13 +168,12 @@ class Browse(Case):
         head = jarrah(
             "--json", "commit", "main", "--set", f"a/b={self.write('abc')}", server=early.url
         )
-        library = Library(early.url, fold=False)
-        self.addCleanup(library.server.close)
         id = head.document["head"]
-        listed = library.answer("tree", f"{id}/a")["entries"]
-        self.assertEqual([one["name"] for one in listed], ["b"])
-        self.assertEqual(library.answer("last", f"{id}/a"), {"last": {}})
-        self.assertEqual(library.answer("file", f"{id}/a/b")["text"], "abc")
+        with Library(Server(early.url), fold=False).connected() as visit:
+            listed = visit.directory(Question(id, "a"))["entries"]
+            self.assertEqual([one["name"] for one in listed], ["b"])
+            self.assertEqual(visit.last(Question(id, "a")), {"last": {}})
+            self.assertEqual(visit.file(Question(id, "a/b"))["text"], "abc")
 
     def test_this_machine_alone(self):
         self.assertEqual(self.url.hostname, "127.0.0.1")

@@ -8,12 +8,10 @@ import os
 import subprocess
 import sys
 import threading
-import time
 
 from jarrah_client.drafts import ROOT, read_date
 from jarrah_client.output import clean, date
 from jarrah_client.progress import Progress
-from jarrah_client.server import IDLE_SECONDS, SESSION_BYTES, Server
 
 from .harness import (
     ENVIRONMENT,
@@ -28,7 +26,8 @@ from .harness import (
 from .test_encoding import ABC
 
 COMMANDS = (
-    "init draft land commit bookmark log entries ls cat history checkout diff import-git browse"
+    "init draft land commit bookmark checkout status update rebase amend revert resolve"
+    " log entries ls cat history diff import-git export-git browse gateway"
 ).split()
 
 
@@ -40,7 +39,7 @@ class Words(Case):
         self.assertEqual(top.status, 0)
         for command in COMMANDS:
             self.assertIn(f"    {command}", top.out)
-            ran = jarrah_process(command, "--help")
+            ran = jarrah(command, "--help", server="http://127.0.0.1:1")
             self.assertEqual((ran.status, ran.err), (0, ""))
             self.assertIn("--json", ran.out)
 
@@ -57,7 +56,7 @@ class Words(Case):
             ("import-git", ".", "main", "--connections", "0"),
             ("bookmark", "main", "--to", "x", "--delete"),
         ):
-            ran = jarrah_process(*words, server="http://127.0.0.1:1")
+            ran = jarrah(*words, server="http://127.0.0.1:1")
             self.assertEqual((ran.status, ran.out), (2, ""), words)
         self.assertEqual(jarrah_process("log", "main").status, 2)
 
@@ -159,8 +158,9 @@ class Work(Case):
         self.assertEqual([one["kind"] for one in found], ["regular", "symlink", "executable"])
         self.assertEqual(found[0]["content"], ABC)
         log = self.ok("log", self.name, "--patch-names").out
+        names = log.partition(f"changeset {landed['head']}  (")[2].partition(")\n")[0]
+        self.assertIn(self.name, names.split(", "))
         for line in (
-            f"changeset {landed['head']}  ({self.name})",
             "author    Ann <a@b>",
             "date      2001-09-09 02:46:40 +0100",
             "    with a body",
@@ -341,21 +341,3 @@ class AtOnce(Case):
         self.assertIn(f"{ours} in the draft clashes with {theirs},", found[1].err)
         listed = self.ask("ls", "-r", name)["entries"]
         self.assertEqual([one["name"] for one in listed], [theirs])
-
-
-class Waiting(Case):
-    """A connection that the server would have ended is made anew before a request goes out."""
-
-    def test_after_silence(self):
-        one = Server(self.server)
-        self.addCleanup(one.close)
-        one.log(0)
-        first = one.connection.sock
-        one.log(0)
-        self.assertIs(one.connection.sock, first)
-        one.last_used = time.monotonic() - IDLE_SECONDS - 1
-        one.log(0)
-        self.assertIsNot(one.connection.sock, first)
-        second, one.sent = one.connection.sock, SESSION_BYTES + 1
-        one.log(0)
-        self.assertIsNot(one.connection.sock, second)

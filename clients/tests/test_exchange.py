@@ -88,7 +88,7 @@ class Exchange(Case):
 
     def test_bookmarks(self):
         name, absent = fresh(), fresh("absent")
-        b, c = self.store(EMPTY), self.draft(self.store(EMPTY), "--delete", "x", "-m", name)
+        b, c = self.store(EMPTY), self.draft(self.store(EMPTY), "--symlink", "x=y", "-m", name)
         at_b = f'{{"code":"bookmark","head":"{b}","name":"{name}"}}'
         self.answers("PUT", f"/bookmark/{name}/none/{b}", None, 200, at_b)
         self.answers("PUT", f"/bookmark/{name}/{b}/{b}", None, 200, at_b)

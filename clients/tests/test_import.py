@@ -116,7 +116,7 @@ class Whole(Case):
         narrow = self.special(lanes=1)
         words = ("import-git", self.maker.folder, "b", "--marks", self.folder / "marks")
         ran = jarrah("--json", *words, "--connections", "6", server=narrow.url)
-        self.assertEqual((ran.status, ran.err, ran.document["commits"]), (0, "", COMMITS))
+        self.assertEqual((ran.status, ran.complaint, ran.document["commits"]), (0, "", COMMITS))
 
     def test_marks_of_another_server(self):
         other = self.special()
@@ -124,7 +124,7 @@ class Whole(Case):
         words = ("import-git", self.maker.folder, name, "--marks", marks, "--branch", self.line[3])
         self.ok(*words)
         ran = jarrah(*words, server=other.url)
-        self.assertEqual((ran.status, ran.err.count("\n")), (1, 1))
+        self.assertEqual((ran.status, ran.complaint.count("\n")), (1, 1))
         self.assertIn("marks of another server", ran.err)
 
     def test_a_bookmark_with_other_files(self):
@@ -141,7 +141,7 @@ class Whole(Case):
         )
         self.ok(*words)
         self.assertEqual(len(self.ok("--json", "log", name).documents), 5)
-        self.ok("commit", name, "--delete", "nothing", "-m", "not of the import")
+        self.ok("commit", name, "--symlink", "new=x", "-m", "not of the import")
         self.assertIn("didn't make", self.refused(*words[:-1], self.line[5]))
 
     def test_a_server_that_goes_away(self):
@@ -157,17 +157,17 @@ class Whole(Case):
         narrow.service.repository.put_changeset = store
         words = ("import-git", self.maker.folder, "b", "--marks", self.folder / "marks")
         ran = jarrah(*words, server=narrow.url)
-        self.assertEqual((ran.status, ran.err.count("\n")), (1, 1))
+        self.assertEqual((ran.status, ran.complaint.count("\n")), (1, 1))
         where = f"stopped at commit {self.line[50][:12]} (run again to go on)"
-        self.assertTrue(ran.err.startswith(f"jarrah: {where}: {narrow.url} broke off"), ran.err)
+        self.assertTrue(ran.complaint.startswith(f"jarrah: {where}: {narrow.url} broke off"), ran.err)
 
     def test_a_server_that_is_full(self):
         small = self.special(capacity=40_000)
         marks = self.folder / "marks"
         words = ("import-git", self.maker.folder, "b", "--marks", marks)
         ran = jarrah(*words, server=small.url)
-        self.assertEqual((ran.status, ran.err.count("\n")), (1, 1))
-        where, _, why = ran.err.partition(" (run again to go on): ")
+        self.assertEqual((ran.status, ran.complaint.count("\n")), (1, 1))
+        where, _, why = ran.complaint.partition(" (run again to go on): ")
         self.assertRegex(where, "^jarrah: stopped at commit [0-9a-f]{12}$")
         self.assertTrue(why.startswith("the server's file is full"))
         done = len(marks.read_text().splitlines()) - 1
@@ -209,7 +209,7 @@ class LeftOut(Case):
             ("bad\\xff", "the path is refused: it isn't UTF-8"),
             ("module", "it is a submodule"),
         }
-        self.assertEqual((ran.status, left_out), (0, wanted))
+        self.assertEqual((ran.status, left_out), (3, wanted))
         self.assertEqual(ran.err.count("left out: "), 4)
         listed = self.ask("ls", name)["entries"]
         self.assertEqual([entry["name"] for entry in listed], ["most", "small"])

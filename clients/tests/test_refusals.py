@@ -174,7 +174,7 @@ class Provoked(Case):
         draft = self.draft(self.name, "--set", f"lib/x={self.abc}")
         self.assertIn("no bookmark of this name", self.refused("land", fresh("absent"), draft))
         self.assertIn(ID, self.refused("land", self.name, ID))
-        self.ok("commit", self.name, "--delete", "lib")
+        self.ok("commit", self.name, "--set", f"lib={self.abc}")
         words = self.refused("land", self.name, draft)
         self.assertIn("lib/x in the draft clashes with lib,", words)
         self.assertIn("already", self.refused("land", self.name, self.name))

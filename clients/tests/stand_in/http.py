@@ -260,6 +260,10 @@ class Session(socketserver.StreamRequestHandler):
     disable_nagle_algorithm = True
     server: StandIn
 
+    def setup(self) -> None:
+        self.timeout = self.server.idle_seconds
+        super().setup()
+
     def handle(self) -> None:
         with self.server.lanes:
             try:
@@ -314,7 +318,10 @@ class Session(socketserver.StreamRequestHandler):
 
 
 class StandIn(ThreadingHTTPServer):
-    """The stand-in's socket, on this machine alone. At most `lanes` connections are served."""
+    """The stand-in's socket, on this machine alone. At most `lanes` connections are served.
+
+    A connection that is silent for `idle_seconds` is ended.
+    """
 
     request_queue_size = 64
     daemon_threads = True
@@ -327,8 +334,10 @@ class StandIn(ThreadingHTTPServer):
         capacity: int = 34_359_738_368,
         lanes: int | None = None,
         has_manifests: bool = True,
+        idle_seconds: float | None = None,
     ):
         super().__init__(("127.0.0.1", port), Session)
+        self.idle_seconds = idle_seconds
         self.repository = Repository(capacity)
         self.service = Service(self.repository, has_manifests)
         self.lanes = threading.Semaphore(lanes) if lanes else nullcontext()

@@ -5,6 +5,7 @@ from __future__ import annotations
 import struct
 from collections.abc import Callable
 from dataclasses import dataclass
+from functools import cached_property
 from hashlib import sha256
 
 MOST = 1_048_576
@@ -44,8 +45,12 @@ class Record:
     def touched(self) -> list[str]:
         return [path for path, _ in self.changes]
 
+    @cached_property
+    def by_path(self) -> dict[str, Set | None]:
+        return dict(self.changes)
+
     def set_at(self, path: str) -> Set | None:
-        return dict(self.changes).get(path)
+        return self.by_path.get(path)
 
 
 def key(path: str) -> list[bytes]:

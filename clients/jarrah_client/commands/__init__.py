@@ -1,0 +1,1 @@
+"""The subcommands, each a function of its options, a server and an output."""

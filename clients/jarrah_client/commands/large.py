@@ -1,0 +1,148 @@
+"""Subcommands that move whole histories, or serve."""
+
+from __future__ import annotations
+
+import argparse
+import sys
+from argparse import Namespace
+from collections.abc import Iterator
+from pathlib import Path
+
+from ..drafts import need_name
+from ..export_git import Report as ExportReport
+from ..export_git import Target, export_git, export_stream
+from ..import_git import Report, import_git
+from ..names import resolve
+from ..output import Output, counted
+from ..paths import is_bookmark_name
+from ..server import Server
+from ..web.pages import serve
+from .options import LEFT_OUT, REVISION, Add, add_connections, add_fold, natural
+
+
+def add(add: Add) -> None:
+    """Adds the subcommands."""
+    one = add("import-git", import_from_git, "import the first-parent line of a git branch")
+    one.add_argument("repository", help="a git repository, with or without a work tree")
+    one.add_argument("bookmark", help="made, or moved on to the end of the line")
+    one.add_argument("--branch", default="HEAD", help="a branch or a commit; default: HEAD")
+    one.add_argument(
+        "--marks",
+        metavar="FILE",
+        help="what was imported; default: jarrah/BOOKMARK.marks in git's folder",
+    )
+    add_connections(one)
+    one = add("export-git", export_to_git, "write a changeset and its ancestors as git commits")
+    one.add_argument("revision", metavar="id", help=REVISION)
+    one.add_argument(
+        "repository", help="a git repository, made if need be; `-`: a stream for `git fast-import`"
+    )
+    one.add_argument("--branch", help="default: the bookmark's name, else main")
+    one.add_argument(
+        "--marks",
+        metavar="FILE",
+        help="what was exported; default: jarrah/BRANCH.exported in git's folder",
+    )
+    add_connections(one)
+    one = add("browse", browse, "serve a page to look round in, on this machine alone")
+    add_serving(one)
+    one = add("gateway", gateway, "serve JSON routes for other tools, and the page")
+    add_serving(one)
+
+
+def add_serving(one: argparse.ArgumentParser) -> None:
+    """Options of what serves on this machine."""
+    one.add_argument("--port", type=natural, default=0, help="default: any that is free")
+    one.add_argument(
+        "--host",
+        metavar="NAME",
+        action="append",
+        default=[],
+        help="answer to this name too, which a proxy passes on; can be repeated",
+    )
+    add_fold(one)
+
+
+def import_from_git(options: Namespace, server: Server, out: Output) -> int:
+    """Imports the first-parent line of a git branch."""
+    need_name(options.bookmark)
+    report = import_git(
+        server,
+        Path(options.repository),
+        options.branch,
+        options.bookmark,
+        Path(options.marks) if options.marks else None,
+        options.connections,
+    )
+    out.tell(vars(report), import_lines(report))
+    return LEFT_OUT if report.left_out else 0
+
+
+def import_lines(report: Report) -> Iterator[str]:
+    """What an import did, for people."""
+    if report.known:
+        yield f"{counted(report.known, 'commit')} imported before"
+    if report.commits:
+        rate = report.commits / report.seconds
+        yield (
+            f"imported {counted(report.commits, 'commit')}"
+            f" as {counted(report.changesets, 'changeset')}"
+            f" with {counted(report.contents, 'content')}"
+            f" of {counted(report.content_bytes, 'byte')}"
+            f" in {report.seconds:.1f} s ({rate:,.0f} commits/s)"
+        )
+    else:
+        yield "there is nothing new to import"
+    if report.left_out:
+        yield f"left out {counted(len(report.left_out), 'change')}, each named above"
+    if report.altered:
+        yield f"altered the words of {counted(len(report.altered), 'commit')}, each named above"
+    yield f"{report.bookmark} is at {report.head}"
+
+
+def export_to_git(options: Namespace, server: Server, out: Output) -> int:
+    """Exports a changeset and its ancestors to a branch of a git repository."""
+    name = options.revision
+    id = resolve(server, name)
+    branch = options.branch or (name if is_bookmark_name(name) and id != name else "main")
+    branch = branch if branch.startswith("refs/") else f"refs/heads/{branch}"
+    if options.repository == "-":
+        report = export_stream(server, id, branch, sys.stdout.buffer, options.connections)
+        sys.stdout.buffer.flush()
+    else:
+        marks = Path(options.marks) if options.marks else None
+        target = Target(Path(options.repository), branch, marks)
+        report = export_git(server, id, target, options.connections)
+    for one in report.left_out:
+        told = f"{one['path']!r} of changeset {one['changeset'][:12]}: {one['why']}"
+        print(f"left out: {told}", file=sys.stderr)
+    for one in report.altered:
+        print(f"altered: changeset {one[:12]}: git can't have all of its words", file=sys.stderr)
+    if options.repository != "-":
+        out.tell(vars(report), export_lines(report))
+    return LEFT_OUT if report.left_out else 0
+
+
+def export_lines(report: ExportReport) -> Iterator[str]:
+    """What an export did, for people."""
+    if report.changesets:
+        rate = report.changesets / report.seconds
+        yield (
+            f"exported {counted(report.changesets, 'changeset')}"
+            f" with {counted(report.contents, 'content')}"
+            f" of {counted(report.content_bytes, 'byte')}"
+            f" in {report.seconds:.1f} s ({rate:,.0f} commits/s)"
+        )
+    else:
+        yield "there is nothing new to export"
+    yield f"{report.branch} is at {report.commit}"
+
+
+def browse(options: Namespace, server: Server, out: Output) -> None:
+    """Serves a page to look round in, on this machine alone."""
+    serve(server, options.port, options.fold, options.host, False, out)
+
+
+def gateway(options: Namespace, server: Server, out: Output) -> None:
+    """Serves JSON routes for other tools, which take changes too."""
+    serve(server, options.port, options.fold, options.host, True, out)

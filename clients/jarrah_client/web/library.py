@@ -1,0 +1,196 @@
+"""Answers of the local program, each over a connection of its own to the server."""
+
+from __future__ import annotations
+
+import threading
+from collections.abc import Iterator
+from contextlib import contextmanager
+from dataclasses import dataclass, field
+from typing import Any
+
+from ..changesets import Changeset, File
+from ..log_cache import CachedLog
+from ..names import resolve
+from ..output import changeset_document, file_document
+from ..refusals import Fault, Refused, about
+from ..repository import by_front
+from ..server import Server
+from ..text_diff import text_of
+from ..trees import Tree, history_of, last_changes, tree_of
+from .kept import Kept, Line
+
+LOG_LENGTH = 30
+MOST_LOG_LENGTH = 200
+HISTORY_LENGTH = 50
+LISTING_LENGTH = 200
+"""For so many entries of a directory the page asks at a time who touched them last."""
+KEPT_TREES = 16
+KEPT_CHANGESETS = 4_096
+KEPT_LINES = 16
+
+
+class BadQuestion(Fault):
+    """What was asked breaks a rule of its route."""
+
+
+@dataclass(frozen=True)
+class Question:
+    """What a request asks: the words of its path, and those of its query."""
+
+    name: str = ""
+    path: str = ""
+    query: dict[str, str] = field(default_factory=dict)
+
+    def number(self, key: str, default: int, most: int = 10**9) -> int:
+        """A number of the query."""
+        text = self.query.get(key, str(default))
+        if not (text.isascii() and text.isdigit()):
+            raise BadQuestion(f"{key} is {text!r}, and no number")
+        return min(int(text), most)
+
+
+class Library:
+    """What is asked of one server, and what of it is kept."""
+
+    def __init__(self, server: Server, fold: bool):
+        self.server = server
+        self.fold = fold
+        self.log = CachedLog(server)
+        self.log_turn = threading.Lock()
+        self.changesets: Kept[str, Changeset] = Kept(KEPT_CHANGESETS)
+        self.trees: Kept[str, Tree] = Kept(KEPT_TREES)
+        self.lines: Kept[str, Line] = Kept(KEPT_LINES)
+
+    @contextmanager
+    def connected(self) -> Iterator[Visit]:
+        """A connection for one request, so that a slow one stops no other."""
+        server = self.server.another()
+        try:
+            yield Visit(self, server)
+        finally:
+            server.close()
+
+
+class Visit:
+    """One request's questions to the library, over its own connection."""
+
+    def __init__(self, library: Library, server: Server):
+        self.library = library
+        self.server = server
+
+    def changeset(self, id: str) -> Changeset:
+        return self.library.changesets.get(id, lambda: self.server.changeset(id))
+
+    def tree(self, id: str) -> Tree:
+        """A changeset's tree, its nodes shared with other requests."""
+        make = lambda: tree_of(self.server, id, fold=self.library.fold)  # noqa: E731
+        return self.library.trees.get(id, make).by(self.server)
+
+    def line(self, id: str, count: int) -> Line:
+        """The line of a changeset, with so many ids where it has them."""
+        line = self.library.lines.get(id, lambda: Line(id))
+        line.reach(count, self.changeset)
+        return line
+
+    def resolve(self, name: str) -> str:
+        return resolve(self.server, name, self.by_front)
+
+    def by_front(self, front: str) -> str:
+        with self.library.log_turn:
+            self.library.log.server = self.server
+            return by_front(self.library.log, front)
+
+    def read_log(self) -> tuple[dict[str, str], int]:
+        """The bookmarks, and how many entries there are."""
+        log = self.library.log
+        with self.library.log_turn:
+            log.server = self.server
+            log.read_on()
+            return dict(log.bookmarks), log.next
+
+    def which(self, _: Question) -> dict[str, Any]:
+        """The server that this looks at."""
+        return {"url": self.server.url}
+
+    def bookmarks(self, _: Question) -> dict[str, Any]:
+        """All bookmarks with their heads."""
+        bookmarks, entries = self.read_log()
+        found = sorted(bookmarks.items())
+        rows = [{"name": name, "head": brief(self.changeset(head))} for name, head in found]
+        return {"entries": entries, "bookmarks": rows}
+
+    def log(self, question: Question) -> dict[str, Any]:
+        """A stretch of a line, and where the next begins."""
+        head = self.resolve(question.name)
+        skip = question.number("skip", 0)
+        count = max(1, question.number("count", LOG_LENGTH, MOST_LOG_LENGTH))
+        line = self.line(head, skip + count + 1)
+        if line.total is not None and skip >= line.total:
+            skip = max(0, line.total - count)
+        ids = line.ids[skip : skip + count + 1]
+        rows = [brief(self.changeset(id)) for id in ids[:count]]
+        following = ids[count] if len(ids) > count else None
+        document = {"head": head, "skip": skip, "changesets": rows}
+        return document | {"next": following, "total": line.total}
+
+    def one_changeset(self, question: Question) -> dict[str, Any]:
+        """A changeset with its paths, and the bookmarks that are at it."""
+        changeset = self.changeset(self.resolve(question.name))
+        bookmarks, _ = self.read_log()
+        at = sorted(name for name, head in bookmarks.items() if head == changeset.id)
+        return changeset_document(changeset) | {"bookmarks": at}
+
+    def directory(self, question: Question) -> dict[str, Any]:
+        """A directory of a changeset's tree."""
+        id, path = self.place(question)
+        with about(path or "the root"):
+            found = self.tree(id).list(path)
+        rows = [named(name, entry) for name, entry in found.items()]
+        return {"id": id, "path": path, "entries": rows}
+
+    def last(self, question: Question) -> dict[str, Any]:
+        """Who touched 200 entries of a directory last, directories first; none without unodes."""
+        id, path = self.place(question)
+        start = question.number("from", 0)
+        found = self.tree(id).list(path)
+        ordered = sorted(found, key=lambda name: found[name] is not None)
+        names = ordered[start : start + LISTING_LENGTH]
+        try:
+            links = last_changes(self.server, id, path, names)
+        except Refused as refusal:
+            if refusal.code != "no-route":
+                raise
+            links = {}
+        return {"last": {name: brief(self.changeset(link)) for name, link in links.items()}}
+
+    def file(self, question: Question) -> dict[str, Any]:
+        """A file's text, where it is text, and its history."""
+        id, path = self.place(question)
+        with about(path):
+            file = self.tree(id).file(path)
+            past = history_of(self.server, id, path, fold=self.library.fold)
+        text = text_of(self.server.content(file.content))
+        history = [brief(self.changeset(one)) for one in past[:HISTORY_LENGTH]]
+        document = {"id": id, "path": path, "text": text, **file_document(file)}
+        return document | {"history": history, "older": len(past) - len(history)}
+
+    def raw(self, question: Question) -> bytes:
+        """A file's bytes."""
+        id, path = self.place(question)
+        with about(path):
+            return self.server.content(self.tree(id).file(path).content)
+
+    def place(self, question: Question) -> tuple[str, str]:
+        """The changeset and the path of a question."""
+        return self.resolve(question.name), question.path
+
+
+def brief(changeset: Changeset) -> dict[str, Any]:
+    """A changeset without its changes, and how many there are."""
+    document = changeset_document(changeset)
+    return document | {"changes": len(changeset.changes)}
+
+
+def named(name: str, entry: File | None) -> dict[str, Any]:
+    """An entry of a directory."""
+    return {"name": name, **(file_document(entry) if entry else {"kind": "directory"})}

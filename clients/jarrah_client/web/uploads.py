@@ -1,0 +1,134 @@
+"""Changesets that other tools send as JSON, with contents in base64."""
+
+from __future__ import annotations
+
+import base64
+import binascii
+import json
+from typing import Any
+
+from ..changesets import MOST_CONTENT_BYTES, Changeset, File, Kind, digest
+from ..drafts import deleted, now
+from ..paths import is_text, path_key
+from ..refusals import Refused
+from .library import BadQuestion, Question, Visit, brief
+
+KINDS = {kind.word: kind for kind in Kind}
+MEMBERS = {"parent", "author", "message", "seconds", "offset", "changes", "land"}
+
+
+class Members:
+    """A JSON object whose members are taken by their types."""
+
+    def __init__(self, document: Any, where: str, known: set[str]):
+        if not isinstance(document, dict):
+            raise BadQuestion(f"{where} is no object")
+        self.document = document
+        self.where = where
+        for name in document:
+            if name not in known:
+                raise BadQuestion(f"{where} has a member {name!r}, which isn't known")
+
+    def take(self, name: str, kind: type, default: Any = ...) -> Any:
+        """A member, or its default where it is absent or null."""
+        found = self.document.get(name)
+        if found is None and default is not ...:
+            return default
+        if not isinstance(found, kind) or isinstance(found, bool):
+            raise BadQuestion(f"{self.where} lacks {name!r}, or it is no {kind.__name__}")
+        if kind is str and not is_text(found.encode(errors="surrogatepass")):
+            raise BadQuestion(f"{self.where} has half of a surrogate pair in {name!r}")
+        return found
+
+
+def upload(visit: Visit, body: bytes) -> dict[str, Any]:
+    """Stores a changeset with its contents, and lands it where that is asked for."""
+    try:
+        document = json.loads(body)
+    except ValueError:
+        raise BadQuestion("the body is no JSON") from None
+    members = Members(document, "the body", MEMBERS)
+    name, land = members.take("parent", str, None), members.take("land", str, None)
+    parent = visit.resolve(name) if name else None
+    changes, contents = read_changes(visit, members.take("changes", list), parent)
+    seconds, offset = now()
+    changeset = Changeset(
+        (parent,) if parent else (),
+        members.take("author", str),
+        members.take("seconds", int, seconds),
+        members.take("offset", int, offset if "seconds" not in document else 0),
+        members.take("message", str, ""),
+        changes,
+    )
+    store(visit, changeset, contents)
+    answer = brief(changeset) | {"landed": None}
+    return answer | {"landed": put_on(visit, land, changeset.id)} if land else answer
+
+
+def store(visit: Visit, changeset: Changeset, contents: dict[str, bytes]) -> None:
+    """Uploads contents and a changeset, once it has a spelling."""
+    _ = changeset.encoded
+    for id, data in contents.items():
+        visit.server.put_content(id, data)
+    visit.server.put_changeset(changeset)
+
+
+def read_changes(
+    visit: Visit, rows: list[Any], parent: str | None
+) -> tuple[dict[str, File | None], dict[str, bytes]]:
+    """The changes of an upload by rising paths, and the contents that they set."""
+    changes: dict[str, File | None] = {}
+    contents: dict[str, bytes] = {}
+    for number, row in enumerate(rows):
+        where = f"change {number}"
+        members = Members(row, where, {"path", "change", "kind", "base64", "text"})
+        path = members.take("path", str)
+        if path in changes:
+            raise BadQuestion(f"{where} has the path {path!r} again")
+        word = members.take("change", str)
+        if word not in ("set", "delete"):
+            raise BadQuestion(f"{where} is neither a set nor a delete")
+        changes[path] = None
+        if word == "set":
+            data = bytes_of(members)
+            changes[path] = File(digest(data), len(data), kind_of(members))
+            contents[changes[path].content] = data
+    gone = [path for path, file in changes.items() if file is None]
+    deleted(visit.server, parent, gone, False)
+    return {path: changes[path] for path in sorted(changes, key=path_key)}, contents
+
+
+def bytes_of(members: Members) -> bytes:
+    """The bytes that a change sets."""
+    if "text" in members.document:
+        return members.take("text", str).encode()
+    try:
+        data = base64.b64decode(members.take("base64", str), validate=True)
+    except (binascii.Error, ValueError):
+        raise BadQuestion(f"{members.where} has no base64 in its member 'base64'") from None
+    if len(data) > MOST_CONTENT_BYTES:
+        raise BadQuestion(f"{members.where} sets over {MOST_CONTENT_BYTES:,} bytes")
+    return data
+
+
+def kind_of(members: Members) -> Kind:
+    """The kind of file that a change sets."""
+    word = members.take("kind", str, "regular")
+    if word not in KINDS:
+        raise BadQuestion(f"{members.where} has a kind that isn't one of {', '.join(KINDS)}")
+    return KINDS[word]
+
+
+def land(visit: Visit, question: Question) -> dict[str, Any]:
+    """Lands a draft on a bookmark."""
+    return put_on(visit, question.name, visit.resolve(question.path))
+
+
+def put_on(visit: Visit, bookmark: str, draft: str) -> dict[str, Any]:
+    """The same by the draft's id, which a refusal names too."""
+    try:
+        landed = visit.server.land(bookmark, draft)
+    except Refused as refusal:
+        refusal.members.setdefault("draft", draft)
+        raise
+    return {"bookmark": bookmark, "head": landed.head, "ids": landed.ids, "old": landed.old}

@@ -1,0 +1,196 @@
+"""Putting the drafts of a working copy onto the bookmark's head, merging what both changed."""
+
+from __future__ import annotations
+
+from dataclasses import dataclass, field, replace
+
+from ..changesets import Changeset, File
+from ..paths import is_above, path_key
+from ..reads import file_at
+from ..refusals import Refused
+from ..repository import need_head
+from ..server import Server, Trouble
+from ..text_diff import has_marks
+from ..trees import Tree, tree_of
+from . import disk
+from .merging import merge_file
+from .moves import move
+from .scan import read_file, scan
+from .stack import need_bookmark, need_no_conflict, need_settled, take, upload
+from .state import Rebase, WorkingCopy
+
+
+@dataclass
+class Onto:
+    """A draft's changes on another parent: files, new bytes, and conflicts with their reasons."""
+
+    changes: dict[str, File | None] = field(default_factory=dict)
+    contents: dict[str, bytes] = field(default_factory=dict)
+    conflicts: dict[str, str] = field(default_factory=dict)
+
+
+@dataclass
+class Rebased:
+    """What a rebase did: the new drafts, those that the head had already, and where it stopped."""
+
+    head: str
+    drafts: list[str]
+    dropped: list[str]
+    stopped: str | None = None
+    conflicts: dict[str, str] = field(default_factory=dict)
+
+
+def rebase(copy: WorkingCopy, server: Server) -> Rebased:
+    """Puts the drafts onto the head."""
+    need_settled(copy)
+    head = need_head(server, need_bookmark(copy))
+    if not copy.state.drafts:
+        raise Trouble("there are no drafts to rebase: `jarrah update` takes the head")
+    need_clean(copy)
+    return go_on(copy, server, Rebased(head, [], []), list(copy.state.drafts))
+
+
+def need_clean(copy: WorkingCopy) -> None:
+    """Refuses a folder with changes that are in no draft."""
+    for path in scan(copy).changes:
+        raise Trouble(f"{path} is changed: commit, amend or revert it first")
+
+
+def go_on(copy: WorkingCopy, server: Server, done: Rebased, left: list[str]) -> Rebased:
+    """Puts further drafts onto what is done; the folder is at the old base still."""
+    begun = copy.state.rebase or Rebase("", [], copy.state.root, list(copy.state.drafts))
+    parent = done.drafts[-1] if done.drafts else done.head
+    for number, id in enumerate(left):
+        draft = server.changeset(id)
+        onto = put_onto(server, draft, parent)
+        if onto.conflicts:
+            stop(copy, server, done, onto, parent)
+            copy.state.rebase = Rebase(id, left[number + 1 :], begun.root, begun.drafts)
+            copy.save()
+            return replace(done, stopped=id, conflicts=onto.conflicts)
+        if draft.changes and not onto.changes:
+            done.dropped.append(id)
+            continue
+        parent = store(server, replace(draft, parents=(parent,), changes=onto.changes), onto)
+        done.drafts.append(parent)
+    move(copy, server, parent)
+    copy.state.root, copy.state.drafts, copy.state.rebase = done.head, list(done.drafts), None
+    copy.save()
+    return done
+
+
+def store(server: Server, changeset: Changeset, onto: Onto) -> str:
+    """Uploads a draft on its new parent."""
+    upload(server, changeset, onto.contents)
+    return changeset.id
+
+
+def stop(copy: WorkingCopy, server: Server, done: Rebased, onto: Onto, parent: str) -> None:
+    """Brings the folder to the new parent, with the draft's changes and conflicts in it."""
+    move(copy, server, parent)
+    for path, file in onto.changes.items():
+        if file is None:
+            disk.remove(copy.top, path)
+    for path, file in onto.changes.items():
+        if file and not disk.blocked_by(copy.top, path):
+            data = onto.contents.get(file.content) or server.content(file.content)
+            disk.put(copy.top, path, file, data)
+    copy.state.root, copy.state.drafts = done.head, list(done.drafts)
+    copy.state.conflicts = sorted(onto.conflicts, key=path_key)
+
+
+def put_onto(server: Server, draft: Changeset, parent: str) -> Onto:
+    """A draft's changes on another parent."""
+    before = tree_of(server, draft.parent) if draft.parent else None
+    there = tree_of(server, parent)
+    onto = Onto()
+    for path, ours in draft.changes.items():
+        was, theirs = file_at(before, path) if before else None, file_at(there, path)
+        merge = merge_file(lambda file: server.content(file.content), was, ours, theirs)
+        why = merge.conflict or (ours and in_the_way(before, there, draft, path))
+        if why:
+            onto.conflicts[path] = why
+        if merge.file != theirs:
+            onto.changes[path] = merge.file
+        if merge.data is not None and merge.file:
+            onto.contents[merge.file.content] = merge.data
+    return onto
+
+
+def in_the_way(before: Tree | None, there: Tree, draft: Changeset, path: str) -> str | None:
+    """Which file that a set would take away is another than the draft saw."""
+    for other in taken_away(there, path):
+        seen = file_at(before, other) if before else None
+        if seen != file_at(there, other) and other not in draft.changes:
+            return f"{other} is in its way there"
+    return None
+
+
+def taken_away(tree: Tree, path: str) -> list[str]:
+    """The files above and under a path."""
+    elements = path.split("/")
+    above = ["/".join(elements[:count]) for count in range(1, len(elements))]
+    found = [front for front in above if file_at(tree, front)]
+    try:
+        tree.list(path)
+    except Refused:
+        return found
+    return found + [other for other, _ in tree.files(path) if is_above(path, other)]
+
+
+def proceed(copy: WorkingCopy, server: Server) -> Rebased:
+    """Makes a draft of the folder in place of the one that stopped, and goes on."""
+    rebase = need_rebase(copy)
+    for path in copy.state.conflicts:
+        if has_marks(read_file(copy.top, path)[1]):
+            raise Trouble(f"{path} has the marks of its conflict still")
+    need_no_conflict(copy)
+    found = take(copy, None)
+    draft = server.changeset(rebase.draft)
+    done = Rebased(copy.state.root, list(copy.state.drafts), [])
+    if found.changes:
+        new = replace(draft, parents=(copy.state.base,), changes=found.changes)
+        upload(server, new, found.contents)
+        done.drafts.append(new.id)
+    else:
+        done.dropped.append(draft.id)
+    if done.drafts:
+        move_to(copy, server, done)
+    return go_on(copy, server, done, rebase.left)
+
+
+def move_to(copy: WorkingCopy, server: Server, done: Rebased) -> None:
+    """Has the base be the last new draft; its files are the folder's."""
+    move(copy, server, done.drafts[-1])
+    copy.state.drafts = list(done.drafts)
+    copy.save()
+
+
+def abort(copy: WorkingCopy, server: Server) -> None:
+    """Takes everything back to where the rebase began; files that nothing knows stay."""
+    rebase = need_rebase(copy)
+    copy.state.conflicts = []
+    drafted = server.changeset(rebase.draft).changes
+    found = [path for path in scan(copy).changes if path in copy.state.files or path in drafted]
+    restore(copy, server, found)
+    move(copy, server, rebase.drafts[-1])
+    copy.state.root, copy.state.drafts, copy.state.rebase = rebase.root, rebase.drafts, None
+    copy.save()
+
+
+def restore(copy: WorkingCopy, server: Server, paths: list[str]) -> None:
+    """Puts the base's files at some paths back, and takes away what the base doesn't have."""
+    for path in paths:
+        disk.remove(copy.top, path)
+    for path in paths:
+        kept = copy.state.files.get(path)
+        if kept:
+            stamp = disk.put(copy.top, path, kept.file, server.content(kept.file.content))
+            copy.state.files[path] = replace(kept, stamp=stamp)
+
+
+def need_rebase(copy: WorkingCopy) -> Rebase:
+    """The rebase that isn't over."""
+    if copy.state.rebase is None:
+        raise Trouble("there is no rebase to go on with")
+    return copy.state.rebase

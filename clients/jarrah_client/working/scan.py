@@ -1,0 +1,164 @@
+"""What differs in a working copy's folder from its base: by sizes and times, then by ids."""
+
+from __future__ import annotations
+
+import os
+import stat
+from collections.abc import Iterator
+from contextlib import suppress
+from dataclasses import dataclass, field
+from fnmatch import fnmatchcase
+from pathlib import Path
+
+from ..changesets import MOST_CONTENT_BYTES, File, Kind, digest
+from ..paths import OWN_NAMES, is_above, path_fault, path_key
+from ..server import Trouble
+from .state import NEVER, Kept, Stamp, WorkingCopy
+
+IGNORED = ".jarrahignore"
+"""A file at the top with patterns of new files that aren't looked at, one a line."""
+
+
+@dataclass
+class Scan:
+    """What differs: paths with what is there now, None where nothing is."""
+
+    changes: dict[str, File | None] = field(default_factory=dict)
+    faults: dict[str, str] = field(default_factory=dict)
+    """Paths that no changeset can hold, and why."""
+    has_new_stamps: bool = False
+
+    def word(self, copy: WorkingCopy, path: str) -> str:
+        """How a path differs."""
+        if path in copy.state.conflicts:
+            return "conflict"
+        if self.changes.get(path) is None:
+            return "deleted"
+        return "changed" if path in copy.state.files else "added"
+
+
+def scan(copy: WorkingCopy, under: list[str] | None = None) -> Scan:
+    """Compares the folder, or the paths at and under some, with the base.
+
+    What is found to be as the base has it gets its new stamp, so that its bytes aren't read again.
+    """
+    found = Scan()
+    seen = set()
+    for path, status in walked(copy):
+        if not is_in(path, under):
+            continue
+        seen.add(path)
+        look_at(copy, path, status, found)
+    for path in copy.state.files:
+        if path not in seen and is_in(path, under):
+            found.changes[path] = None
+    found.changes = {path: found.changes[path] for path in sorted(found.changes, key=path_key)}
+    return found
+
+
+def look_at(copy: WorkingCopy, path: str, status: os.stat_result, found: Scan) -> None:
+    """Compares one file with the base's."""
+    files, stamp = copy.state.files, Stamp.of(status)
+    kind = kind_of(status)
+    known = files.get(path)
+    if known and kind is known.file.kind and copy.state.is_as_kept(path, stamp):
+        return
+    why = path_fault(os.fsencode(path))
+    if why is None and kind is None:
+        why = "it is no file and no link"
+    if why is None and status.st_size > MOST_CONTENT_BYTES:
+        why = f"it has {status.st_size:,} bytes, over {MOST_CONTENT_BYTES:,}"
+    if why:
+        found.faults[path] = why
+        return
+    file, _ = read_file(copy.top, path)
+    if known and file == known.file:
+        files[path] = Kept(file, stamp)
+        found.has_new_stamps = True
+    elif file:
+        found.changes[path] = file
+
+
+def walked(copy: WorkingCopy) -> Iterator[tuple[str, os.stat_result]]:
+    """All that lies in the folder but directories, with its status; what is ignored is left out."""
+    patterns = ignored(copy.top)
+    waiting = [(copy.top, "")]
+    while waiting:
+        folder, above = waiting.pop()
+        try:
+            entries = sorted(os.scandir(folder), key=lambda entry: entry.name)
+        except OSError as fault:
+            raise Trouble(f"{folder}: {fault.strerror}") from None
+        for entry in entries:
+            path = above + entry.name
+            if entry.name.lower() in OWN_NAMES:
+                continue
+            if entry.is_dir(follow_symlinks=False):
+                waiting.append((Path(entry.path), f"{path}/"))
+            elif path in copy.state.files or not is_ignored(path, patterns):
+                status = status_of(entry)
+                if status:
+                    yield path, status
+
+
+def status_of(entry: os.DirEntry[str]) -> os.stat_result | None:
+    """A file's status, or None where it is gone meanwhile."""
+    with suppress(FileNotFoundError):
+        return entry.stat(follow_symlinks=False)
+    return None
+
+
+def ignored(top: Path) -> list[str]:
+    """The patterns of what is ignored."""
+    try:
+        lines = (top / IGNORED).read_text(encoding="utf-8").splitlines()
+    except (OSError, UnicodeDecodeError):
+        return []
+    return [line.strip() for line in lines if line.strip() and not line.startswith("#")]
+
+
+def is_ignored(path: str, patterns: list[str]) -> bool:
+    """Whether a pattern fits a path, a folder above it, or one of its names."""
+    elements = path.split("/")
+    fronts = ["/".join(elements[:count]) for count in range(1, len(elements) + 1)]
+    return any(
+        fnmatchcase(one, pattern.rstrip("/")) for pattern in patterns for one in fronts + elements
+    )
+
+
+def is_in(path: str, under: list[str] | None) -> bool:
+    """Whether a path is one of some, or lies under one."""
+    return under is None or any(not top or path == top or is_above(top, path) for top in under)
+
+
+def kind_of(status: os.stat_result) -> Kind | None:
+    """What a file is, or None where no changeset can hold it."""
+    if stat.S_ISLNK(status.st_mode):
+        return Kind.SYMLINK
+    if not stat.S_ISREG(status.st_mode):
+        return None
+    return Kind.EXECUTABLE if status.st_mode & stat.S_IXUSR else Kind.REGULAR
+
+
+def read_file(top: Path, path: str) -> tuple[File | None, bytes]:
+    """A file as it is now, with its bytes; None where it is gone."""
+    place = top / path
+    try:
+        status = place.lstat()
+        kind = kind_of(status)
+        if kind is None:
+            return None, b""
+        data = os.fsencode(os.readlink(place)) if kind is Kind.SYMLINK else place.read_bytes()
+    except (FileNotFoundError, NotADirectoryError):
+        return None, b""
+    except OSError as fault:
+        raise Trouble(f"{place}: {fault.strerror}") from None
+    return File(digest(data), len(data), kind), data
+
+
+def stamp_of(top: Path, path: str) -> Stamp:
+    """The stamp of a file, or NEVER where there is none."""
+    try:
+        return Stamp.of((top / path).lstat())
+    except OSError:
+        return NEVER

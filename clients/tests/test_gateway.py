@@ -1,0 +1,335 @@
+"""The JSON routes of `gateway`, each answer compared with its OpenAPI file."""
+
+from __future__ import annotations
+
+import base64
+import http.client
+import json
+import re
+import subprocess
+import sys
+import threading
+import time
+from contextlib import nullcontext
+from typing import Any
+from urllib.parse import quote, urlsplit
+
+from jarrah_client.web.routes import OPENAPI, READS, WRITES
+
+from .harness import ENVIRONMENT, PROGRAM, Case, fresh
+
+DOCUMENT = json.loads(OPENAPI.read_text())
+TYPES = {"object": dict, "array": list, "string": str, "integer": int}
+
+
+def fault_of(value: Any, schema: dict[str, Any], place: str = "it") -> str | None:
+    """Where a value isn't as a schema of OpenAPI 3.0 says, or None."""
+    if "$ref" in schema:
+        name = schema["$ref"].rpartition("/")[2]
+        return fault_of(value, DOCUMENT["components"]["schemas"][name], place)
+    if value is None and schema.get("nullable"):
+        return None
+    if "oneOf" in schema:
+        faults = [fault_of(value, one, place) for one in schema["oneOf"]]
+        return None if faults.count(None) == 1 else f"{place} is not one of {faults}"
+    for one in schema.get("allOf", []):
+        if fault := fault_of(value, one, place):
+            return fault
+    kind = TYPES.get(schema.get("type", ""))
+    if kind and (not isinstance(value, kind) or isinstance(value, bool)):
+        return f"{place} is {value!r}"
+    if "enum" in schema and value not in schema["enum"]:
+        return f"{place} is {value!r}"
+    if "pattern" in schema and not re.search(schema["pattern"], value):
+        return f"{place} is {value!r}"
+    if "minimum" in schema and value < schema["minimum"]:
+        return f"{place} is {value!r}"
+    return fault_inside(value, schema, place)
+
+
+def fault_inside(value: Any, schema: dict[str, Any], place: str) -> str | None:
+    """The same of an object's members and an array's elements."""
+    if isinstance(value, list):
+        found = (fault_of(one, schema["items"], f"{place}[{n}]") for n, one in enumerate(value))
+        return next(filter(None, found), None)
+    if not isinstance(value, dict):
+        return None
+    properties = schema.get("properties", {})
+    missing = [name for name in schema.get("required", []) if name not in value]
+    if missing:
+        return f"{place} lacks {missing}"
+    further = schema.get("additionalProperties", not properties)
+    for name, one in value.items():
+        below = properties.get(name, further)
+        if below is False:
+            return f"{place} has {name}"
+        if isinstance(below, dict) and (fault := fault_of(one, below, f"{place}.{name}")):
+            return fault
+    return None
+
+
+class GatewayCase(Case):
+    """The program's routes, which take changes too."""
+
+    words: tuple[str, ...] = ("gateway", "--host", "proxy.example.org")
+
+    @classmethod
+    def setUpClass(cls) -> None:
+        super().setUpClass()
+        cls.process = subprocess.Popen(
+            [sys.executable, str(PROGRAM), "--server", cls.server, "--json", *cls.words],
+            stdout=subprocess.PIPE,
+            env=ENVIRONMENT,
+        )
+        cls.addClassCleanup(cls.process.communicate)
+        cls.addClassCleanup(cls.process.kill)
+        cls.url = urlsplit(json.loads(cls.process.stdout.readline())["url"])
+
+    def setUp(self) -> None:
+        super().setUp()
+        self.name = fresh()
+        self.ok("init", self.name)
+
+    def fetch(
+        self, method: str, target: str, body: Any = None, **headers: str
+    ) -> tuple[int, Any]:
+        """The status and the document of an answer, which has to be as it is described."""
+        connection = http.client.HTTPConnection(self.url.hostname, self.url.port, timeout=200)
+        data = body if isinstance(body, bytes) else json.dumps(body).encode() if body else b""
+        said = {"Content-Type": "application/json"}
+        said |= {name.replace("_", "-"): value for name, value in headers.items()}
+        connection.request(method, quote(target, safe="/?=&%"), body=data, headers=said)
+        response = connection.getresponse()
+        answer = json.loads(response.read())
+        connection.close()
+        self.compare(method, target, response.status, answer)
+        return response.status, answer
+
+    def compare(self, method: str, target: str, status: int, answer: Any) -> None:
+        """Compares an answer with what the OpenAPI file says of it."""
+        path = target.partition("?")[0]
+        fits = [one for one in DOCUMENT["paths"] if re.fullmatch(pattern_of(one), path)]
+        if not fits or method.lower() not in DOCUMENT["paths"][fits[0]]:
+            return
+        answers = DOCUMENT["paths"][fits[0]][method.lower()]["responses"]
+        described = answers.get(str(status)) or answers["default"]
+        schema = described["content"]["application/json"]["schema"]
+        self.assertIsNone(fault_of(answer, schema), (method, target, answer))
+
+    def got(self, target: str, **headers: str) -> Any:
+        """The document of an answer that is one."""
+        status, answer = self.fetch("GET", target, **headers)
+        self.assertEqual(status, 200, answer)
+        return answer
+
+    def upload(self, *changes: dict, **members: Any) -> tuple[int, Any]:
+        """What the upload of a changeset is answered by."""
+        body = {"author": "A", "changes": list(changes), **members}
+        return self.fetch("POST", "/api/changeset", body)
+
+
+def pattern_of(path: str) -> str:
+    """What targets of a described path look like."""
+    return re.sub(r"/?\{path\}", "(/.*)?", path).replace("{revision}", "[^/]+").replace(
+        "{bookmark}", "[^/]+"
+    ).replace("{draft}", "[^/]+")
+
+
+def sets(path: str, data: bytes, **members: str) -> dict:
+    """A set of an upload."""
+    return {"path": path, "change": "set", "base64": base64.b64encode(data).decode(), **members}
+
+
+class Gateway(GatewayCase):
+    """Reads and changes."""
+
+    def test_the_file_describes_the_routes(self):
+        described = {(m.upper(), path) for path, one in DOCUMENT["paths"].items() for m in one}
+        routes = {(route.method, route.path) for route in READS + WRITES}
+        self.assertEqual(described, routes | {("GET", "/health"), ("GET", "/openapi.json")})
+        self.assertEqual(self.got("/openapi.json"), DOCUMENT)
+
+    def test_upload_and_read_back(self):
+        changes = [sets("dir/ä", b"one\ntwo\n"), sets("run", b"\xff\0", kind="executable")]
+        changes += [{"path": "link", "change": "set", "kind": "symlink", "text": "dir"}]
+        words = {"message": "First", "seconds": 5, "offset": 3_600, "land": self.name}
+        status, made = self.upload(*changes, parent=self.name, **words)
+        self.assertEqual((status, made["changes"], made["seconds"]), (200, 3, 5))
+        self.assertEqual(made["landed"]["head"], self.ask("bookmark", self.name)["head"])
+        self.assertEqual(self.ok("cat", self.name, "dir/ä").out, "one\ntwo\n")
+        head = made["landed"]["head"]
+        self.assertEqual(self.got(f"/api/log/{self.name}")["changesets"][0]["id"], head)
+        self.assertEqual(self.got(f"/api/changeset/{self.name}")["bookmarks"], [self.name])
+        kinds = {one["name"]: one["kind"] for one in self.got(f"/api/tree/{head}")["entries"]}
+        self.assertEqual(kinds, {"dir": "directory", "link": "symlink", "run": "executable"})
+        self.assertEqual(self.got(f"/api/file/{head}/dir/ä")["text"], "one\ntwo\n")
+        self.assertIsNone(self.got(f"/api/file/{head}/run")["text"])
+        names = [one["name"] for one in self.got("/api/bookmarks")["bookmarks"]]
+        self.assertIn(self.name, names)
+
+    def test_diffs(self):
+        self.upload(sets("a", b"1\n2\n3\n"), sets("b", b"x"), parent=self.name, land=self.name)
+        gone = {"path": "b", "change": "delete"}
+        changes = [sets("a", b"1\nnew\n3\n"), gone, sets("c", b"\0"), sets("d", b"l\n" * 131_073)]
+        self.upload(*changes, parent=self.name, land=self.name)
+        found = {one["path"]: one for one in self.got(f"/api/diff/{self.name}")["files"]}
+        told = {path: (one["change"], one["why"]) for path, one in found.items()}
+        wanted = {"a": ("edited", None), "b": ("deleted", None)}
+        wanted |= {"c": ("added", "binary"), "d": ("added", "large")}
+        self.assertEqual(told, wanted)
+        hunk = {"old": [1, 3], "new": [1, 3], "lines": [" 1", "-2", "+new", " 3"]}
+        self.assertEqual(found["a"]["hunks"], [hunk])
+        self.assertEqual((found["a"]["added"], found["a"]["deleted"]), (1, 1))
+        lines = [line for hunk in found["b"]["hunks"] for line in hunk["lines"]]
+        self.assertEqual(lines, ["-x", "\\No newline at end of file"])
+        one = self.got(f"/api/diff/{self.name}/a")["files"]
+        self.assertEqual(one, [found["a"]])
+        self.assertEqual(self.fetch("GET", f"/api/diff/{self.name}/none")[0], 400)
+
+    def test_many_files_come_later(self):
+        changes = [sets(f"f{number:02}", b"%d\n" % number) for number in range(45)]
+        self.upload(*changes, parent=self.name, land=self.name)
+        found = self.got(f"/api/diff/{self.name}")["files"]
+        self.assertEqual([one["why"] for one in found], [None] * 40 + ["later"] * 5)
+        self.assertEqual(self.got(f"/api/diff/{self.name}/f44")["files"][0]["added"], 1)
+
+    def test_search(self):
+        on = {"parent": self.name, "land": self.name}
+        self.upload(sets("src/Main.rs", b""), sets("src/lib.rs", b""), message="Begin here", **on)
+        self.upload(sets("docs/main.md", b""), message="Document", **on)
+        found = self.got(f"/api/search/{self.name}?path=MAIN")
+        self.assertEqual([one["name"] for one in found["files"]], ["docs/main.md", "src/Main.rs"])
+        found = self.got(f"/api/search/{self.name}?message=here")
+        self.assertEqual([one["message"] for one in found["changesets"]], ["Begin here"])
+        self.assertEqual((found["looked_at"], found["next"]), (3, None))
+        self.assertEqual(self.fetch("GET", f"/api/search/{self.name}")[0], 400)
+
+    def test_any_place_of_a_line(self):
+        for number in range(12):
+            on = {"parent": self.name, "land": self.name}
+            self.upload(sets("n", b"%d" % number), message=str(number), **on)
+        for skip, count, wanted, total in (
+            (0, 5, ["11", "10", "9", "8", "7"], None),
+            (7, 3, ["4", "3", "2"], None),
+            (10, 9, ["1", "0", ""], 13),
+            (99, 4, ["2", "1", "0", ""], 13),
+        ):
+            found = self.got(f"/api/log/{self.name}?skip={skip}&count={count}")
+            self.assertEqual([one["message"] for one in found["changesets"]], wanted)
+            self.assertEqual(found["total"], total)
+
+    def test_uploads_that_are_refused(self):
+        one = sets("a", b"x")
+        for body, status, words in (
+            (b"{", 400, "no JSON"),
+            (b"[]", 400, "no object"),
+            ({"author": "A", "changes": [], "more": 1}, 400, "'more'"),
+            ({"changes": [one]}, 400, "'author'"),
+            ({"author": "A", "changes": [{**one, "base64": "?"}]}, 400, "base64"),
+            ({"author": "A", "changes": [one, one]}, 400, "again"),
+            ({"author": "A", "changes": [{**one, "kind": "pipe"}]}, 400, "kind"),
+            ({"author": "A", "changes": [{"path": "a", "change": "move"}]}, 400, "neither"),
+            ({"author": "\ud800", "changes": []}, 400, "surrogate"),
+            ({"author": "A", "changes": [one, sets("a/b", b"x")]}, 422, "lies under"),
+            ({"author": "A", "changes": [sets("a/../b", b"x")]}, 422, "refused"),
+            ({"author": "A", "changes": [{"path": "a", "change": "delete"}]}, 422, "nothing at a"),
+            ({"author": "A", "changes": [], "parent": "absent"}, 422, "no bookmark"),
+            ({"author": "A", "changes": [], "parent": "0" * 64}, 422, "the parent"),
+        ):
+            found, answer = self.fetch("POST", "/api/changeset", body)
+            self.assertEqual((found, words in answer["error"]), (status, True), (body, answer))
+
+    def test_a_clash_names_its_draft(self):
+        _, ours = self.upload(sets("a", b"ours"), parent=self.name)
+        self.upload(sets("a", b"theirs"), parent=self.name, land=self.name)
+        status, answer = self.fetch("POST", f"/api/land/{self.name}/{ours['id']}")
+        self.assertEqual((status, answer["code"], answer["left"]), (409, "clash", "a"))
+        self.assertEqual(answer["draft"], ours["id"])
+        _, other = self.upload(sets("b", b"b"), parent=self.name)
+        status, answer = self.fetch("POST", f"/api/land/{self.name}/{other['id'][:12]}")
+        self.assertEqual((status, answer["bookmark"]), (200, self.name))
+
+    def test_health(self):
+        self.assertEqual(self.got("/health")["server"], self.server)
+
+    def test_hosts_and_origins(self):
+        proxy = {"Host": "proxy.example.org"}
+        self.assertEqual(self.got("/api/server", **proxy)["url"], self.server)
+        self.got("/api/server", Host="proxy.example.org:8443")
+        self.assertEqual(self.fetch("GET", "/api/server", Host="example.org")[0], 403)
+        body = {"author": "A", "changes": []}
+        for status, headers in (
+            (403, {"Origin": "https://example.org"}),
+            (403, {"Origin": "null"}),
+            (403, {"Content_Type": "text/plain"}),
+            (200, {"Origin": "https://proxy.example.org", **proxy}),
+            (200, {}),
+        ):
+            found = self.fetch("POST", "/api/changeset", body, **headers)
+            self.assertEqual(found[0], status, (headers, found))
+        self.assertEqual(self.fetch("GET", f"/api/land/{self.name}/x")[0], 405)
+        self.assertEqual(self.fetch("POST", "/api/bookmarks")[0], 405)
+
+    def test_images_are_shown_and_run_nothing(self):
+        self.upload(sets("a.svg", b"<svg/>"), sets("b", b""), parent=self.name, land=self.name)
+        for path, kind in (("a.svg", "image/svg+xml"), ("b", "application/octet-stream")):
+            connection = http.client.HTTPConnection(self.url.hostname, self.url.port, timeout=20)
+            connection.request("GET", f"/raw/{self.name}/{path}")
+            response = connection.getresponse()
+            self.assertEqual(response.headers["Content-Type"], kind)
+            self.assertIn("sandbox", response.headers["Content-Security-Policy"])
+            connection.close()
+
+
+class Reads(GatewayCase):
+    """`browse` takes no changes."""
+
+    words = ("browse",)
+
+    def test_no_change(self):
+        status, answer = self.upload(sets("a", b""), parent=self.name)
+        self.assertEqual((status, "only reads" in answer["error"]), (403, True))
+
+
+class AtOnce(GatewayCase):
+    """One slow read stops no other."""
+
+    @classmethod
+    def setUpClass(cls) -> None:
+        super().setUpClass()
+        cls.waits = threading.Event()
+        if cls.stand_in:
+            cls.addClassCleanup(cls.waits.set)
+            cls.stand_in.service.turn = nullcontext()
+            read = cls.stand_in.service.content
+            cls.stand_in.service.content = lambda id: cls.waits.wait(20) and read(id)
+
+    def test_a_slow_read(self):
+        if not self.stand_in:
+            self.skipTest("a server that waits")
+        self.upload(sets("a", b"slow"), parent=self.name, land=self.name)
+        slow = threading.Thread(target=self.fetch, args=("GET", f"/api/file/{self.name}/a"))
+        slow.start()
+        time.sleep(0.3)
+        begun = time.monotonic()
+        self.got(f"/api/log/{self.name}")
+        self.assertTrue(slow.is_alive())
+        self.assertLess(time.monotonic() - begun, 10)
+        self.waits.set()
+        slow.join(20)
+        self.assertFalse(slow.is_alive())
+
+
+class Down(GatewayCase):
+    """A server that is gone."""
+
+    def test_health(self):
+        if not self.stand_in:
+            self.skipTest("a server that ends")
+        self.stand_in.shutdown()
+        self.stand_in.server_close()
+        status, answer = self.fetch("GET", "/health")
+        self.assertEqual((status, answer["status"]), (503, "down"))
+
+    def setUp(self) -> None:
+        Case.setUp(self)

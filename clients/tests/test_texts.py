@@ -1,0 +1,62 @@
+"""Diffs of texts and their merges, against git's."""
+
+from __future__ import annotations
+
+import io
+import random
+import subprocess
+from contextlib import redirect_stdout
+
+from jarrah_client.output import Output
+from jarrah_client.text_diff import by_lines, merged, unified
+
+from .harness import Case
+from .test_working import LINES, with_line
+
+
+class Texts(Case):
+    """Diffs, and the merge of three texts by git and by difflib."""
+
+    def test_diffs_are_those_of_git(self):
+        chooser = random.Random(5)
+        for _ in range(20):
+            lines = [b"%d\n" % chooser.randrange(12) for _ in range(chooser.randrange(40))]
+            old = b"".join(lines)
+            for _ in range(chooser.randrange(1, 4)):
+                if lines:
+                    del lines[chooser.randrange(len(lines))]
+                lines.insert(chooser.randrange(len(lines) + 1), b"new %d\n" % chooser.randrange(9))
+            new = b"".join(lines) + chooser.choice([b"", b"no end"])
+            patch = "".join(f"{line}\n" for line in unified("file", old, new))
+            (self.folder / "file").write_bytes(old)
+            words = ["git", "apply", "--unsafe-paths", "--whitespace=nowarn", "-"]
+            subprocess.run(words, input=patch.encode(), cwd=self.folder, check=True)
+            self.assertEqual((self.folder / "file").read_bytes(), new)
+
+    def test_colours(self):
+        lines = list(unified("p", b"a\n", b"b\n", colours=True))
+        wanted = ["\x1b[1m--- a/p\x1b[0m", "\x1b[1m+++ b/p\x1b[0m", "\x1b[36m@@ -1 +1 @@\x1b[0m"]
+        self.assertEqual(lines, [*wanted, "\x1b[31m-a\x1b[0m", "\x1b[32m+b\x1b[0m"])
+        out = io.StringIO()
+        with redirect_stdout(out):
+            Output(False).painted("\x1b[32m+\x1b[2J\x1b[0m")
+            self.assertFalse(Output(False).has_colours)
+        self.assertEqual(out.getvalue(), "\x1b[32m+\\x1b[2J\x1b[0m\n")
+
+    def test_by_lines(self):
+        names = ("here", "there")
+        for ours, theirs in (
+            (with_line(2, b"ours"), with_line(15, b"theirs")),
+            (LINES + b"ours\n", with_line(0, b"theirs")),
+            (LINES.replace(b"line 5\n", b""), b"theirs\n" + LINES),
+            (LINES, with_line(3, b"theirs")),
+            (b"", LINES),
+        ):
+            found = by_lines(LINES, ours, theirs, names)
+            self.assertEqual(found, merged(LINES, ours, theirs, names), ours)
+            self.assertTrue(found[1])
+        found, clean = by_lines(LINES, with_line(4, b"ours"), with_line(4, b"theirs"), names)
+        self.assertFalse(clean)
+        marks = b"<<<<<<< here\nours\n=======\ntheirs\n>>>>>>> there\n"
+        self.assertEqual(found, LINES.replace(b"line 4\n", marks))
+        self.assertEqual(merged(b"\0", b"\1\0", b"\2\0", names), (b"\1\0", False))
