@@ -1,12 +1,13 @@
 //! The bytes of a journal, an append that a crash stops, and disks that fail.
-ghost use Rattle.std.specs.Prelude.{◌≡◌, ◌<◌, ◌^◌, false, length, IfOk, IsTrue};
+ghost use Rattle.std.specs.Prelude.{◌≡◌, ◌+◌, ◌≤◌, ◌<◌, ◌^◌, false, length, IfOk, IsTrue, OnOk};
 ghost use Rattle.disk_model.specs.Meaning.{IsLong};
 ghost use Rattle.history_model.specs.Journal.{is_header};
+ghost use Rattle.repo_journal.specs.Groups.{IsGroup, grown};
 ghost use Rattle.repo_journal.specs.Sealing.{IsFramed};
 
 use crate::rows::same;
 use blob_disk::{CallKind, Disk, MemDisk};
-use repo_journal::{AppendFault, Journal, Opening, init};
+use repo_journal::{AppendFault, DiskFault, Journal, Opening, init};
 use std::alloc::{AllocError, Global};
 use std::process::Abort;
 use std::test::Fail;
@@ -18,7 +19,11 @@ const FRESH: &[u8] = b"BONSAI\x00\x01\x00\x00\x00\x00\x00\x01\x00\x00\x00";
 const WITH_ABC: &[u8] =
     b"BONSAI\x00\x01\x00\x00\x00\x00\x00\x01\x00\x00\x01\x00\x00\x00\x04Babc\x00";
 
-// What both begin with.
+// The same once the contents `abc` and `de` were sealed together.
+const WITH_BOTH: &[u8] =
+    b"BONSAI\x00\x01\x00\x00\x00\x00\x00\x01\x00\x00\x01\x00\x00\x00\x04Babc\x01\x00\x00\x00\x03Bde\x00";
+
+// What all begin with.
 const HEADER: &[u8] = b"BONSAI\x00\x01\x00\x00\x00\x00\x00\x01\x00\x00";
 
 const AT_START: Opening = Opening {
@@ -63,7 +68,7 @@ fn fresh_disk(alloc: Global, failing: Vec<(CallKind, u64)>) -> Result<MemDisk, A
 fn new_repository(alloc: Global, fails: Option<(CallKind, u64)>) -> Result<Repository, AllocError> {
     let failing = failing(alloc, fails)?;
     let disk = fresh_disk(alloc, failing)?;
-    let journal = Journal::new(65_536, 17, AT_START);
+    let journal = Journal::new(alloc, 65_536, 17, AT_START);
     Ok(Repository { disk, journal })
 }
 
@@ -81,7 +86,7 @@ fn make_file<D: Disk>(disk: &mut D, capacity: u64) -> Result<(), Fail>
 fn small(alloc: Global) -> Result<Repository, Fail> {
     let mut disk = empty_disk(alloc, 8_192)?;
     make_file(&mut disk, 4_096)?;
-    let journal = Journal::new(4_096, 17, AT_START);
+    let journal = Journal::new(alloc, 4_096, 17, AT_START);
     Ok(Repository { disk, journal })
 }
 
@@ -150,10 +155,10 @@ fn left(disk: MemDisk, fill: Option<u8>) -> MemDisk {
     }
 }
 
-// `+` where the file has the record of `abc`, whose gate is open, and `-` where it has no record. Else it is no journal.
-fn mark_of(disk: &MemDisk) -> char {
+// `+` where the file has all that was appended, whose gate is open, and `-` where it has no record. Else it is no journal.
+fn mark_of(disk: &MemDisk, whole: &[u8]) -> char {
     let file = disk.bytes();
-    if file.starts_with(WITH_ABC) {
+    if file.starts_with(whole) {
         return '+';
     }
     if file.starts_with(HEADER) && file.len() > 16 && file[16] != 1 {
@@ -195,7 +200,7 @@ fn stopped_after(
     for fill in FILLS {
         let mut disk = new_repository(rt.alloc(), None)?.disk;
         calls_of_append(rt, &mut disk, frame, calls);
-        told.push(mark_of(&left(disk, fill)))?;
+        told.push(mark_of(&left(disk, fill), WITH_ABC))?;
     }
     Ok(told)
 }
@@ -311,7 +316,7 @@ fn failed_at(
     let mut told = String::new(rt.alloc());
     for fill in FILLS {
         let repo = broken(rt, fails)?;
-        told.push(mark_of(&left(repo.disk, fill)))?;
+        told.push(mark_of(&left(repo.disk, fill), WITH_ABC))?;
     }
     Ok(told)
 }
@@ -343,6 +348,117 @@ fn a_record_fits_or_not(rt: HostRuntime) -> Result<(), Fail> {
         let mut repo = small(rt.alloc())?;
         let told = appended(&rt, &mut repo, &payload)?;
         same(&rt, told.as_str(), wanted, "to the last byte");
+    }
+    Ok(())
+}
+
+// A record more that waits.
+fn hold(journal: &mut Journal, frame: &[u8]) -> Result<(), AllocError>
+    ensures same { journal.new ≡ record journal.old { pending = journal.new.pending } }
+    ensures bytes { OnOk result (journal.new.pending.bytes ≡ grown journal.old.pending.bytes frame.now) }
+{
+    journal.reserve(frame.len())?;
+    journal.hold(frame);
+    Ok(())
+}
+
+// A journal of a new file of capacity 65,536, in which two records wait.
+fn holding(alloc: Global, first: &[u8], second: &[u8]) -> Result<Journal, AllocError>
+    requires first { IsFramed first.now }
+    requires second { IsFramed second.now }
+    ensures size { IfOk result (λ journal. journal.size ≡ 17) }
+    ensures capacity { IfOk result (λ journal. journal.capacity ≡ 65_536) }
+    ensures whole { IfOk result (λ journal. journal.broken ≡ false) }
+    ensures group { IfOk result (λ journal. IsGroup journal.pending.bytes) }
+    ensures len { IfOk result (λ journal. length journal.pending.bytes ≡ length first.now + length second.now) }
+{
+    let mut journal = Journal::new(alloc, 65_536, 17, AT_START);
+    hold(&mut journal, first)?;
+    hold(&mut journal, second)?;
+    Ok(journal)
+}
+
+fn seal_in<D: Disk>(disk: &mut D, journal: &mut Journal) -> Result<(), DiskFault>
+    requires whole { journal.old.broken ≡ false }
+    requires group { IsGroup journal.old.pending.bytes }
+    requires fits { journal.old.size + length journal.old.pending.bytes ≤ journal.old.capacity }
+    requires long { IsLong (D.meaning disk.old).reads journal.old.size }
+{
+    journal.seal(disk)
+}
+
+// Seals both, on a new file one of whose calls may be to fail: the answer.
+fn seal_frames(
+    rt: &(impl Abort + Alloc<A = Global>),
+    disk: &mut MemDisk,
+    first: &[u8],
+    second: &[u8],
+) -> Result<String, AllocError>
+    requires first { IsFramed first.now }
+    requires second { IsFramed second.now }
+{
+    let mut journal = holding(rt.alloc(), first, second)?;
+    assert!(rt; first.len() < 5_000 && second.len() < 5_000);
+    assert!(rt; disk.bytes().len() >= 17);
+    let answer = seal_in(disk, &mut journal);
+    format!(in rt.alloc(); "{answer:?} {}", journal.size())
+}
+
+fn seal_both(
+    rt: &(impl Abort + Alloc<A = Global>),
+    disk: &mut MemDisk,
+) -> Result<String, AllocError> {
+    let first = frame_of(rt.alloc(), b"Babc")?;
+    let second = frame_of(rt.alloc(), b"Bde")?;
+    seal_frames(rt, disk, &first, &second)
+}
+
+fn check_sealed(rt: &impl Abort, disk: &MemDisk) {
+    assert_eq!(rt; disk.bytes(), WITH_BOTH);
+    assert_eq!(rt; disk.calls(CallKind::Write), 2);
+    assert_eq!(rt; disk.calls(CallKind::Sync), 2);
+}
+
+#[test]
+fn two_records_are_sealed_with_two_syncs(rt: HostRuntime) -> Result<(), Fail> {
+    let mut disk = new_repository(rt.alloc(), None)?.disk;
+    let told = seal_both(&rt, &mut disk)?;
+    same(&rt, told.as_str(), "Ok(()) 34", "two that waited");
+    check_sealed(&rt, &disk);
+    Ok(())
+}
+
+// Whether the file has both, by fills, where this call of their sealing fails.
+fn unsealed_at(
+    rt: &(impl Abort + Alloc<A = Global>),
+    fails: (CallKind, u64),
+) -> Result<String, AllocError> {
+    let mut told = String::new(rt.alloc());
+    for fill in FILLS {
+        let mut disk = new_repository(rt.alloc(), Some(fails))?.disk;
+        let answer = seal_both(rt, &mut disk)?;
+        same(
+            rt,
+            answer.as_str(),
+            "Err(DiskFault) 17",
+            "a seal that failed",
+        );
+        told.push(mark_of(&left(disk, fill), WITH_BOTH))?;
+    }
+    Ok(told)
+}
+
+// Each of the four calls fails once: the file has both records or none.
+#[test]
+fn a_failed_seal_leaves_all_or_none(rt: HostRuntime) -> Result<(), Fail> {
+    for (fails, wanted) in [
+        ((CallKind::Write, 0), "----"),
+        ((CallKind::Sync, 0), "----"),
+        ((CallKind::Write, 1), "--+-"),
+        ((CallKind::Sync, 1), "+-+-"),
+    ] {
+        let told = unsealed_at(&rt, fails)?;
+        same(&rt, told.as_str(), wanted, "a call that failed");
     }
     Ok(())
 }

@@ -84,6 +84,7 @@ module _ (a b c : Meaning) (size moment faults : ℕ) (begun : HasBegun size mom
     capacity_is = refl;
     size_is = refl;
     whole = refl;
+    settled = refl;
     length_is = refl;
     begun = (let e = begun.moment_is in let l = after.kept.later in omega arith);
     counted = (let e = begun.faults_is in let l = after.faults.grows in omega arith);

@@ -1,16 +1,18 @@
 -- Files of records and the histories that they stand for.
-use Rattle.std.proofs.Common.{◌≡◌, ◌≢◌, ℕ, suc, ◌-◌, cond, List, [], ◌∷◌, ◌++◌, length, map, take, drop, refl, sym, ap, subst, ◌∙◌, arith, append_assoc}
-use Rattle.std.specs.Prelude.{slice_index, sum_by, filter, IsTrue}
-use Rattle.std.proofs.lemmas.List.{length-append, map-append}
-use Rattle.std.proofs.lemmas.List.Sums.{sum_by-cons}
-use Rattle.std.proofs.lemmas.List.Elements.{filter-append}
+use Rattle.std.proofs.Common.{◌≡◌, ◌≢◌, ℕ, suc, ◌+◌, ◌-◌, cond, List, [], ◌∷◌, ◌++◌, length, take, drop, refl, sym, ap, subst, ◌∙◌, arith, append_assoc, append-nil}
+use Rattle.std.specs.Prelude.{slice_index, sum_by, IsTrue}
+use Rattle.std.proofs.lemmas.List.{length-append}
+use Rattle.std.proofs.lemmas.List.Sums.{sum_by-cons, sum_by-append}
 use Rattle.std.proofs.Math.Seq.{take-append_seam, get_or-append_seam}
 use Rattle.history_model.specs.History.{Body, Content, Change, Book, Land, Fault, Entry, bodies, is_stored}
 use Rattle.history_model.specs.Journal.{Header, IsPayload, HoldsRecords, Stands, header_bytes, is_header, open_record, payload_len, record_len, size}
+use Rattle.reply_model.proofs.Histories.{bodies-append}
 use Rattle.blob_disk.proofs.Torn.{split}
 use Rattle.repo_journal.specs.Payloads.{ArePayloads, records}
 use Rattle.repo_journal.specs.Sealing.{AddsRecord, IsClosed, KeepsRecords}
+use Rattle.repo_journal.specs.Groups.{group, AddsGroup}
 use Rattle.repo_journal.proofs.Files.{length-open_record}
+use Rattle.repo_journal.proofs.Groups.{before_gate, records-append}
 
 -- records, and behind them a gate that isn't open
 pub record HasRecords (bodies : List Body) (bytes : List ℕ) : Type 0 where
@@ -111,34 +113,47 @@ keeps_stands header h before image stands kept =
     parts ∙ ap (λ xs. xs ++ slice_index image at ∷ drop (suc at) image) (kept.front ∙ shape.front) ∙ append_assoc (header_bytes header) (records shape.payloads) (slice_index image at ∷ drop (suc at) image) in
     subst (λ xs. Stands header xs h) (sym whole) (stands_for header h shape.payloads (slice_index image at) (drop (suc at) image) stands.0 shape.are kept.closed.gate)
 
--- ---- one more
+-- ---- more entries
 
-bodies-push : (h : List Entry) (entry : Entry) → IsTrue (is_stored entry.body) → bodies (h ++ entry ∷ []) ≡ bodies h ++ entry.body ∷ []
-bodies-push h entry stored =
-    ap (λ bs. filter is_stored bs) (map-append (λ (e : Entry). e.body) h (entry ∷ []))
-    ∙ filter-append is_stored (map (λ (e : Entry). e.body) h) (entry.body ∷ [])
-    ∙ ap (λ b. bodies h ++ cond b (entry.body ∷ []) []) stored
+pub are_payloads-append : (cs bs : List Body) (ps qs : List (List ℕ)) → ArePayloads cs ps → ArePayloads bs qs → ArePayloads (cs ++ bs) (ps ++ qs)
+are_payloads-append [] bs [] qs first next = next
+are_payloads-append [] bs (p ∷ ps) qs first next = absurd first
+are_payloads-append (c ∷ cs) bs [] qs first next = absurd first
+are_payloads-append (c ∷ cs) bs (p ∷ ps) qs first next = (first.0, are_payloads-append cs bs ps qs first.1 next)
 
-are_payloads-push : (bs : List Body) (payloads : List (List ℕ)) (body : Body) (payload : List ℕ) → ArePayloads bs payloads → IsPayload body payload → ArePayloads (bs ++ body ∷ []) (payloads ++ payload ∷ [])
-are_payloads-push [] [] body payload are is = (is, tt)
-are_payloads-push [] (p ∷ ps) body payload are is = absurd are
-are_payloads-push (b ∷ bs) [] body payload are is = absurd are
-are_payloads-push (b ∷ bs) (p ∷ ps) body payload are is = (are.0, are_payloads-push bs ps body payload are.1 is)
+-- the gate is open, and the group stands behind it
+group_opened : (payload : List ℕ) (payloads : List (List ℕ)) (rest : List ℕ) → 1 ∷ (group (payload ∷ payloads) ++ rest) ≡ records (payload ∷ payloads) ++ 0 ∷ rest
+group_opened payload payloads rest = ap (λ xs. 1 ∷ xs) (append_assoc (before_gate payload payloads) (0 ∷ []) rest)
 
-records-push : (payloads : List (List ℕ)) (payload xs : List ℕ) → records (payloads ++ payload ∷ []) ++ xs ≡ records payloads ++ (open_record payload ++ xs)
-records-push [] payload xs = append_assoc (open_record payload) [] xs
-records-push (p ∷ ps) payload xs =
-    append_assoc (open_record p) (records (ps ++ payload ∷ [])) xs
-    ∙ ap (λ ys. open_record p ++ ys) (records-push ps payload xs)
-    ∙ sym (append_assoc (open_record p) (records ps) (open_record payload ++ xs))
+-- a file with the payloads of all
+adds_all : (header : Header) (h g : List Entry) (ps : List (List ℕ)) (before image rest : List ℕ) → Stands header before h → ArePayloads (bodies g) ps → image ≡ take (size h - 1) before ++ (records ps ++ 0 ∷ rest) → Stands header image (h ++ g)
+adds_all header h g ps before image rest stands are is =
+    let shape = shape_of header h before stands in
+    let whole : image ≡ header_bytes header ++ (records (shape.payloads ++ ps) ++ 0 ∷ rest) =
+    is
+    ∙ ap (λ xs. xs ++ (records ps ++ 0 ∷ rest)) shape.front
+    ∙ append_assoc (header_bytes header) (records shape.payloads) (records ps ++ 0 ∷ rest)
+    ∙ ap (λ xs. header_bytes header ++ xs) (sym (append_assoc (records shape.payloads) (records ps) (0 ∷ rest)) ∙ ap (λ xs. xs ++ 0 ∷ rest) (sym (records-append shape.payloads ps))) in
+    let all = subst (λ bs. ArePayloads bs (shape.payloads ++ ps)) (sym (bodies-append h g)) (are_payloads-append (bodies h) (bodies g) shape.payloads ps shape.are are) in
+    subst (λ xs. Stands header xs (h ++ g)) (sym whole) (stands_for header (h ++ g) (shape.payloads ++ ps) 0 rest stands.0 all (λ one. omega arith))
 
+pub group_stands : (header : Header) (h g : List Entry) (payload : List ℕ) (payloads : List (List ℕ)) (before image : List ℕ) → Stands header before h → ArePayloads (bodies g) (payload ∷ payloads) → AddsGroup (size h) (group (payload ∷ payloads)) before image → Stands header image (h ++ g)
+group_stands header h g payload payloads before image stands are added =
+    adds_all header h g (payload ∷ payloads) before image added.rest stands are (added.is ∙ ap (λ xs. take (size h - 1) before ++ xs) (group_opened payload payloads added.rest))
+
+-- one more
 pub adds_stands : (header : Header) (h : List Entry) (entry : Entry) (payload before image : List ℕ) → Stands header before h → IsTrue (is_stored entry.body) → IsPayload entry.body payload → AddsRecord (size h) payload before image → Stands header image (h ++ entry ∷ [])
 adds_stands header h entry payload before image stands stored is added =
-    let shape = shape_of header h before stands in
-    let whole : image ≡ header_bytes header ++ (records (shape.payloads ++ payload ∷ []) ++ 0 ∷ added.rest) =
-    added.is
-    ∙ ap (λ xs. xs ++ (open_record payload ++ 0 ∷ added.rest)) shape.front
-    ∙ append_assoc (header_bytes header) (records shape.payloads) (open_record payload ++ 0 ∷ added.rest)
-    ∙ ap (λ xs. header_bytes header ++ xs) (sym (records-push shape.payloads payload (0 ∷ added.rest))) in
-    let are = subst (λ bs. ArePayloads bs (shape.payloads ++ payload ∷ [])) (sym (bodies-push h entry stored)) (are_payloads-push (bodies h) shape.payloads entry.body payload shape.are is) in
-    subst (λ xs. Stands header xs (h ++ entry ∷ [])) (sym whole) (stands_for header (h ++ entry ∷ []) (shape.payloads ++ payload ∷ []) 0 added.rest stands.0 are (λ one. omega arith))
+    let one : bodies (entry ∷ []) ≡ entry.body ∷ [] = (λ i. cond (stored i) (entry.body ∷ []) []) in
+    let are = subst (λ bs. ArePayloads bs (payload ∷ [])) (sym one) (is, tt) in
+    adds_all header h (entry ∷ []) (payload ∷ []) before image added.rest stands are
+    (added.is ∙ ap (λ xs. take (size h - 1) before ++ (xs ++ 0 ∷ added.rest)) (sym (append-nil (open_record payload))))
+
+-- the file is as much longer as the group is long
+pub group_size : (h g : List Entry) (payload : List ℕ) (payloads : List (List ℕ)) → ArePayloads (bodies g) (payload ∷ payloads) → size (h ++ g) ≡ size h + length (group (payload ∷ payloads))
+group_size h g payload payloads are =
+    let all = ap (λ bs. sum_by record_len bs) (bodies-append h g) in
+    let split = sum_by-append record_len (bodies h) (bodies g) in
+    let this = length-records (bodies g) (payload ∷ payloads) are in
+    let gate = length-append (before_gate payload payloads) (0 ∷ []) in
+    omega arith

@@ -1,5 +1,6 @@
 //! The journal of a repository: one file of records, each with a gate that is opened once the record is on the disk.
-//! So a crash at any moment leaves the records before an append, or those and the new one.
+//! So a crash at any moment leaves the records before an append, or those and all new ones. Records may wait in memory, and
+//! are then sealed together.
 #![tactic(auto)]
 
 mod block;
@@ -9,6 +10,7 @@ pub mod header;
 pub mod journal;
 pub mod laws;
 pub mod opening;
+pub mod pending;
 mod records;
 pub mod scanner;
 mod seal;
@@ -20,6 +22,7 @@ pub use fault::{AppendFault, DiskFault, InitFault, ScanFault};
 pub use header::{EMPTY_SIZE, FIRST_GATE, LEAST_CAPACITY, MARK, MOST_CAPACITY};
 pub use journal::Journal;
 pub use opening::Opening;
+pub use pending::Pending;
 pub use scanner::Scanner;
 pub use span::Span;
 pub use step::Step;

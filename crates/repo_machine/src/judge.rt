@@ -1,5 +1,5 @@
 //! Judging any change.
-ghost use Rattle.std.specs.Prelude.{◌≡◌, IfOk, IfErr};
+ghost use Rattle.std.specs.Prelude.{◌≡◌, ◌≤◌, IfOk, IfErr};
 ghost use Rattle.reply_model.specs.Reply as reply;
 ghost use Rattle.reply_model.specs.Legal.{IsLegal};
 ghost use Rattle.repo_calls.specs.Calls.{ask_seen};
@@ -21,6 +21,7 @@ impl Machine {
         ensures err { IfErr result (IsRefusal (reply.judge self.old.header self.old.history (ask_seen ask.now))) }
         ensures header { self.new.header ≡ self.old.header }
         ensures history { self.new.history ≡ self.old.history }
+        ensures keeps { self.old.room.entries ≤ self.new.room.entries }
         ensures legal { IsLegal self.old.header self.old.history }
     {
         self.check_up()?;

@@ -63,6 +63,7 @@ impl Machine {
         ensures err { IfErr result (IsRefusal (judge self.old.header self.old.history (asked_by prepared.entry))) }
         ensures header { self.new.header ≡ self.old.header }
         ensures history { self.new.history ≡ self.old.history }
+        ensures keeps { self.old.room.entries ≤ self.new.room.entries }
         ensures legal { IsLegal self.old.header self.old.history }
     {
         let Prepared { ask, ready } = prepared;

@@ -1,6 +1,8 @@
 pub mod Chains
 pub mod Stands
 pub mod Leaving
+pub mod GroupParts
+pub mod GroupLeaving
 pub mod Sounds
 pub mod Contents
 pub mod Changes

@@ -6,6 +6,7 @@ pub mod derived;
 pub mod exchange;
 pub mod exchanged;
 pub mod fill;
+pub mod group_images;
 pub mod landing_laws;
 pub mod laws;
 pub mod look;

@@ -181,7 +181,7 @@ impl<D: Disk> RepoState<D> {
         let Some(place) = self.machine.content_place(&id) else {
             return Err(AskFault::NoContent { id });
         };
-        if self.machine.room().is_err() {
+        if self.machine.room(1).is_err() {
             return Err(AskFault::Memory);
         }
         let Ok(bytes) = vec![in alloc; 0; place.length as usize] else {

@@ -1,0 +1,31 @@
+//! Laws of what a crash may leave of a file where the last entries wait to be sealed together, each the contract of a
+//! function that does nothing.
+ghost use Rattle.std.specs.Prelude.{◌≡◌, ◌+◌, ◌≤◌, ℕ, IsTrue, List, [], ◌∷◌, ◌++◌, length, drop, true, false};
+ghost use Rattle.disk_model.specs.Images.{IsImage};
+ghost use Rattle.disk_model.specs.Meaning.{Meaning};
+ghost use Rattle.disk_model.specs.Calls.{Kept};
+ghost use Rattle.history_model.specs.History.{Fault, Entry, bodies, is_down, is_stored};
+ghost use Rattle.history_model.specs.Journal.{Header, IsPayload, framed, size};
+ghost use Rattle.repo_journal.specs.Payloads.{ArePayloads};
+ghost use Rattle.repo_journal.specs.Groups.{group, grown, AppendsGroup, IsWith};
+ghost use Rattle.repo_state.specs.GroupImages.{sealed_part, IsPending, Leaves};
+
+/// What waits to be sealed: nothing at first, one record more with each entry, and the file and it have the size of the history.
+pub fn what_waits()
+    ensures none { (h : List Entry) → IsPending h (length (bodies h)) [] }
+    ensures more { (h : List Entry) (n : ℕ) (bytes payload : List ℕ) (entry : Entry) → IsTrue (is_stored entry.body) → IsPayload entry.body payload → IsPending h n bytes → IsPending (h ++ entry ∷ []) n (grown bytes (framed payload)) }
+    ensures sizes { (h : List Entry) (n : ℕ) (bytes : List ℕ) → IsPending h n bytes → size h ≡ size (sealed_part n h) + length bytes }
+{}
+
+/// What a crash may leave is kept over an entry that waits, over a group that is sealed, and over one whose sealing fails.
+pub fn a_group_keeps_what_a_crash_leaves()
+    ensures entered { (header : Header) (k moment : ℕ) (h : List Entry) (n : ℕ) (e : Entry) (first m : Meaning) → n ≤ length (bodies h) → is_down h ≡ false → Leaves header k moment h n first m → Leaves header k moment (h ++ e ∷ []) n first m }
+    ensures sealed { (header : Header) (k moment : ℕ) (h : List Entry) (n : ℕ) (payload : List ℕ) (payloads : List (List ℕ)) (first m new : Meaning) → moment ≤ first.moment → Kept first m → k ≤ n → n ≤ length (bodies h)
+        → is_down h ≡ false → ArePayloads (drop n (bodies h)) (payload ∷ payloads)
+        → AppendsGroup (size (sealed_part n h)) (group (payload ∷ payloads)) m new → ((image : List ℕ) → IsImage new.state image → IsWith m.state (size (sealed_part n h)) (group (payload ∷ payloads)) image)
+        → Leaves header k moment h n first m → Leaves header k moment h (length (bodies h)) first new }
+    ensures failed { (header : Header) (k moment : ℕ) (h : List Entry) (n who : ℕ) (payload : List ℕ) (payloads : List (List ℕ)) (first m new : Meaning) → moment ≤ first.moment → Kept first m → k ≤ n → n ≤ length (bodies h)
+        → is_down h ≡ false → is_down (h ++ record { who = who; body = Fault true } ∷ []) ≡ true → ArePayloads (drop n (bodies h)) (payload ∷ payloads)
+        → AppendsGroup (size (sealed_part n h)) (group (payload ∷ payloads)) m new
+        → Leaves header k moment h n first m → Leaves header k moment (h ++ record { who = who; body = Fault true } ∷ []) n first new }
+{}
