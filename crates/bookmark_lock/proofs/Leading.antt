@@ -10,18 +10,21 @@ use native.Mathlib.Decide.{ℕ_discrete}
 use lib.ListN.{get_elem?}
 use Rattle.atomic_table.specs.Table.{State, Me, keeps, step, Allows, Splits, Joins, Final, Seen, opening as opened_table}
 use Rattle.atomic_table.proofs.Lists.{at_set, at_map, set_else, at_longer, at_snoc}
-use Rattle.history_model.specs.History.{Entry}
+use Rattle.history_model.specs.History.{Entry, is_down}
 use Rattle.bookmark_lock.specs.Opening.{Opening}
 use Rattle.bookmark_lock.specs.Members.{Member, lead_member, drawing, settling}
 use Rattle.bookmark_lock.specs.Roster.{Fits, Roster}
-use Rattle.bookmark_lock.specs.Turns.{Ended}
+use Rattle.bookmark_lock.specs.Turns.{Ended, stored_length}
+use Rattle.bookmark_lock.specs.Turning.{Turn}
+use Rattle.bookmark_lock.specs.Waiting.{Waits}
+use Rattle.bookmark_lock.proofs.Waitings.{waits_like, waits_more, waits_merged, none_waits}
 use Rattle.bookmark_lock.specs.Rule.{view_of, member_of, IsHome, IsOut, Kept, first_view, drew, settled, fork_left, fork_right, merge_both, spent_view}
 use Rattle.bookmark_lock.specs.declared.view.View.{View}
 use Rattle.bookmark_lock.proofs.Entries.{all_prefix}
 use Rattle.byte_fields.proofs.Lists.{prefix_self}
 use Rattle.bookmark_lock.proofs.Leads.{only_is, only_apart, fits_here, drawn_p, few_p, behind_p, recorded_p, roster_counting, roster_forking, roster_merging, lead_alone, front_whole}
 
-module _ {T : Type 0} (history : T → List Entry) (opening : T → Opening) (first : T) where
+module _ {T : Type 0} (history : T → List Entry) (opening : T → Opening) (sealed : T → ℕ) (first : T) where
   abbrev St : Type 0
   St = State (Option T) View
 
@@ -29,25 +32,29 @@ module _ {T : Type 0} (history : T → List Entry) (opening : T → Opening) (fi
   Sat = Me (Option T) View
 
   abbrev Rule : St → Type 0
-  Rule = Kept history opening first
+  Rule = Kept history opening sealed first
 
-  abbrev Turning : List Entry → St → Type 0
-  Turning log s = IsHome history opening log (opening first) s ⊎ IsOut log s
+  abbrev Turning : List Entry → ℕ → St → Type 0
+  Turning log n s = IsHome history opening sealed log n (opening first) s ⊎ IsOut log n s
+
+  abbrev turn_at : List Entry → ℕ → Turn
+  turn_at log n = record { log = log; sealed = n }
 
   -- who has no turn may change, come and go
-  turn_stays : (s : St) (log : List Entry) (words : List ℕ) (views : List View) → Turning log s → get_or words 0 0 ≡ get_or s.words 0 0
+  turn_stays : (s : St) (log : List Entry) (n : ℕ) (words : List ℕ) (views : List View) → Turning log n s → get_or words 0 0 ≡ get_or s.words 0 0
       → ((j : ℕ) (u : View) → get_elem? views j ≡ some u → (u.turn ≡ None) ⊎ (get_elem? s.views j ≡ some u))
-      → ((j : ℕ) (u : View) → get_elem? s.views j ≡ some u → u.turn ≡ Some log → get_elem? views j ≡ some u)
-      → Turning log record { words = words; homes = s.homes; views = views }
-  turn_stays s log words views (inl h) word back kept = inl (record {
+      → ((j : ℕ) (u : View) → get_elem? s.views j ≡ some u → u.turn ≡ Some (turn_at log n) → get_elem? views j ≡ some u)
+      → Turning log n record { words = words; homes = s.homes; views = views }
+  turn_stays s log n words views (inl h) word back kept = inl (record {
     free = word ∙ h.free;
     value = h.value;
     home = h.home;
     shows = h.shows;
+    seals = h.seals;
     opened = h.opened;
     nobody = λ j u e. ⊎_elim (λ (n : u.turn ≡ None). n) (λ (f : get_elem? s.views j ≡ some u). h.nobody j u f) (back j u e);
   })
-  turn_stays s log words views (inr o) word back kept = inr (record {
+  turn_stays s log n words views (inr o) word back kept = inr (record {
     busy = word ∙ o.busy;
     holder = o.holder;
     view = o.view;
@@ -57,16 +64,16 @@ module _ {T : Type 0} (history : T → List Entry) (opening : T → Opening) (fi
     others = λ j u away e. ⊎_elim (λ (n : u.turn ≡ None). n) (λ (f : get_elem? s.views j ≡ some u). o.others j u away f) (back j u e);
   })
 
-  has_none : (v : View) (x : List Entry) → v.turn ≡ None → v.turn ≡ Some x → ⊥
+  has_none : (v : View) (x : Turn) → v.turn ≡ None → v.turn ≡ Some x → ⊥
   has_none v x idle has = cc (idle, has)
 
   -- one view without the turn becomes another
   back_set : (views : List View) (id : ℕ) (w : View) → w.turn ≡ None → (j : ℕ) (u : View) → get_elem? (set views id w) j ≡ some u → (u.turn ≡ None) ⊎ (get_elem? views j ≡ some u)
   back_set views id w idle j u e = ⊎_elim (λ (t : (j ≡ id) × (w ≡ u)). inl (subst (λ (x : View). x.turn ≡ None) t.1 idle)) (λ (t : (j ≢ id) × (get_elem? views j ≡ some u)). inr t.1) (at_set views id j w u e)
 
-  kept_set : (log : List Entry) (views : List View) (id : ℕ) (v w : View) → get_elem? views id ≡ some v → v.turn ≡ None → (j : ℕ) (u : View) → get_elem? views j ≡ some u → u.turn ≡ Some log → get_elem? (set views id w) j ≡ some u
-  kept_set log views id v w at idle j u e has = dite (ℕ_discrete j id)
-      (λ is. let same : u ≡ v = some-injective u v (sym e ∙ (ap (λ (n : ℕ). get_elem? views n) is ∙ at)) in absurd (has_none u log (ap (λ (x : View). x.turn) same ∙ idle) has))
+  kept_set : (turn : Turn) (views : List View) (id : ℕ) (v w : View) → get_elem? views id ≡ some v → v.turn ≡ None → (j : ℕ) (u : View) → get_elem? views j ≡ some u → u.turn ≡ Some turn → get_elem? (set views id w) j ≡ some u
+  kept_set turn views id v w at idle j u e has = dite (ℕ_discrete j id)
+      (λ is. let same : u ≡ v = some-injective u v (sym e ∙ (ap (λ (n : ℕ). get_elem? views n) is ∙ at)) in absurd (has_none u turn (ap (λ (x : View). x.turn) same ∙ idle) has))
       (λ other. set_else views id j w other ∙ e)
 
   Words : List ℕ → List ℕ → Type 0
@@ -74,12 +81,16 @@ module _ {T : Type 0} (history : T → List Entry) (opening : T → Opening) (fi
 
   -- the lead's counts change
   counts_change : (s : St) (k : Rule s) (id : ℕ) (v w : View) (words : List ℕ) → Words s.words words → get_elem? s.views id ≡ some v → v.turn ≡ None → w.turn ≡ None
+      → w.member.spent ≡ v.member.spent → w.member.post.unsealed ≡ v.member.post.unsealed → w.member.post.sealed ≡ v.member.post.sealed
       → Roster k.log (opening first) (get_or s.words 1 0) (get_or words 2 0) (set (map member_of s.views) id w.member) → Rule record { words = words; homes = s.homes; views = set s.views id w }
   unfolding Words
-  counts_change s k id v w words same at idle idle' roster = record {
+  counts_change s k id v w words same at idle idle' spent unsealed told roster = record {
     log = k.log;
+    sealed_count = k.sealed_count;
+    waits = subst (λ (ms : List Member). Waits k.log k.sealed_count ms) (sym (map-set member_of s.views id w))
+        (waits_like k.log k.sealed_count (map member_of s.views) id v.member w.member k.waits (at_map member_of s.views id v at) spent unsealed told);
     wide = same.0 ∙ k.wide;
-    turn = turn_stays s k.log words (set s.views id w) k.turn same.1 (back_set s.views id w idle') (kept_set k.log s.views id v w at idle);
+    turn = turn_stays s k.log k.sealed_count words (set s.views id w) k.turn same.1 (back_set s.views id w idle') (kept_set (turn_at k.log k.sealed_count) s.views id v w at idle);
     roster = subst (λ (x : ℕ × List Member). Roster k.log (opening first) x.0 (get_or words 2 0) x.1) (λ i. (sym same.2 i, sym (map-set member_of s.views id w) i)) roster;
   }
 
@@ -105,7 +116,7 @@ module _ {T : Type 0} (history : T → List Entry) (opening : T → Opening) (fi
         w,
         keeps,
         tt,
-        counts_change s k id m.0 w words (length-set s.words 2 new, get_or-set_other s.words 2 0 new 0 (λ h. omega arith), get_or-set_other s.words 2 1 new 0 (λ h. omega arith)) at idle idle
+        counts_change s k id m.0 w words (length-set s.words 2 new, get_or-set_other s.words 2 0 new 0 (λ h. omega arith), get_or-set_other s.words 2 1 new 0 (λ h. omega arith)) at idle idle refl refl refl
             (roster_counting k.log key count next members k.roster id p there lives leads (get_or words 2 0) (p.drawn + 1) p.met (omega arith) (omega arith)
             (let behind = behind_p k.log key count next members k.roster id p there lives leads in omega arith) fits.meets),
         (refl, omega arith, (λ i d h. let small = recorded i d h in omega arith)),
@@ -129,7 +140,7 @@ module _ {T : Type 0} (history : T → List Entry) (opening : T → Opening) (fi
         w,
         keeps,
         tt,
-        counts_change s k id m.0 w words (length-set s.words 0 old, get_or-set_same s.words 0 old 0 (omega arith), get_or-set_other s.words 0 1 old 0 (λ h. omega arith)) at idle idle
+        counts_change s k id m.0 w words (length-set s.words 0 old, get_or-set_same s.words 0 old 0 (omega arith), get_or-set_other s.words 0 1 old 0 (λ h. omega arith)) at idle idle refl refl refl
             (roster_counting k.log key count next members k.roster id p there lives leads (get_or words 2 0) p.drawn None (same ∙ drawn_p k.log key count next members k.roster id p there lives leads)
             (few_p k.log key count next members k.roster id p there lives leads) (behind_p k.log key count next members k.roster id p there lives leads) tt),
         (refl, fits.meets),
@@ -140,29 +151,40 @@ module _ {T : Type 0} (history : T → List Entry) (opening : T → Opening) (fi
       let l : View = fork_left v in
       let r : View = fork_right v in
       let views : List View = set s.views id l ++ r ∷ [] in
+      let members : List Member = map member_of s.views in
+      let there = at_map member_of s.views id v at in
       record {
         log = k.log;
+        sealed_count = k.sealed_count;
         wide = k.wide;
-        turn = turn_stays s k.log s.words views k.turn refl
+        waits = subst (λ (ms : List Member). Waits k.log k.sealed_count ms)
+            (sym (map-append member_of (set s.views id l) (r ∷ []) ∙ ap (λ (ms : List Member). ms ++ member_of r ∷ []) (map-set member_of s.views id l)))
+            (waits_more k.log k.sealed_count (set members id l.member) r.member
+            (waits_like k.log k.sealed_count members id v.member l.member k.waits there refl refl refl) (k.waits.told id v.member there lives));
+        turn = turn_stays s k.log k.sealed_count s.words views k.turn refl
             (λ j u e. ⊎_elim (λ (f : get_elem? (set s.views id l) j ≡ some u). back_set s.views id l idle j u f) (λ (same : r ≡ u). inl (ap (λ (x : View). x.turn) (sym same))) (at_snoc (set s.views id l) r u j e))
-            (λ j u e has. at_longer (set s.views id l) (r ∷ []) j u (kept_set k.log s.views id v l at idle j u e has));
+            (λ j u e has. at_longer (set s.views id l) (r ∷ []) j u (kept_set (turn_at k.log k.sealed_count) s.views id v l at idle j u e has));
         roster = subst (λ (ms : List Member). Roster k.log (opening first) (get_or s.words 1 0) (get_or s.words 2 0) ms)
             (sym (map-append member_of (set s.views id l) (r ∷ []) ∙ ap (λ (ms : List Member). ms ++ member_of r ∷ []) (map-set member_of s.views id l)))
             (roster_forking k.log (opening first) (get_or s.words 1 0) (get_or s.words 2 0) (map member_of s.views) k.roster id v.member (at_map member_of s.views id v at) lives leads drawn);
       }
 
-  pub merges : (id : ℕ) (v : View) (other : ℕ) (u : View) → v.member.spent ≡ false → v.turn ≡ None → v.member.post.number ≡ 0 → u.turn ≡ None → u.member.spent ≡ false → Joins Rule id v other u (merge_both v u) spent_view
-  merges id v other u lives idle leads idle' alive s k at apart there =
+  pub merges : (id : ℕ) (v : View) (other : ℕ) (u : View) → v.member.spent ≡ false → v.turn ≡ None → v.member.post.number ≡ 0 → u.turn ≡ None → u.member.spent ≡ false → u.member.post.unsealed ≡ None → Joins Rule id v other u (merge_both v u) spent_view
+  merges id v other u lives idle leads idle' alive none_kept s k at apart there =
       let w : View = merge_both v u in
       let once : List View = set s.views id w in
       let views : List View = set once other spent_view in
       let before : get_elem? s.views other ≡ some u = ⊎_elim (λ (t : (other ≡ id) × (w ≡ u)). absurd (apart t.0)) (λ (t : (other ≢ id) × (get_elem? s.views other ≡ some u)). t.1) (at_set s.views id other w u there) in
       record {
         log = k.log;
+        sealed_count = k.sealed_count;
         wide = k.wide;
-        turn = turn_stays s k.log s.words views k.turn refl
+        waits = subst (λ (ms : List Member). Waits k.log k.sealed_count ms)
+            (sym (map-set member_of once other spent_view ∙ ap (λ (ms : List Member). set ms other spent_view.member) (map-set member_of s.views id w)))
+            (waits_merged k.log k.sealed_count (map member_of s.views) id other v.member u.member w.member spent_view.member k.waits (at_map member_of s.views id v at) (at_map member_of s.views other u before) apart lives alive none_kept lives refl refl refl);
+        turn = turn_stays s k.log k.sealed_count s.words views k.turn refl
             (λ j x e. ⊎_elim (λ (n : x.turn ≡ None). inl n) (λ (f : get_elem? once j ≡ some x). back_set s.views id w idle j x f) (back_set once other spent_view refl j x e))
-            (λ j x e has. kept_set k.log once other u spent_view there idle' j x (kept_set k.log s.views id v w at idle j x e has) has);
+            (λ j x e has. kept_set (turn_at k.log k.sealed_count) once other u spent_view there idle' j x (kept_set (turn_at k.log k.sealed_count) s.views id v w at idle j x e has) has);
         roster = subst (λ (ms : List Member). Roster k.log (opening first) (get_or s.words 1 0) (get_or s.words 2 0) ms)
             (sym (map-set member_of once other spent_view ∙ ap (λ (ms : List Member). set ms other spent_view.member) (map-set member_of s.views id w)))
             (roster_merging k.log (opening first) (get_or s.words 1 0) (get_or s.words 2 0) (map member_of s.views) k.roster id v.member (at_map member_of s.views id v at) lives leads other u.member apart (at_map member_of s.views other u before) alive);
@@ -172,10 +194,10 @@ module _ {T : Type 0} (history : T → List Entry) (opening : T → Opening) (fi
   pub record Ends (v : View) (slot : Option T) : Type 0 where
     pub value : T
     pub is : slot ≡ Some value
-    pub ended : Ended history opening v.member.post (opening first) value
+    pub ended : Ended history opening sealed v.member.post (opening first) value
 
-  pub ends : (id : ℕ) (v : View) (ws : List ℕ) (xs : List (Option T)) (slot : Option T) → v.member.spent ≡ false → v.turn ≡ None → v.member.post.number ≡ 0 → v.member.post.out ≡ 0 → Final (Seen Rule id v) ws xs → get_elem? xs 0 ≡ some slot → Ends v slot
-  ends id v ws xs slot lives idle leads alone f there =
+  pub ends : (id : ℕ) (v : View) (ws : List ℕ) (xs : List (Option T)) (slot : Option T) → v.member.spent ≡ false → v.turn ≡ None → v.member.post.number ≡ 0 → v.member.post.out ≡ 0 → v.member.post.unsealed ≡ None → Final (Seen Rule id v) ws xs → get_elem? xs 0 ≡ some slot → Ends v slot
+  ends id v ws xs slot lives idle leads alone none_kept f there =
       let s = f.0 in
       let k = f.1.0 in
       let at = f.1.1 in
@@ -184,7 +206,7 @@ module _ {T : Type 0} (history : T → List Entry) (opening : T → Opening) (fi
       let members : List Member = map member_of s.views in
       let at' : get_elem? members id ≡ some v.member = at_map member_of s.views id v at in
       ⊎_elim
-      (λ (h : IsHome history opening k.log (opening first) s).
+      (λ (h : IsHome history opening sealed k.log k.sealed_count (opening first) s).
       let whole = front_whole k.log (opening first) count next members k.roster id v.member at' lives leads alone in
       let shows : history h.value ≡ v.member.post.front = h.shows ∙ sym whole in record {
         value = h.value;
@@ -192,21 +214,24 @@ module _ {T : Type 0} (history : T → List Entry) (opening : T → Opening) (fi
         ended = record {
           shows = shows;
           opened = h.opened;
+          quiet = λ up. subst (λ (x : List Entry × ℕ). stored_length x.0 ≤ x.1) (λ i. (sym h.shows i, sym h.seals i))
+              (none_waits k.log k.sealed_count members k.waits id v.member at' none_kept
+              (lead_alone k.log (opening first) count next members k.roster id v.member at' lives leads alone) (ap is_down (sym h.shows) ∙ up));
           recorded = subst (λ (l : List Entry). All (λ (e : Entry). e.who ≤ v.member.post.split) l) (sym h.shows) (recorded_p k.log (opening first) count next members k.roster id v.member at' lives leads);
         };
       })
-      (λ (o : IsOut k.log s).
+      (λ (o : IsOut k.log k.sealed_count s).
       let mine = lead_alone k.log (opening first) count next members k.roster id v.member at' lives leads alone o.holder o.view.member (at_map member_of s.views o.holder o.view o.holder_is) o.lives in
       let is : o.view ≡ v = some-injective o.view v (sym o.holder_is ∙ (ap (λ (n : ℕ). get_elem? s.views n) mine ∙ at)) in
-      absurd (has_none v k.log idle (sym (ap (λ (x : View). x.turn) is) ∙ o.keeps_log)))
+      absurd (has_none v (turn_at k.log k.sealed_count) idle (sym (ap (λ (x : View). x.turn) is) ∙ o.keeps_log)))
       k.turn
 
 only_one : {A : Type 0} (a b : A) (j : ℕ) → get_elem? (a ∷ []) j ≡ some b → (j ≡ 0) × (a ≡ b)
 only_one a b zero e = (refl, some-injective a b e)
 only_one a b (suc j) e = absurd (some-ne-none b (sym e))
 
-module _ {T : Type 0} (history : T → List Entry) (opening : T → Opening) where
-  first_fits : (value : T) → Fits (history value) (opening value) 0 (lead_member (history value) (opening value))
+module _ {T : Type 0} (history : T → List Entry) (opening : T → Opening) (sealed : T → ℕ) where
+  first_fits : (value : T) → Fits (history value) (opening value) 0 (lead_member (history value) (sealed value) (opening value))
   first_fits value = record {
     goes_on = record { begins = prefix_self (history value); own = refl; joined = λ k d h. refl };
     opened = refl;
@@ -215,14 +240,19 @@ module _ {T : Type 0} (history : T → List Entry) (opening : T → Opening) whe
     meets = tt;
   }
 
-  begins_at : (value : T) (count : ℕ) → count ≡ length (history value) % 2 ^ 64 → All (λ (e : Entry). e.who ≡ 0) (history value)
-      → Kept history opening value (opened_table (0 ∷ count ∷ 1 ∷ []) (Some value ∷ []) (first_view history opening value))
-  begins_at value count counted unnumbered =
-      let p : Member = lead_member (history value) (opening value) in
+  begins_at : (value : T) (count : ℕ) → count ≡ length (history value) % 2 ^ 64 → All (λ (e : Entry). e.who ≡ 0) (history value) → (is_down (history value) ≡ false → stored_length (history value) ≤ sealed value)
+      → Kept history opening sealed value (opened_table (0 ∷ count ∷ 1 ∷ 0 ∷ 0 ∷ 0 ∷ 0 ∷ []) (Some value ∷ []) (first_view history opening sealed value))
+  begins_at value count counted unnumbered quiet =
+      let p : Member = lead_member (history value) (sealed value) (opening value) in
       record {
         log = history value;
+        sealed_count = sealed value;
         wide = omega arith;
-        turn = inl (record { free = refl; value = value; home = refl; shows = refl; opened = refl; nobody = λ j v e. ap (λ (x : View). x.turn) (sym (only_one (first_view history opening value) v j e).1) });
+        waits = record {
+          kept = λ up i le inside. absurd (let all = quiet up in omega arith);
+          told = λ j q e lives. (let same = ap (λ (x : Member). x.post.sealed) (only_one p q j e).1 in omega arith);
+        };
+        turn = inl (record { free = refl; value = value; home = refl; shows = refl; seals = refl; opened = refl; nobody = λ j v e. ap (λ (x : View). x.turn) (sym (only_one (first_view history opening sealed value) v j e).1) });
         roster = record {
           lead_at = 0;
           lead = p;
@@ -241,8 +271,8 @@ module _ {T : Type 0} (history : T → List Entry) (opening : T → Opening) whe
         };
       }
 
-  pub begins : (first value : T) (count : ℕ) (slots : List (Option T)) → first ≡ value → count ≡ length (history value) % 2 ^ 64 → All (λ (e : Entry). e.who ≡ 0) (history value) → slots ≡ Some value ∷ []
-      → Kept history opening first (opened_table (0 ∷ count ∷ 1 ∷ []) slots (first_view history opening first))
-  begins first value count slots same counted unnumbered is =
-      subst (λ (x : T). Kept history opening x (opened_table (0 ∷ count ∷ 1 ∷ []) slots (first_view history opening x))) (sym same)
-      (subst (λ (xs : List (Option T)). Kept history opening value (opened_table (0 ∷ count ∷ 1 ∷ []) xs (first_view history opening value))) (sym is) (begins_at value count counted unnumbered))
+  pub begins : (first value : T) (count : ℕ) (slots : List (Option T)) → first ≡ value → count ≡ length (history value) % 2 ^ 64 → All (λ (e : Entry). e.who ≡ 0) (history value) → (is_down (history value) ≡ false → stored_length (history value) ≤ sealed value) → slots ≡ Some value ∷ []
+      → Kept history opening sealed first (opened_table (0 ∷ count ∷ 1 ∷ 0 ∷ 0 ∷ 0 ∷ 0 ∷ []) slots (first_view history opening sealed first))
+  begins first value count slots same counted unnumbered quiet is =
+      subst (λ (x : T). Kept history opening sealed x (opened_table (0 ∷ count ∷ 1 ∷ 0 ∷ 0 ∷ 0 ∷ 0 ∷ []) slots (first_view history opening sealed x))) (sym same)
+      (subst (λ (xs : List (Option T)). Kept history opening sealed value (opened_table (0 ∷ count ∷ 1 ∷ 0 ∷ 0 ∷ 0 ∷ 0 ∷ []) xs (first_view history opening sealed value))) (sym is) (begins_at value count counted unnumbered quiet))

@@ -1,5 +1,5 @@
 -- Each step of a turn keeps the rule.
-use Rattle.std.proofs.Common.{cond, ◌≡◌, ◌≢◌, ℕ, suc, ◌+◌, ◌%◌, ◌^◌, List, [], ◌∷◌, map, set, get_or, Bool, true, false, Option, None, Some, refl, sym, ap, ◌∙◌, subst, inl, inr, ⊎_elim, eqb, arith, length-set, get_or-set_same, get_or-set_other}
+use Rattle.std.proofs.Common.{cond, ◌≡◌, ◌≢◌, ◌≤◌, ℕ, suc, ◌+◌, ◌%◌, ◌^◌, List, [], ◌∷◌, map, set, get_or, Bool, true, false, Option, None, Some, refl, sym, ap, ◌∙◌, subst, inl, inr, ⊎_elim, eqb, arith, length-set, get_or-set_same, get_or-set_other}
 use Rattle.std.proofs.lemmas.List.{map-set, set-get_or}
 use mathlib.Core.Option.{some, none, some-injective}
 use mathlib.Core.Logic.{dite}
@@ -13,8 +13,11 @@ use Rattle.bookmark_lock.specs.Opening.{Opening}
 use Rattle.bookmark_lock.specs.Fronts.{GoesOn}
 use Rattle.bookmark_lock.specs.Members.{Member, seen}
 use Rattle.bookmark_lock.specs.Roster.{Fits, Roster}
-use Rattle.bookmark_lock.specs.Turns.{Finds, Adds, IsTurn}
-use Rattle.bookmark_lock.specs.Rule.{view_of, member_of, IsHome, IsOut, Kept, taken, counted, freed, Gives}
+use Rattle.bookmark_lock.specs.Turns.{Finds, Adds, IsTurn, sight_after}
+use Rattle.bookmark_lock.specs.Rule.{view_of, member_of, turn_of, IsHome, IsOut, Kept, taken, counted, passed, freed, Gives}
+use Rattle.bookmark_lock.specs.Turning.{Turn, log_of}
+use Rattle.bookmark_lock.specs.Waiting.{Waits}
+use Rattle.bookmark_lock.proofs.Waitings.{Turned, GrewByOne, grew_none, grew_one, waits_after}
 use Rattle.bookmark_lock.specs.declared.view.View.{View}
 use Rattle.bookmark_lock.proofs.Members.{at_inside}
 use Rattle.bookmark_lock.proofs.Rosters.{Grows, grows_none, grows_one, roster_after}
@@ -38,7 +41,7 @@ slot_value {T} value value' c d is =
 pub full_slot : {T : Type 0} (l c : List (ℕ × Option T)) (x : Option T) → l ≡ (0, x) ∷ c → l ≡ (0, x) ∷ rest l
 full_slot {T} l c x is = is ∙ ap (λ (k : List (ℕ × Option T)). (0, x) ∷ rest k) (sym is)
 
-module _ {T : Type 0} (history : T → List Entry) (opening : T → Opening) (first : T) where
+module _ {T : Type 0} (history : T → List Entry) (opening : T → Opening) (sealed : T → ℕ) (first : T) where
   abbrev St : Type 0
   St = State (Option T) View
 
@@ -46,7 +49,7 @@ module _ {T : Type 0} (history : T → List Entry) (opening : T → Opening) (fi
   Sat = Me (Option T) View
 
   abbrev Rule : St → Type 0
-  Rule = Kept history opening first
+  Rule = Kept history opening sealed first
 
   abbrev Rosters : List Entry → List ℕ → List Member → Type 0
   Rosters log words members = Roster log (opening first) (get_or words 1 0) (get_or words 2 0) members
@@ -58,14 +61,18 @@ module _ {T : Type 0} (history : T → List Entry) (opening : T → Opening) (fi
       (subst (λ (c : ℕ). Roster k.log (opening first) c (get_or (set s.words 0 n) 2 0) (map member_of s.views)) (sym (other_word s.words n 1 (λ h. omega arith)))
       (subst (λ (c : ℕ). Roster k.log (opening first) (get_or s.words 1 0) c (map member_of s.views)) (sym (other_word s.words n 2 (λ h. omega arith))) k.roster))
 
+  waiting : (s : St) (k : Rule s) (id : ℕ) (v w : View) → get_elem? s.views id ≡ some v → w.member ≡ v.member → Waits k.log k.sealed_count (map member_of (set s.views id w))
+  waiting s k id v w at e = subst (λ (ms : List Member). Waits k.log k.sealed_count ms) (sym (same_members s.views id v w at e)) k.waits
+
   fits_here : (s : St) (k : Rule s) (id : ℕ) (v : View) → get_elem? s.views id ≡ some v → v.member.spent ≡ false → Fits k.log (opening first) k.roster.lead.post.split v.member
   fits_here s k id v at lives = k.roster.fits id v.member (at_map member_of s.views id v at) lives
 
-  finds : (s : St) (k : Rule s) (id : ℕ) (v : View) (value : T) → get_elem? s.views id ≡ some v → v.member.spent ≡ false → history value ≡ k.log → opening value ≡ opening first → Finds history opening v.member.post value
-  finds s k id v value at lives shows opened =
+  finds : (s : St) (k : Rule s) (id : ℕ) (v : View) (value : T) → get_elem? s.views id ≡ some v → v.member.spent ≡ false → history value ≡ k.log → sealed value ≡ k.sealed_count → opening value ≡ opening first → Finds history opening sealed v.member.post value
+  finds s k id v value at lives shows seals opened =
       let f = fits_here s k id v at lives in record {
         goes_on = subst (λ (l : List Entry). GoesOn v.member.post l) (sym shows) f.goes_on;
         opened = opened ∙ sym f.opened;
+        told = subst (λ (n : ℕ). v.member.post.sealed ≤ n) (sym seals) (k.waits.told id v.member (at_map member_of s.views id v at) lives);
         apart = λ i d h same. f.apart 0 (suc i) d (omega arith) (omega arith) (sym same);
       }
 
@@ -75,50 +82,93 @@ module _ {T : Type 0} (history : T → List Entry) (opening : T → Opening) (fi
       subst (λ (vs : List View). Rule record { words = set s.words 0 (get_or s.words 0 0); homes = s.homes; views = vs }) (sym (set_again s.views id m.0 at))
       (subst (λ (ws : List ℕ). Rule record { words = ws; homes = s.homes; views = s.views }) (sym (set-get_or s.words 0 0)) k)
 
+  -- a step on a word that the rule says nothing of
+  pub passes : (slots id : ℕ) (m : Sat) (word : ℕ) (f : ℕ → ℕ) → 3 ≤ word → Allows Rule slots id m word f (passed (step slots word 1 0 none) m)
+  passes slots id m word f behind s k len at small =
+      let n : ℕ = f (get_or s.words word 0) in
+      let words : List ℕ = set s.words word n in
+      let word0 : get_or words 0 0 ≡ get_or s.words 0 0 = get_or-set_other s.words word 0 n 0 (λ h. omega arith) in
+      let word1 : get_or words 1 0 ≡ get_or s.words 1 0 = get_or-set_other s.words word 1 n 0 (λ h. omega arith) in
+      let word2 : get_or words 2 0 ≡ get_or s.words 2 0 = get_or-set_other s.words word 2 n 0 (λ h. omega arith) in (
+        m.0,
+        keeps,
+        tt,
+        subst (λ (vs : List View). Rule record { words = words; homes = s.homes; views = vs }) (sym (set_again s.views id m.0 at)) (record {
+          log = k.log;
+          sealed_count = k.sealed_count;
+          wide = length-set s.words word n ∙ k.wide;
+          turn = ⊎_elim
+              (λ (h : IsHome history opening sealed k.log k.sealed_count (opening first) s). inl (record {
+                free = word0 ∙ h.free;
+                value = h.value;
+                home = h.home;
+                shows = h.shows;
+                seals = h.seals;
+                opened = h.opened;
+                nobody = h.nobody;
+              }))
+              (λ (o : IsOut k.log k.sealed_count s). inr (record {
+                busy = word0 ∙ o.busy;
+                holder = o.holder;
+                view = o.view;
+                holder_is = o.holder_is;
+                keeps_log = o.keeps_log;
+                lives = o.lives;
+                others = o.others;
+              }))
+              k.turn;
+          waits = k.waits;
+          roster = subst (λ (x : ℕ × ℕ). Roster k.log (opening first) x.0 x.1 (map member_of s.views)) (λ i. (sym word1 i, sym word2 i)) k.roster;
+        }),
+        refl,
+      )
+
   Takes : St → ℕ → ℕ → Sat → ℕ → Type 0
   Takes s slots id m n =
-      (w : View) × (a : Act (Option T)) × Valid s.homes m.1 a × Rule (stepped s 0 n id m.1 w a) × taken history opening (step slots 0 0 1 none) m (get_or s.words 0 0) (w, carried_after m.1 a)
+      (w : View) × (a : Act (Option T)) × Valid s.homes m.1 a × Rule (stepped s 0 n id m.1 w a) × taken history opening sealed (step slots 0 0 1 none) m (get_or s.words 0 0) (w, carried_after m.1 a)
 
-  take_home : (slots id : ℕ) (m : Sat) → m.0.member.spent ≡ false → (s : St) (k : Rule s) → get_elem? s.views id ≡ some m.0 → IsHome history opening k.log (opening first) s → Takes s slots id m 1
+  take_home : (slots id : ℕ) (m : Sat) → m.0.member.spent ≡ false → (s : St) (k : Rule s) → get_elem? s.views id ≡ some m.0 → IsHome history opening sealed k.log k.sealed_count (opening first) s → Takes s slots id m 1
   unfolding Takes
   take_home slots id m lives s k at home =
-      let w : View = view_of m.0.member (Some (history home.value)) in (
+      let w : View = view_of m.0.member (Some (turn_of history opening sealed home.value)) in (
         w,
         takes 0 (Some home.value),
         home.home,
         (record {
           log = k.log;
+          sealed_count = k.sealed_count;
           wide = length-set s.words 0 1 ∙ k.wide;
           turn = inr (record {
             busy = let wide = k.wide in get_or-set_same s.words 0 1 0 (omega arith);
             holder = id;
             view = w;
             holder_is = set_here s.views id w (at_inside s.views id m.0 at);
-            keeps_log = ap Some home.shows;
+            keeps_log = λ i. Some (record { log = home.shows i; sealed = home.seals i });
             lives = lives;
             others = λ j v away e. ⊎_elim (λ (t : (j ≡ id) × (w ≡ v)). absurd (away t.0)) (λ (t : (j ≢ id) × (get_elem? s.views j ≡ some v)). home.nobody j v t.1) (at_set s.views id j w v e);
           });
+          waits = waiting s k id m.0 w at refl;
           roster = unchanged s k 1 id m.0 w at refl;
         }),
-        ((λ _. record { value = home.value; found = finds s k id m.0 home.value at lives home.shows home.opened; seat = refl }), (λ busy. absurd (busy home.free))),
+        ((λ _. record { value = home.value; found = finds s k id m.0 home.value at lives home.shows home.seals home.opened; seat = refl }), (λ busy. absurd (busy home.free))),
       )
 
-  pub takes_turn : (slots id : ℕ) (m : Sat) → m.0.member.spent ≡ false → Allows Rule slots id m 0 (λ n. either (eqb n 0) 1 n) (taken history opening (step slots 0 0 1 none) m)
+  pub takes_turn : (slots id : ℕ) (m : Sat) → m.0.member.spent ≡ false → Allows Rule slots id m 0 (λ n. either (eqb n 0) 1 n) (taken history opening sealed (step slots 0 0 1 none) m)
   unfolding Takes
   takes_turn slots id m lives s k len at small = exchanged (get_or s.words 0 0) 0 1 (Takes s slots id m)
-      (λ free. ⊎_elim (take_home slots id m lives s k at) (λ (out : IsOut k.log s). let busy = out.busy in absurd (omega arith)) k.turn)
+      (λ free. ⊎_elim (take_home slots id m lives s k at) (λ (out : IsOut k.log k.sealed_count s). let busy = out.busy in absurd (omega arith)) k.turn)
       (λ busy. (m.0, keeps, tt, unmoved s id m at k, ((λ free. absurd (busy free)), (λ _. refl))))
 
   -- the seat whose view keeps a history is the one that has the turn
-  record HasTurn (s : St) (k : Rule s) (id : ℕ) (kept : List Entry) : Type 0 where
+  record HasTurn (s : St) (k : Rule s) (id : ℕ) (kept : Turn) : Type 0 where
     busy : get_or s.words 0 0 ≡ 1
-    same : kept ≡ k.log
+    same : kept ≡ record { log = k.log; sealed = k.sealed_count }
     others : (j : ℕ) (v : View) → j ≢ id → get_elem? s.views j ≡ some v → v.turn ≡ None
 
-  has_turn : (s : St) (k : Rule s) (id : ℕ) (v : View) (kept : List Entry) → get_elem? s.views id ≡ some v → v.turn ≡ Some kept → HasTurn s k id kept
+  has_turn : (s : St) (k : Rule s) (id : ℕ) (v : View) (kept : Turn) → get_elem? s.views id ≡ some v → v.turn ≡ Some kept → HasTurn s k id kept
   has_turn s k id v kept at has = ⊎_elim
-      (λ (home : IsHome history opening k.log (opening first) s). let none_has = home.nobody id v at in absurd (cc (has, none_has)))
-      (λ (out : IsOut k.log s). dite (ℕ_discrete id out.holder)
+      (λ (home : IsHome history opening sealed k.log k.sealed_count (opening first) s). let none_has = home.nobody id v at in absurd (cc (has, none_has)))
+      (λ (out : IsOut k.log k.sealed_count s). dite (ℕ_discrete id out.holder)
       (λ mine.
       let is_view : v ≡ out.view = some-injective v out.view (sym at ∙ (ap (λ (n : ℕ). get_elem? s.views n) mine ∙ out.holder_is)) in record {
         busy = out.busy;
@@ -128,97 +178,119 @@ module _ {T : Type 0} (history : T → List Entry) (opening : T → Opening) (fi
       (λ other. absurd (let none_has = out.others id v other at in cc (has, none_has))))
       k.turn
 
-  counts_at : (slots id : ℕ) (p : Member) (kept : List Entry) (c : List (ℕ × Option T)) (value : T) (add : ℕ) → p.spent ≡ false → Grows kept (history value) p.post.number add
-      → Allows Rule slots id (view_of p (Some kept), (0, Some value) ∷ c) 1 (λ n. (n + add) % 2 ^ 64) (counted history opening (step slots 1 add 0 none) (view_of p (Some kept), (0, Some value) ∷ c))
-  counts_at slots id p kept c value add lives grows s k len at small =
-      let has = has_turn s k id (view_of p (Some kept)) kept at refl in
+  counts_at : (slots id : ℕ) (p : Member) (kept : T) (c : List (ℕ × Option T)) (value : T) (add : ℕ) → p.spent ≡ false → Grows (history kept) (history value) p.post.number add
+      → Turned p.post.unsealed (history kept) (history value) (sealed kept) (sealed value)
+      → Allows Rule slots id (view_of p (Some (turn_of history opening sealed kept)), (0, Some value) ∷ c) 1 (λ n. (n + add) % 2 ^ 64) (counted history opening sealed (step slots 1 add 0 none) (view_of p (Some (turn_of history opening sealed kept)), (0, Some value) ∷ c))
+  counts_at slots id p kept c value add lives grows turned s k len at small =
+      let turn = turn_of history opening sealed kept in
+      let has = has_turn s k id (view_of p (Some turn)) turn at refl in
       let after = history value in
-      let w : View = view_of (seen p after) (Some after) in
+      let sight = sight_after history opening sealed p.post.unsealed (history kept) value in
+      let w : View = view_of (seen p sight) (Some (turn_of history opening sealed value)) in
+      let there = at_map member_of s.views id (view_of p (Some turn)) at in
+      let log_is : history kept ≡ k.log = ap (λ (t : Turn). t.log) has.same in
+      let sealed_is : sealed kept ≡ k.sealed_count = ap (λ (t : Turn). t.sealed) has.same in
       let n : ℕ = (get_or s.words 1 0 + add) % 2 ^ 64 in (
         w,
         keeps,
         tt,
         (record {
           log = after;
+          sealed_count = sealed value;
           wide = length-set s.words 1 n ∙ k.wide;
           turn = inr (record {
             busy = get_or-set_other s.words 1 0 n 0 (λ h. omega arith) ∙ has.busy;
             holder = id;
             view = w;
-            holder_is = set_here s.views id w (at_inside s.views id (view_of p (Some kept)) at);
+            holder_is = set_here s.views id w (at_inside s.views id (view_of p (Some turn)) at);
             keeps_log = refl;
             lives = lives;
             others = λ j v away e. ⊎_elim (λ (t : (j ≡ id) × (w ≡ v)). absurd (away t.0)) (λ (t : (j ≢ id) × (get_elem? s.views j ≡ some v)). has.others j v away t.1) (at_set s.views id j w v e);
           });
+          waits = subst (λ (ms : List Member). Waits after (sealed value) ms) (sym (map-set member_of s.views id w))
+              (waits_after (history kept) (sealed kept) (map member_of s.views)
+              (subst (λ (x : List Entry × ℕ). Waits x.0 x.1 (map member_of s.views)) (λ i. (sym log_is i, sym sealed_is i)) k.waits)
+              id p there lives after (sealed value) turned);
           roster = subst (λ (x : ℕ × ℕ × List Member). Roster after (opening first) x.0 x.1 x.2)
               (λ i. (
                 sym (get_or-set_same s.words 1 n 0 (let wide = k.wide in omega arith)) i,
                 sym (get_or-set_other s.words 1 2 n 0 (λ h. omega arith)) i,
                 sym (map-set member_of s.views id w) i,
               ))
-              (roster_after k.log (opening first) (get_or s.words 1 0) (get_or s.words 2 0) (map member_of s.views) k.roster id p (at_map member_of s.views id (view_of p (Some kept)) at) lives after add
-              (subst (λ (l : List Entry). Grows l after p.post.number add) has.same grows));
+              (roster_after k.log (opening first) (get_or s.words 1 0) (get_or s.words 2 0) (map member_of s.views) k.roster id p there lives sight add
+              (subst (λ (l : List Entry). Grows l after p.post.number add) log_is grows));
         }),
-        (λ value' is. let e : value ≡ value' = slot_value value value' c c is in ap (λ (x : T). (view_of (seen p (history x)) (Some (history x)), (0, Some value) ∷ c)) e),
+        (λ value' is. let e : value ≡ value' = slot_value value value' c c is in ap (λ (x : T). (view_of (seen p (sight_after history opening sealed p.post.unsealed (history kept) x)) (Some (turn_of history opening sealed x)), (0, Some value) ∷ c)) e),
       )
 
   -- the seat, with the turn and the value in its slot
-  abbrev pub Holding : Sat → Member → List Entry → T → Type 0
+  abbrev pub Holding : Sat → Member → Turn → T → Type 0
   Holding m p kept value = m ≡ (view_of p (Some kept), (0, Some value) ∷ [])
 
-  pub counts : (slots id : ℕ) (m : Sat) (p : Member) (kept : List Entry) (value : T) (add : ℕ) → Holding m p kept value → p.spent ≡ false → Grows kept (history value) p.post.number add
-      → Allows Rule slots id m 1 (λ n. (n + add) % 2 ^ 64) (counted history opening (step slots 1 add 0 none) m)
-  counts slots id m p kept value add is lives grows =
-      subst (λ (x : Sat). Allows Rule slots id x 1 (λ n. (n + add) % 2 ^ 64) (counted history opening (step slots 1 add 0 none) x)) (sym is) (counts_at slots id p kept [] value add lives grows)
+  pub counts : (slots id : ℕ) (m : Sat) (p : Member) (kept value : T) (add : ℕ) → Holding m p (turn_of history opening sealed kept) value → p.spent ≡ false → Grows (history kept) (history value) p.post.number add
+      → Turned p.post.unsealed (history kept) (history value) (sealed kept) (sealed value)
+      → Allows Rule slots id m 1 (λ n. (n + add) % 2 ^ 64) (counted history opening sealed (step slots 1 add 0 none) m)
+  counts slots id m p kept value add is lives grows turned =
+      subst (λ (x : Sat). Allows Rule slots id x 1 (λ n. (n + add) % 2 ^ 64) (counted history opening sealed (step slots 1 add 0 none) x)) (sym is) (counts_at slots id p kept [] value add lives grows turned)
 
   frees_at : (slots id : ℕ) (p : Member) (value : T) → slots ≡ 1 → p.spent ≡ false → opening value ≡ p.post.opening
-      → Allows Rule slots id (view_of p (Some (history value)), (0, Some value) ∷ []) 0 (λ _. 0) (λ _. freed (step slots 0 0 0 none) (view_of p (Some (history value)), (0, Some value) ∷ []) 0)
+      → Allows Rule slots id (view_of p (Some (turn_of history opening sealed value)), (0, Some value) ∷ []) 0 (λ _. 0) (λ _. freed (step slots 0 0 0 none) (view_of p (Some (turn_of history opening sealed value)), (0, Some value) ∷ []) 0)
   frees_at slots id p value one lives opened s k len at small =
-      let has = has_turn s k id (view_of p (Some (history value))) (history value) at refl in
-      let fits = fits_here s k id (view_of p (Some (history value))) at lives in
+      let has = has_turn s k id (view_of p (Some (turn_of history opening sealed value))) (turn_of history opening sealed value) at refl in
+      let fits = fits_here s k id (view_of p (Some (turn_of history opening sealed value))) at lives in
       let w : View = view_of p None in (
         w,
         gives,
         tt,
         (record {
           log = k.log;
+          sealed_count = k.sealed_count;
           wide = length-set s.words 0 0 ∙ k.wide;
           turn = inl (record {
             free = let wide = k.wide in get_or-set_same s.words 0 0 0 (omega arith);
             value = value;
             home = set_here s.homes 0 (some (Some value)) (omega arith);
-            shows = has.same;
+            shows = ap (λ (x : Turn). x.log) has.same;
+            seals = ap (λ (x : Turn). x.sealed) has.same;
             opened = opened ∙ fits.opened;
             nobody = λ j v e. ⊎_elim (λ (t : (j ≡ id) × (w ≡ v)). ap (λ (x : View). x.turn) (sym t.1))
                 (λ (t : (j ≢ id) × (get_elem? s.views j ≡ some v)). has.others j v t.0 t.1) (at_set s.views id j w v e);
           });
-          roster = unchanged s k 0 id (view_of p (Some (history value))) w at refl;
+          waits = waiting s k id (view_of p (Some (turn_of history opening sealed value))) w at refl;
+          roster = unchanged s k 0 id (view_of p (Some (turn_of history opening sealed value))) w at refl;
         }),
         refl,
       )
 
-  pub frees : (slots id : ℕ) (m : Sat) (p : Member) (value : T) → slots ≡ 1 → Holding m p (history value) value → p.spent ≡ false → opening value ≡ p.post.opening
+  pub frees : (slots id : ℕ) (m : Sat) (p : Member) (value : T) → slots ≡ 1 → Holding m p (turn_of history opening sealed value) value → p.spent ≡ false → opening value ≡ p.post.opening
       → Allows Rule slots id m 0 (λ _. 0) (λ _. freed (step slots 0 0 0 none) m 0)
   frees slots id m p value one is lives opened =
       subst (λ (x : Sat). Allows Rule slots id x 0 (λ _. 0) (λ _. freed (step slots 0 0 0 none) x 0)) (sym is) (frees_at slots id p value one lives opened)
 
   -- the value is put back in the slot
-  pub back_in : (m n : Sat) (kept : List Entry) (value : T) → m ≡ (view_of m.0.member (Some kept), (0, None) ∷ []) → n ≡ (m.0, (0, Some value) ∷ rest m.1) → Holding n m.0.member kept value
+  pub back_in : (m n : Sat) (kept : Turn) (value : T) → m ≡ (view_of m.0.member (Some kept), (0, None) ∷ []) → n ≡ (m.0, (0, Some value) ∷ rest m.1) → Holding n m.0.member kept value
   back_in m n kept value is now = now ∙ ap (λ (x : Sat). (x.0, (0, Some value) ∷ rest x.1)) is
 
-  pub after_count : (m n : Sat) (p : Member) (kept : List Entry) (value : T) → Holding m p kept value
-      → ((x : T) → m.1 ≡ (0, Some x) ∷ rest m.1 → n ≡ (view_of (seen m.0.member (history x)) (Some (history x)), m.1))
-      → Holding n (seen p (history value)) (history value) value
+  pub after_count : (m n : Sat) (p : Member) (kept : Turn) (value : T) → Holding m p kept value
+      → ((x : T) → m.1 ≡ (0, Some x) ∷ rest m.1 → n ≡ (view_of (seen m.0.member (sight_after history opening sealed m.0.member.post.unsealed (log_of m.0.turn) x)) (Some (turn_of history opening sealed x)), m.1))
+      → Holding n (seen p (sight_after history opening sealed p.post.unsealed kept.log value)) (turn_of history opening sealed value) value
   after_count m n p kept value is told =
       let slot : m.1 ≡ (0, Some value) ∷ [] = ap (λ (x : Sat). x.1) is in
       let full : m.1 ≡ (0, Some value) ∷ rest m.1 = slot ∙ ap (λ (l : List (ℕ × Option T)). (0, Some value) ∷ rest l) (sym slot) in
-      told value full ∙ ap (λ (x : Sat). (view_of (seen x.0.member (history value)) (Some (history value)), x.1)) is
+      told value full ∙ ap (λ (x : Sat). (view_of (seen x.0.member (sight_after history opening sealed x.0.member.post.unsealed (log_of x.0.turn) value)) (Some (turn_of history opening sealed value)), x.1)) is
 
-  pub grows_of : (p : Member) (kept : List Entry) (value : T) (added : Bool) → Adds history opening p.post.number kept added value → Grows kept (history value) p.post.number (cond added 1 0)
+  pub grows_of : (p : Member) (kept : List Entry) (value : T) (added : Bool) → Adds history opening sealed p.post.number kept added value → Grows kept (history value) p.post.number (cond added 1 0)
   grows_of p kept value true h = grows_one kept (history value) p.post.number h.0 h.1 h.2
   grows_of p kept value false h = grows_none kept (history value) p.post.number h
 
-  pub gives_from : (m n : Sat) (before after : T) (added : Bool) → n ≡ (view_of m.0.member (Some (history before)), (0, None) ∷ []) → Finds history opening m.0.member.post before
-      → IsTurn history opening m.0.member.post.number before after added → Gives history opening n after added
+  pub gives_from : (m n : Sat) (before after : T) (added : Bool) → n ≡ (view_of m.0.member (Some (turn_of history opening sealed before)), (0, None) ∷ []) → Finds history opening sealed m.0.member.post before
+      → IsTurn history opening sealed m.0.member.post.number m.0.member.post.unsealed before after added → Gives history opening sealed n after added
   gives_from m n before after added is found turn =
-      subst (λ (x : Sat). Gives history opening x after added) (sym is) (record { kept = history before; seat = refl; opened = turn.opened ∙ found.opened; adds = turn.adds })
+      subst (λ (x : Sat). Gives history opening sealed x after added) (sym is) (record { kept = before; seat = refl; opened = turn.opened ∙ found.opened; turn = turn })
+
+  grew_of : (number : ℕ) (before value : T) (added : Bool) → Adds history opening sealed number (history before) added value → GrewByOne (history before) (history value)
+  grew_of number before value true h = grew_one (history before) (history value) h.0 h.2
+  grew_of number before value false h = grew_none (history before) (history value) h
+
+  pub turned_of : (number : ℕ) (u : Option ℕ) (before value : T) (added : Bool) → IsTurn history opening sealed number u before value added → Turned u (history before) (history value) (sealed before) (sealed value)
+  turned_of number u before value added turn = record { grew = grew_of number before value added turn.adds; seals = turn.seals; one = turn.one }

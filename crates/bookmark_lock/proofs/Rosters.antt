@@ -12,8 +12,8 @@ use lib.ListN.{get_elem?}
 use Rattle.atomic_table.proofs.Lists.{at_set, set_here, set_else}
 use Rattle.history_model.specs.History.{Entry, entries_by}
 use Rattle.bookmark_lock.specs.Opening.{Opening}
-use Rattle.bookmark_lock.specs.Place.{numbers}
-use Rattle.bookmark_lock.specs.Members.{Member, Meeting, seen}
+use Rattle.bookmark_lock.specs.Place.{Sight, numbers}
+use Rattle.bookmark_lock.specs.Members.{Member, Meeting, seen, seeing}
 use Rattle.bookmark_lock.specs.Roster.{Fits, Roster}
 use Rattle.byte_fields.proofs.Lists.{prefix_self, prefix_trans}
 use Rattle.bookmark_lock.proofs.Members.{at_inside, living-set_same}
@@ -92,14 +92,17 @@ module _ (log : List Entry) (key : Opening) (count next : ℕ) (members : List M
       subst (λ (t : ℕ × ℕ × List ℕ). Without t.0 (t.1 ∷ t.2)) (λ i. (sym w.like.number i, sym x.like.number i, sym x.like.joined i))
       (b.apart j k w.old x.old w.there x.there (sym w.like.spent ∙ alive) (sym x.like.spent ∙ alive') away)
 
-  module _ (id : ℕ) (p : Member) (at : get_elem? members id ≡ some p) (lives : p.spent ≡ false) (after : List Entry) (add : ℕ) (grows : Grows log after p.post.number add) where
+  module _ (id : ℕ) (p : Member) (at : get_elem? members id ≡ some p) (lives : p.spent ≡ false) (sight : Sight) (add : ℕ) (grows : Grows log sight.front p.post.number add) where
+    abbrev after : List Entry
+    after = sight.front
+
     abbrev now : List Member
-    now = set members id (seen p after)
+    now = set members id (seen p sight)
 
     was : (j : ℕ) (q : Member) → get_elem? now j ≡ some q → Was members j q
-    was = was_set members id p (seen p after) at (record { spent = refl; number = refl; joined = refl })
+    was = was_set members id p (seen p sight) at (record { spent = refl; number = refl; joined = refl })
 
-    fits_mine : Fits after key b.lead.post.split (seen p after)
+    fits_mine : Fits after key b.lead.post.split (seen p sight)
     fits_mine = let f = b.fits id p at lives in record {
       goes_on = record { begins = prefix_self after; own = refl; joined = λ k d h. refl };
       opened = f.opened;
@@ -126,35 +129,35 @@ module _ (log : List Entry) (key : Opening) (count next : ℕ) (members : List M
 
     fits_now : (j : ℕ) (q : Member) → get_elem? now j ≡ some q → q.spent ≡ false → Fits after key b.lead.post.split q
     fits_now j q e alive = ⊎_elim
-        (λ (t : (j ≡ id) × (seen p after ≡ q)). subst (λ (r : Member). Fits after key b.lead.post.split r) t.1 fits_mine)
+        (λ (t : (j ≡ id) × (seen p sight ≡ q)). subst (λ (r : Member). Fits after key b.lead.post.split r) t.1 fits_mine)
         (λ (t : (j ≢ id) × (get_elem? members j ≡ some q)). fits_other j q t.0 t.1 alive)
-        (at_set members id j (seen p after) q e)
+        (at_set members id j (seen p sight) q e)
 
     -- the lead, which may be the seat
-    abbrev again : List Entry → Option Meeting → Member
-    again front met = record b.lead { post = record b.lead.post { front = front }; met = met }
+    abbrev again : Sight → Option Meeting → Member
+    again s met = record b.lead { post = seeing b.lead.post s; met = met }
 
-    roster_with : (front : List Entry) (met : Option Meeting) → get_elem? now b.lead_at ≡ some (again front met) → Roster after key ((count + add) % 2 ^ 64) next now
-    roster_with front met lead_is = let f = b.fits id p at lives in record {
+    roster_with : (s : Sight) (met : Option Meeting) → get_elem? now b.lead_at ≡ some (again s met) → Roster after key ((count + add) % 2 ^ 64) next now
+    roster_with s met lead_is = let f = b.fits id p at lives in record {
       lead_at = b.lead_at;
-      lead = again front met;
+      lead = again s met;
       lead_is = lead_is;
       lead_lives = b.lead_lives;
       lead_zero = b.lead_zero;
       fits = fits_now;
       apart = λ j k q r e f. apart_of j k q r (was j q e) (was k r f);
       recorded = grows.recorded b.lead.post.split (f.below 0 p.post.number (omega arith)) b.recorded;
-      longest = (id, seen p after, set_here members id (seen p after) (at_inside members id p at), lives, refl);
+      longest = (id, seen p sight, set_here members id (seen p sight) (at_inside members id p at), lives, refl);
       counted = ap (λ (n : ℕ). (n + add) % 2 ^ 64) b.counted ∙ (mod-add (length log) add (2 ^ 64) ∙ ap (λ (n : ℕ). n % 2 ^ 64) (sym grows.counted));
       drawn = b.drawn;
       few = b.few;
       behind = b.behind;
-      alive = living-set_same members id p (seen p after) at refl ∙ b.alive;
+      alive = living-set_same members id p (seen p sight) at refl ∙ b.alive;
     }
 
     pub roster_after : Roster after key ((count + add) % 2 ^ 64) next now
     roster_after = dite (ℕ_discrete b.lead_at id)
-        (λ here. roster_with after None
+        (λ here. roster_with sight None
         (let lead_is_p : b.lead ≡ p = some-injective b.lead p (sym b.lead_is ∙ (ap (λ (n : ℕ). get_elem? members n) here ∙ at)) in
-        ap (λ (n : ℕ). get_elem? now n) here ∙ (set_here members id (seen p after) (at_inside members id p at) ∙ ap (λ (q : Member). some (seen q after)) (sym lead_is_p))))
-        (λ away. roster_with b.lead.post.front b.lead.met (set_else members id b.lead_at (seen p after) away ∙ b.lead_is))
+        ap (λ (n : ℕ). get_elem? now n) here ∙ (set_here members id (seen p sight) (at_inside members id p at) ∙ ap (λ (q : Member). some (seen q sight)) (sym lead_is_p))))
+        (λ away. roster_with (record { front = b.lead.post.front; sealed = b.lead.post.sealed; unsealed = b.lead.post.unsealed }) b.lead.met (set_else members id b.lead_at (seen p sight) away ∙ b.lead_is))

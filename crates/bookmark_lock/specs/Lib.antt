@@ -1,7 +1,9 @@
 pub mod Place
 pub mod Fronts
 pub mod Members
+pub mod Turning
 pub mod Turns
+pub mod Waiting
 pub mod Roster
 pub mod Rule
 pub mod Seated

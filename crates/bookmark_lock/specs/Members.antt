@@ -1,8 +1,8 @@
 -- A seat among all those of its lock, and what each step makes of it.
-use Rattle.std.specs.Prelude.{ℕ, ◌+◌, ◌-◌, Bool, true, false, List, [], ◌∷◌, Option, None, Some}
+use Rattle.std.specs.Prelude.{ℕ, ◌+◌, ◌-◌, Bool, true, false, List, [], ◌∷◌, max, Option, None, Some}
 use Rattle.history_model.specs.History.{Entry}
 use Rattle.bookmark_lock.specs.Opening.{Opening, unopened}
-use Rattle.bookmark_lock.specs.Place.{Post, longer}
+use Rattle.bookmark_lock.specs.Place.{Post, Sight, longer}
 
 -- what the lead and another seat knew when the lead joined that one
 pub record Meeting : Type 0 where
@@ -16,11 +16,14 @@ pub record Member : Type 0 where
   pub drawn : ℕ
   pub met : Option Meeting
 
-abbrev pub lead_member : List Entry → Opening → Member
-lead_member history opening = record { spent = false; post = record { number = 0; front = history; opening = opening; split = 0; out = 0; joined = [] }; drawn = 0; met = None }
+abbrev pub lead_member : List Entry → ℕ → Opening → Member
+lead_member history sealed opening = record { spent = false; post = record { number = 0; front = history; sealed = sealed; unsealed = None; opening = opening; split = 0; out = 0; joined = [] }; drawn = 0; met = None }
 
-abbrev pub seen : Member → List Entry → Member
-seen m front = record m { post = record m.post { front = front }; met = None }
+abbrev pub seeing : Post → Sight → Post
+seeing p s = record p { front = s.front; sealed = s.sealed; unsealed = s.unsealed }
+
+abbrev pub seen : Member → Sight → Member
+seen m s = record m { post = seeing m.post s; met = None }
 
 -- the lead draws a number
 abbrev pub drawing : Member → Member
@@ -32,11 +35,11 @@ forking m = record m { post = record m.post { split = m.post.split + 1; out = m.
 
 abbrev pub fork_of : Member → Member
 fork_of m =
-    record { spent = false; post = record { number = m.post.split + 1; front = m.post.front; opening = m.post.opening; split = 0; out = 0; joined = [] }; drawn = 0; met = None }
+    record { spent = false; post = record { number = m.post.split + 1; front = m.post.front; sealed = m.post.sealed; unsealed = None; opening = m.post.opening; split = 0; out = 0; joined = [] }; drawn = 0; met = None }
 
 -- the lead takes in another seat
 abbrev pub merge_post : Post → Post → Post
-merge_post p q = record p { front = longer p.front q.front; out = p.out - 1; joined = q.number ∷ p.joined }
+merge_post p q = record p { front = longer p.front q.front; sealed = max p.sealed q.sealed; out = p.out - 1; joined = q.number ∷ p.joined }
 
 abbrev pub merging : Member → Member → Member
 merging m n = record m { post = merge_post m.post n.post; met = Some record { lead = m.post; other = n.post } }
@@ -48,7 +51,7 @@ settling m = record m { met = None }
 abbrev pub spent_member : Member
 spent_member = record {
   spent = true;
-  post = record { number = 0; front = []; opening = unopened; split = 0; out = 0; joined = [] };
+  post = record { number = 0; front = []; sealed = 0; unsealed = None; opening = unopened; split = 0; out = 0; joined = [] };
   drawn = 0;
   met = None;
 }

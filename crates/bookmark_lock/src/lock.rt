@@ -1,14 +1,14 @@
 //! The lock.
-ghost use Rattle.std.specs.Prelude.{◌≡◌, ◌+◌, ◌<◌, ◌≤◌, ◌^◌, Bool, [], All, IfOk};
+ghost use Rattle.std.specs.Prelude.{◌≡◌, ◌+◌, ◌<◌, ◌≤◌, ◌^◌, Bool, false, [], None, All, IfOk};
 ghost use Rattle.std.specs.Fn.{FnOnceTakesAtMut, FnOnceReturnsAtMut};
-ghost use Rattle.history_model.specs.History.{Entry, entries_by};
+ghost use Rattle.history_model.specs.History.{Entry, entries_by, is_down};
 ghost use Rattle.bookmark_lock.specs.Place.{lead_place, new_place, joined_place};
 ghost use Rattle.bookmark_lock.specs.Fronts.{IsJoined};
-ghost use Rattle.bookmark_lock.specs.Turns.{MayFind, IsTurn, Entered};
+ghost use Rattle.bookmark_lock.specs.Turns.{MayFind, IsTurn, Entered, stored_length};
 
 use crate::Recorded;
 use crate::seat::{Seat, seated};
-use crate::steps::{Home, draw, fork, give, merge, settle, shut, take};
+use crate::steps::{Home, draw, fork, give, merge, settle, shut, stand_back, take};
 use atomic_table::{Badge, Refused, Table};
 use std::alloc::{AllocError, Global};
 use std::marker::Model;
@@ -40,11 +40,12 @@ impl<T: Recorded> TurnLock<T> {
     where
         T: Drop,
         requires recovered { All (λ (e : Entry). e.who ≡ 0) (T.history value) }
+        requires sealed { is_down (T.history value) ≡ false → stored_length (T.history value) ≤ T.sealed value }
         ensures lock { IfOk result (λ made. made.0.opening ≡ T.opening value) }
-        ensures lead { IfOk result (λ made. made.1 ≡ lead_place made.0 (T.history value)) }
+        ensures lead { IfOk result (λ made. made.1 ≡ lead_place made.0 (T.history value) (T.sealed value)) }
     {
         let key = Snapshot::of(&value);
-        let words = [0, value.length_word(), 1];
+        let words = [0, value.length_word(), 1, 0, 0, 0, 0];
         let mut slots = Vec::with_capacity(alloc, 1)?;
         slots.push_reserved(Some(value));
         match Table::new(alloc, &words, slots, &key) {
@@ -90,6 +91,7 @@ impl<T: Recorded> TurnLock<T> {
         requires place { lead.old.lock ≡ self.now }
         requires other { other.lock ≡ self.now }
         requires leads { lead.old.number ≡ 0 }
+        requires sealed { other.unsealed ≡ None }
         ensures lead { lead.new ≡ joined_place lead.old other }
         ensures joined { IsJoined lead.old other lead.new.front }
     {
@@ -107,6 +109,7 @@ impl<T: Recorded> TurnLock<T> {
     }
 
     /// One turn: `act` sees the value as it is, and adds at most one entry, of this seat. Says what `act` answers.
+    /// A stored entry that isn't sealed by the end of the turn is the seat's to see sealed, in a later turn.
     pub fn enter<X, F: FnOnce(&mut T) -> (bool, X), R: Wait>(
         &self,
         rt: &R,
@@ -114,9 +117,9 @@ impl<T: Recorded> TurnLock<T> {
         act: F,
     ) -> X
         requires place { seat.old.lock ≡ self.now }
-        requires callable { (value : T) → MayFind T.history T.opening seat.old value → FnOnceTakesAtMut F.FnOnce act value }
-        requires turn { (before after : T) (answer : Bool × X) → MayFind T.history T.opening seat.old before → FnOnceReturnsAtMut F.FnOnce act before answer after → IsTurn T.history T.opening seat.old.number before after answer.0 }
-        ensures turn { Entered T.history T.opening F.FnOnce act seat.old seat.new result }
+        requires callable { (value : T) → MayFind T.history T.opening T.sealed seat.old value → FnOnceTakesAtMut F.FnOnce act value }
+        requires turn { (before after : T) (answer : Bool × X) → MayFind T.history T.opening T.sealed seat.old before → FnOnceReturnsAtMut F.FnOnce act before answer after → IsTurn T.history T.opening T.sealed seat.old.number seat.old.unsealed before after answer.0 }
+        ensures turn { Entered T.history T.opening T.sealed F.FnOnce act seat.old seat.new result }
     {
         let mut inner = seated(replace(&mut seat.badge, Badge::blank()));
         let mut value = take(rt, &self.table.shared, &mut inner);
@@ -126,14 +129,44 @@ impl<T: Recorded> TurnLock<T> {
         answer
     }
 
+    /// The same behind the turns that are waited for already, as far as the counts tell: what is done
+    /// in the turn then serves these seats too.
+    pub fn enter_behind<X, F: FnOnce(&mut T) -> (bool, X), R: Wait>(
+        &self,
+        rt: &R,
+        seat: &mut Seat,
+        act: F,
+    ) -> X
+        requires place { seat.old.lock ≡ self.now }
+        requires callable { (value : T) → MayFind T.history T.opening T.sealed seat.old value → FnOnceTakesAtMut F.FnOnce act value }
+        requires turn { (before after : T) (answer : Bool × X) → MayFind T.history T.opening T.sealed seat.old before → FnOnceReturnsAtMut F.FnOnce act before answer after → IsTurn T.history T.opening T.sealed seat.old.number seat.old.unsealed before after answer.0 }
+        ensures turn { Entered T.history T.opening T.sealed F.FnOnce act seat.old seat.new result }
+    {
+        self.stand_behind(rt, seat);
+        self.enter(rt, seat, act)
+    }
+
+    // Waits until those who asked for the turn have had theirs.
+    fn stand_behind<R: Wait>(&self, rt: &R, seat: &mut Seat)
+        requires place { seat.old.lock ≡ self.now }
+        ensures { seat.new ≡ seat.old }
+    {
+        let mut inner = seated(replace(&mut seat.badge, Badge::blank()));
+        stand_back(rt, &self.table.shared, &mut inner);
+        seat.badge = inner.into_badge();
+    }
+
     /// The value, once the lead has joined every seat that it split off.
     pub fn close(self, lead: Seat) -> T
         requires place { lead.lock ≡ self }
         requires leads { lead.number ≡ 0 }
         requires alone { lead.out ≡ 0 }
+        requires sealed { lead.unsealed ≡ None }
         ensures history { T.history result ≡ lead.front }
         ensures opening { T.opening result ≡ self.opening }
         ensures recorded { All (λ (e : Entry). e.who ≤ lead.split) (T.history result) }
+        // Nothing waits to be sealed, unless a breaking fault is held.
+        ensures sealed { is_down (T.history result) ≡ false → stored_length (T.history result) ≤ T.sealed result }
     {
         let TurnLock { table } = self;
         let Seat {

@@ -1,5 +1,5 @@
 //! The table's rule, and what each step tells.
-ghost use Rattle.bookmark_lock.specs.Rule.{Kept, first_view, taken, counted, freed, drew, settled, fork_left, fork_right, merge_both, spent_view};
+ghost use Rattle.bookmark_lock.specs.Rule.{Kept, first_view, taken, counted, passed, freed, drew, settled, fork_left, fork_right, merge_both, spent_view};
 
 use crate::Recorded;
 use crate::view::View;
@@ -12,9 +12,9 @@ pub struct Turns<T> {
 }
 
 impl<T: Recorded> TableRule<Option<T>, View, Snapshot<T>> for Turns<T> {
-    ghost holds = { λ key. Kept T.history T.opening key.value };
+    ghost holds = { λ key. Kept T.history T.opening T.sealed key.value };
 
-    ghost first = { λ key. first_view T.history T.opening key.value };
+    ghost first = { λ key. first_view T.history T.opening T.sealed key.value };
 }
 
 pub struct Take<T> {
@@ -22,7 +22,7 @@ pub struct Take<T> {
 }
 
 impl<T: Recorded> Play<Option<T>, View> for Take<T> {
-    ghost then = { taken T.history T.opening };
+    ghost then = { taken T.history T.opening T.sealed };
 }
 
 pub struct Count<T> {
@@ -30,7 +30,13 @@ pub struct Count<T> {
 }
 
 impl<T: Recorded> Play<Option<T>, View> for Count<T> {
-    ghost then = { counted T.history T.opening };
+    ghost then = { counted T.history T.opening T.sealed };
+}
+
+pub struct Pass;
+
+impl<T> Play<Option<T>, View> for Pass {
+    ghost then = { passed };
 }
 
 pub struct Free;

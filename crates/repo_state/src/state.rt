@@ -1,6 +1,7 @@
 //! The repository.
 ghost use Rattle.std.specs.Prelude.{◌≡◌, length};
 ghost use Rattle.history_model.specs.History.{is_down, known, stored};
+ghost use Rattle.bookmark_lock.specs.Turns.{stored_length};
 ghost use Rattle.reply_model.specs.Legal.{IsLegal};
 ghost use Rattle.core_model.specs.Core.{opened};
 ghost use Rattle.landing_core.specs.Steps.{Shows};
@@ -112,6 +113,9 @@ impl<D: Disk> Recorded for RepoState<D> {
     ghost history = { λ s. s.history };
 
     ghost opening = { λ s. s.opening };
+
+    // Each entry is sealed as it is made.
+    ghost sealed = { λ s. stored_length s.history };
 
     fn length_word(&self) -> u64 {
         self.history_length()

@@ -8,7 +8,7 @@ use Rattle.byte_fields.specs.Bytes.{Id}
 use Rattle.history_model.specs.History.{Body, Entry, entries_by}
 use Rattle.history_model.specs.Journal.{Header}
 use Rattle.reply_model.specs.After.{entry_by}
-use Rattle.bookmark_lock.specs.Place.{Place, with_front}
+use Rattle.bookmark_lock.specs.Place.{Place, moved}
 use Rattle.bookmark_lock.proofs.Entries.{entries_none}
 use Rattle.run_gen.specs.Stacks.{base_id}
 use Rattle.run_gen.specs.Calls.{bodies_of, heads_of, landings_in}
@@ -77,8 +77,8 @@ module _ (first : Place) (clients seed stacks : ℕ) (all : List Seated) (fin : 
       is_did : Did seed stacks begun end
       is_did = did k (record { seat = first; number = 0 }) (record { seat = first; outcome = Ok tt }) (omega arith)
 
-      moved : end.seat ≡ with_front (place_at first k) end.seat.front
-      moved = let d = is_did in let j = is_client in d.moved ∙ ap (λ (p : Place). with_front p end.seat.front) j.seat
+      seat_moved : end.seat ≡ moved (place_at first k) end.seat
+      seat_moved = let d = is_did in let j = is_client in d.moved ∙ ap (λ (p : Place). moved p end.seat) j.seat
 
       seat_is : (e : Place) → get_or (map seat_of fin) k e ≡ end.seat
       seat_is e = get_or-map seat_of fin k (record { seat = first; outcome = Ok tt }) e (omega arith)
@@ -88,7 +88,7 @@ module _ (first : Place) (clients seed stacks : ℕ) (all : List Seated) (fin : 
         let inside : k < clients = omega arith in
         let d = did k (record { seat = first; number = 0 }) e (omega arith) in
         let j = is_client k inside in
-        ap (λ (p : Place). p.lock) (d.moved ∙ ap (λ (p : Place). with_front p (get_or fin k e).seat.front) j.seat)
+        ap (λ (p : Place). p.lock) (d.moved ∙ ap (λ (p : Place). moved p (get_or fin k e).seat) j.seat)
 
     module _ (begins : first.front ≡ lead_entries) (none : first.split ≡ 0) (now : Place) (each : All (HasAll now) (seats_of fin)) (history : List Entry) (is : history ≡ now.front) (k : ℕ) (h : k < clients) where
       number_is : first.split + k + 1 ≡ k + 1
@@ -98,7 +98,7 @@ module _ (first : Place) (clients seed stacks : ℕ) (all : List Seated) (fin : 
       has_all = subst (λ (p : Place). HasAll now p) (seat_is k h first) (each k first (omega (arith, length-map fin seat_of)))
 
       seat_number : (end k h).seat.number ≡ k + 1
-      seat_number = ap (λ (p : Place). p.number) (moved k h) ∙ number_is
+      seat_number = ap (λ (p : Place). p.number) (seat_moved k h) ∙ number_is
 
       ran : Ran first.lock.opening.header (k + 1) lead_entries k seed stacks (end k h).outcome (end k h).seat.front
       ran =

@@ -4,7 +4,7 @@ use Rattle.std.specs.Prelude.{Result, Ok, Err, ◌==◌}
 use Rattle.std.proofs.lemmas.Bool.{eqb-true, eqb-false}
 use mathlib.Core.List.{IsPrefix}
 use Rattle.byte_fields.specs.Bytes.{Id}
-use Rattle.bookmark_lock.specs.Place.{Place, with_front}
+use Rattle.bookmark_lock.specs.Place.{Place, moved}
 use Rattle.history_model.specs.History.{Entry}
 use Rattle.history_model.specs.Journal.{Header}
 use Rattle.reply_model.specs.Reply.{Ask}
@@ -18,7 +18,7 @@ use Rattle.byte_fields.proofs.Lists.{prefix_self, prefix_trans}
 use Rattle.run_gen.proofs.Joined.{and_then, same_answered, stops_early}
 
 pub seat_then : {X Y : Type 0} (header : Header) (seat mid : Place) (to : List Entry) (asks more : List Ask) (heads others : List Id) (x : X) (outcome : Result Y LoadFault)
-    → mid ≡ with_front seat mid.front → Answered header seat.number seat.front asks heads (Ok x) mid.front → Answered header mid.number mid.front more others outcome to
+    → mid ≡ moved seat mid → Answered header seat.number seat.front asks heads (Ok x) mid.front → Answered header mid.number mid.front more others outcome to
     → Answered header seat.number seat.front (asks ++ more) (heads ++ others) outcome to
 seat_then header seat mid to asks more heads others x outcome is a b =
     and_then header seat.number seat.front mid.front to asks more heads others x outcome a (subst (λ n. Answered header n mid.front more others outcome to) (ap (λ (p : Place). p.number) is) b)
@@ -38,7 +38,7 @@ parts_begin c j k zero stack less = let none : zero ≡ k = omega arith in subst
 parts_begin c j k (suc n) stack less = begins_by c j k n stack (λ fewer. parts_begin c j k n stack fewer) less (k == suc n) refl
 
 -- at the seat of a client, so many changesets of a stack are stored
-module _ (header : Header) (seat mid : Place) (c j k : ℕ) (stack : Stack) (last : Id) (state : ℕ) (is : mid ≡ with_front seat mid.front) where
+module _ (header : Header) (seat mid : Place) (c j k : ℕ) (stack : Stack) (last : Id) (state : ℕ) (is : mid ≡ moved seat mid) where
   abbrev so_far : Stack
   so_far = parts_of c j k stack
 
@@ -67,5 +67,5 @@ module _ (header : Header) (seat mid : Place) (c j k : ℕ) (stack : Stack) (las
     state_put new e = e ∙ ap after_part state_is ∙ sym (ap (λ (s : Stack). s.state) (parts_more c j k stack))
 
 -- the number of a seat that has seen more
-pub same_number : (seat mid : Place) → mid ≡ with_front seat mid.front → mid.number ≡ seat.number
+pub same_number : (seat mid : Place) → mid ≡ moved seat mid → mid.number ≡ seat.number
 same_number seat mid is = ap (λ (p : Place). p.number) is

@@ -2,8 +2,8 @@
 --     IsReady site seed seated      a client at a seat of this repository, whose disk fails no call
 --     Did seed stacks seated finished      it landed so many stacks there, or stopped
 --     IsClientAt lead k seated, AreClients lead n all      the client with this number;  the clients with the numbers below n
-use Rattle.std.specs.Prelude.{◌≡◌, ℕ, ◌+◌, ◌<◌, ◌^◌, List, [], slice_index_or}
-use Rattle.bookmark_lock.specs.Place.{Place, Site, with_front}
+use Rattle.std.specs.Prelude.{◌≡◌, ℕ, ◌+◌, ◌<◌, ◌^◌, List, [], slice_index_or, None}
+use Rattle.bookmark_lock.specs.Place.{Place, Site, moved}
 use Rattle.run_gen.specs.Clients.{Ran}
 use Rattle.repo_state.specs.State.{IsQuiet}
 use Rattle.run_gen.specs.declared.crew.Seated.{Seated}
@@ -16,12 +16,12 @@ pub record IsReady (site : Site) (seed : ℕ) (seated : Seated) : Type 0 where
   pub fits : seed + seated.number < 2 ^ 64
 
 pub record Did (seed stacks : ℕ) (seated : Seated) (finished : Finished) : Type 0 where
-  pub moved : finished.seat ≡ with_front seated.seat finished.seat.front
+  pub moved : finished.seat ≡ moved seated.seat finished.seat
   pub ran : Ran seated.seat.lock.opening.header seated.seat.number seated.seat.front seated.number seed stacks finished.outcome finished.seat.front
 
 -- the seat that this lead splits off after so many others
 abbrev pub place_at : Place → ℕ → Place
-place_at lead k = record { lock = lead.lock; number = lead.split + k + 1; front = lead.front; split = 0; out = 0; joined = [] }
+place_at lead k = record { lock = lead.lock; number = lead.split + k + 1; front = lead.front; sealed = lead.sealed; unsealed = None; split = 0; out = 0; joined = [] }
 
 pub record IsClientAt (lead : Place) (k : ℕ) (seated : Seated) : Type 0 where
   pub seat : seated.seat ≡ place_at lead k

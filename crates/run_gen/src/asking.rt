@@ -1,6 +1,6 @@
 //! One change that a client asks for.
 ghost use Rattle.std.specs.Prelude.{◌≡◌, ◌∷◌, [], IfOk, IsTrue};
-ghost use Rattle.bookmark_lock.specs.Place.{with_front};
+ghost use Rattle.bookmark_lock.specs.Place.{moved};
 ghost use Rattle.reply_model.specs.Reply.{LandDraft};
 ghost use Rattle.repo_calls.specs.Calls.{ask_seen, granted_seen};
 ghost use Rattle.repo_state.specs.State.{IsQuiet};
@@ -58,7 +58,7 @@ fn ask<R: Wait, D: Disk>(
 ) -> Result<Granted, LoadFault>
     requires place { seat.old.lock ≡ repo.now }
     requires quiet { IsQuiet repo.now.opening }
-    ensures seat { seat.new ≡ with_front seat.old seat.new.front }
+    ensures seat { seat.new ≡ moved seat.old seat.new }
     ensures answered { Answered repo.now.opening.header seat.old.number seat.old.front (ask_seen change.now ∷ []) (heads_left result) result seat.new.front }
     ensures fits { IfOk result (λ granted. FitsAsk (ask_seen change.now) (granted_seen granted)) }
 {
@@ -80,7 +80,7 @@ pub(crate) fn put<R: Wait, D: Disk>(
     requires place { seat.old.lock ≡ repo.now }
     requires quiet { IsQuiet repo.now.opening }
     requires upload { IsTrue (is_upload (ask_seen upload.now)) }
-    ensures seat { seat.new ≡ with_front seat.old seat.new.front }
+    ensures seat { seat.new ≡ moved seat.old seat.new }
     ensures answered { Answered repo.now.opening.header seat.old.number seat.old.front (ask_seen upload.now ∷ []) [] result seat.new.front }
 {
     let answer = ask(rt, alloc, repo, seat, upload);
@@ -118,7 +118,7 @@ pub(crate) fn land<R: Wait, D: Disk>(
 ) -> Result<Id, LoadFault>
     requires place { seat.old.lock ≡ repo.now }
     requires quiet { IsQuiet repo.now.opening }
-    ensures seat { seat.new ≡ with_front seat.old seat.new.front }
+    ensures seat { seat.new ≡ moved seat.old seat.new }
     ensures answered { Answered repo.now.opening.header seat.old.number seat.old.front (LandDraft name.now draft ∷ []) (heads_given result) result seat.new.front }
 {
     let answer = ask(rt, alloc, repo, seat, &Ask::Land { name, draft });

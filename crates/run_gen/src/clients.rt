@@ -1,6 +1,6 @@
 //! One client of a load.
 ghost use Rattle.std.specs.Prelude.{◌≡◌, ◌+◌, ◌<◌, ◌^◌, IfOk};
-ghost use Rattle.bookmark_lock.specs.Place.{with_front};
+ghost use Rattle.bookmark_lock.specs.Place.{moved};
 ghost use Rattle.repo_state.specs.State.{IsQuiet};
 ghost use Rattle.run_gen.specs.Clients.{Ran};
 ghost use Rattle.run_gen.specs.Stacks.{main};
@@ -42,7 +42,7 @@ fn land_all<R: Wait, D: Disk>(
     requires number { number < 8 }
     requires seed { seed + number < 2 ^ 64 }
     requires stacks { 0 < stacks }
-    ensures seat { seat.new ≡ with_front seat.old seat.new.front }
+    ensures seat { seat.new ≡ moved seat.old seat.new }
     ensures ran { Ran repo.now.opening.header seat.old.number seat.old.front number seed stacks result seat.new.front }
 {
     let mut draws = Draws::new(seed + number);
@@ -77,7 +77,7 @@ pub fn client<R: Wait, D: Disk>(
     requires number { number < 8 }
     requires seed { seed + number < 2 ^ 64 }
     requires stacks { 0 < stacks }
-    ensures seat { seat.new ≡ with_front seat.old seat.new.front }
+    ensures seat { seat.new ≡ moved seat.old seat.new }
     ensures ran { Ran repo.now.opening.header seat.old.number seat.old.front number seed stacks result seat.new.front }
 {
     let Ok(name) = main_name(alloc) else {

@@ -1,7 +1,7 @@
 //! One stack of a client.
 ghost use Rattle.std.specs.Prelude.{◌≡◌, ◌<◌, ◌∷◌, [], ◌++◌, IfOk, OnOk, option_map, string_bytes};
 ghost use Rattle.changeset_model.specs.Changeset.{id_of};
-ghost use Rattle.bookmark_lock.specs.Place.{with_front};
+ghost use Rattle.bookmark_lock.specs.Place.{moved};
 ghost use Rattle.reply_model.specs.Reply.{PutChangeset};
 ghost use Rattle.repo_state.specs.State.{IsQuiet};
 ghost use Rattle.run_gen.specs.Stacks.{after_part, changeset_of, main, part_asks, part_of, parts_on, stack_of};
@@ -29,7 +29,7 @@ fn put_content<R: Wait, D: Disk>(
 ) -> Result<(), LoadFault>
     requires place { seat.old.lock ≡ repo.now }
     requires quiet { IsQuiet repo.now.opening }
-    ensures seat { seat.new ≡ with_front seat.old seat.new.front }
+    ensures seat { seat.new ≡ moved seat.old seat.new }
     ensures answered { Answered repo.now.opening.header seat.old.number seat.old.front (content_asks (option_map string_bytes content.now)) [] result seat.new.front }
 {
     match content {
@@ -48,7 +48,7 @@ fn put_upload<R: Wait, D: Disk>(
 ) -> Result<(), LoadFault>
     requires place { seat.old.lock ≡ repo.now }
     requires quiet { IsQuiet repo.now.opening }
-    ensures seat { seat.new ≡ with_front seat.old seat.new.front }
+    ensures seat { seat.new ≡ moved seat.old seat.new }
     ensures answered { Answered repo.now.opening.header seat.old.number seat.old.front (content_asks (option_map string_bytes upload.now.content) ++ PutChangeset upload.now.encoding.items ∷ []) [] result seat.new.front }
 {
     match put_content(rt, alloc, repo, seat, &upload.content) {
@@ -78,7 +78,7 @@ fn put_part<R: Wait, D: Disk>(
     requires place { seat.old.lock ≡ repo.now }
     requires quiet { IsQuiet repo.now.opening }
     requires client { client < 8 }
-    ensures seat { seat.new ≡ with_front seat.old seat.new.front }
+    ensures seat { seat.new ≡ moved seat.old seat.new }
     ensures answered { Answered repo.now.opening.header seat.old.number seat.old.front (part_asks client stack place parent (part_of draws.old)) [] result seat.new.front }
     ensures id { IfOk result (λ id. id ≡ id_of (changeset_of client stack place parent (part_of draws.old))) }
     ensures state { OnOk result (draws.new ≡ after_part draws.old) }
@@ -106,7 +106,7 @@ fn put_parts<R: Wait, D: Disk>(
     requires place { seat.old.lock ≡ repo.now }
     requires quiet { IsQuiet repo.now.opening }
     requires client { client < 8 }
-    ensures seat { seat.new ≡ with_front seat.old seat.new.front }
+    ensures seat { seat.new ≡ moved seat.old seat.new }
     ensures answered { Answered repo.now.opening.header seat.old.number seat.old.front (parts_on client stack parent draws.old).asks [] result seat.new.front }
     ensures last { IfOk result (λ id. id ≡ (parts_on client stack parent draws.old).last) }
     ensures state { OnOk result (draws.new ≡ (parts_on client stack parent draws.old).state) }
@@ -138,7 +138,7 @@ pub(crate) fn land_stack<R: Wait, D: Disk>(
     requires quiet { IsQuiet repo.now.opening }
     requires name { name.now ≡ main }
     requires client { client < 8 }
-    ensures seat { seat.new ≡ with_front seat.old seat.new.front }
+    ensures seat { seat.new ≡ moved seat.old seat.new }
     ensures answered { Answered repo.now.opening.header seat.old.number seat.old.front (stack_of client stack parent draws.old).asks (heads_given result) result seat.new.front }
     ensures state { OnOk result (draws.new ≡ (stack_of client stack parent draws.old).state) }
 {

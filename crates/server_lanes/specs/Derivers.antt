@@ -6,10 +6,10 @@
 --     HasNone lead deriver, HaveNone lead derivers      the lead has joined the deriver's seat, and has seen no entry of it;  so of these
 use Rattle.std.specs.Prelude.{◌≡◌, ◌+◌, ◌<◌, ◌≤◌, ℕ, List, [], length, slice_index_or, All, Contains}
 use Rattle.history_model.specs.History.{Entry, entries_by}
-use Rattle.bookmark_lock.specs.Place.{Place, Site, with_front}
+use Rattle.bookmark_lock.specs.Place.{Place, Site, home_of}
 
 pub record HasDerived (before after : Place) : Type 0 where
-  pub home : with_front after [] ≡ with_front before []
+  pub home : home_of after ≡ home_of before
   pub own : entries_by after.number after.front ≡ entries_by before.number before.front
 
 pub record IsIdle (site : Site) (deriver : Place) : Type 0 where

@@ -5,9 +5,9 @@
 --     HasRun before after      a lane at its seat served links until it was told that no more will come
 --     IsDone site lane      so it is of a lane that was at this repository
 --     TakesBack before count after      a lead has joined so many seats
-use Rattle.std.specs.Prelude.{◌≡◌, ◌-◌, ◌<◌, ℕ, []}
+use Rattle.std.specs.Prelude.{◌≡◌, ◌-◌, ◌<◌, ℕ}
 use mathlib.Core.List.{IsPrefix}
-use Rattle.bookmark_lock.specs.Place.{Place, Site, with_front}
+use Rattle.bookmark_lock.specs.Place.{Place, Site, home_of}
 
 pub record TallyView : Type 0 where
   pub parts : ℕ
@@ -23,7 +23,7 @@ pub record IsAt (site : Site) (lane : LaneView) : Type 0 where
   pub part : lane.tally.parts ≡ 1
 
 pub record HasRun (before after : LaneView) : Type 0 where
-  pub home : with_front after.place [] ≡ with_front before.place []
+  pub home : home_of after.place ≡ home_of before.place
   pub part : after.tally.parts ≡ before.tally.parts
   pub told : 0 < after.tally.told
 

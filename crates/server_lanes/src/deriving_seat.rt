@@ -1,7 +1,7 @@
 //! A seat at which manifests are derived.
-ghost use Rattle.std.specs.Prelude.{◌≡◌, []};
+ghost use Rattle.std.specs.Prelude.{◌≡◌};
 ghost use Rattle.history_model.specs.History.{entries_by};
-ghost use Rattle.bookmark_lock.specs.Place.{Place, with_front};
+ghost use Rattle.bookmark_lock.specs.Place.{Place, home_of};
 ghost use Rattle.reply_model.specs.After.{After, Answer, Derives as Asked};
 
 use blob_disk::Disk;
@@ -52,7 +52,7 @@ impl<'a, R: Wait, D: Disk> DerivingSeat<'a, R, D> {
 impl<'a, R: Wait, D: Disk> Derives for DerivingSeat<'a, R, D> {
     ghost Home = { Place };
 
-    ghost home = { λ s. with_front s [] };
+    ghost home = { λ s. home_of s };
 
     ghost own = { λ s. entries_by s.number s.front };
 

@@ -1,7 +1,7 @@
 //! What one thread serves links with.
-ghost use Rattle.std.specs.Prelude.{◌≡◌, ◌<◌, []};
+ghost use Rattle.std.specs.Prelude.{◌≡◌, ◌<◌};
 ghost use Rattle.std.specs.Bool.{OnFalse};
-ghost use Rattle.bookmark_lock.specs.Place.{with_front};
+ghost use Rattle.bookmark_lock.specs.Place.{home_of};
 ghost use Rattle.server_lanes.specs.Lanes.{HasRun};
 
 use crate::door::Door;
@@ -51,7 +51,7 @@ impl<'a, R: Wait, D: Disk, G: Gate, L: Link, K: Run, E: Ledger> Lane<'a, R, D, G
         door: &Mutex<Door<A, L, K, E>>,
     ) -> bool
         requires { 0 < self.old.tally.parts }
-        ensures home { with_front self.new.place [] ≡ with_front self.old.place [] }
+        ensures home { home_of self.new.place ≡ home_of self.old.place }
         ensures parts { self.new.tally.parts ≡ self.old.tally.parts }
         ensures told { OnFalse result (0 < self.new.tally.told) }
     {
@@ -61,7 +61,7 @@ impl<'a, R: Wait, D: Disk, G: Gate, L: Link, K: Run, E: Ledger> Lane<'a, R, D, G
 
     // Tells the derivers, if there are any, the heads of the bookmarks, unless another lane does.
     fn tell_heads(&mut self, rt: &R, alloc: Global)
-        ensures home { with_front self.new.place [] ≡ with_front self.old.place [] }
+        ensures home { home_of self.new.place ≡ home_of self.old.place }
         ensures tally { self.new.tally ≡ self.old.tally }
     {
         let Lane {
@@ -76,7 +76,7 @@ impl<'a, R: Wait, D: Disk, G: Gate, L: Link, K: Run, E: Ledger> Lane<'a, R, D, G
 
     // Tells the derivers, if there are any, what the log has since the last time.
     fn feed_derivers(&mut self, rt: &R, alloc: Global)
-        ensures home { with_front self.new.place [] ≡ with_front self.old.place [] }
+        ensures home { home_of self.new.place ≡ home_of self.old.place }
         ensures tally { self.new.tally ≡ self.old.tally }
     {
         let Lane {

@@ -102,7 +102,7 @@ fn serve_on<
 ) -> Closing<D, A, L>
     requires some { 0 < numbers.lanes }
     requires room { numbers.lanes + numbers.derivers ≤ 2 ^ 63 }
-    requires lead { lead ≡ lead_place repo lead.front }
+    requires lead { lead ≡ lead_place repo lead.front lead.sealed }
     requires parts { K.parts ≡ numbers.lanes }
     requires tally { tally ≡ record { parts = numbers.lanes; served = 0; told = 0 } }
     requires given { A.given door.accept ≡ K.given }

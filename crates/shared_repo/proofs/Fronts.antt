@@ -1,10 +1,9 @@
 -- From the turns of a landing to its answer.
-use Rattle.std.proofs.Common.{◌≡◌, ℕ, List, [], Option, None, Some, refl, ap, sym, ◌∙◌, subst, append-nil}
+use Rattle.std.proofs.Common.{◌≡◌, ℕ, List, Option, None, Some, refl, ap, sym, ◌∙◌, subst, append-nil}
 use mathlib.Core.List.{IsPrefix}
 use Rattle.byte_fields.specs.Bytes.{Id}
 use Rattle.history_model.specs.History.{Entry}
 use Rattle.history_model.specs.Journal.{Header}
-use Rattle.bookmark_lock.specs.Place.{Place, with_front}
 use Rattle.byte_fields.proofs.Lists.{prefix_self, prefix_trans}
 use Rattle.reply_model.specs.Reply.{Ask, LandDraft}
 use Rattle.reply_model.specs.After.{Call, Asks, Answer, Answers, After, Memory, nothing, SeesMore}
@@ -68,7 +67,3 @@ after_memory header h who ask = after_nothing header h h who (Asks ask) Memory (
 -- a plan that was refused, in a turn of the seat `number`
 pub after_refusal : (header : Header) (old between new : List Entry) (who number : ℕ) (call : Call) (answer : Answer) → SeesMore old who between → number ≡ who → SeesMore between number new → Answers header new call answer nothing → After header old who call answer new
 after_refusal header old between new who number call answer s n t a = after_nothing header old new who call answer (sees_twice old between new who s (subst (λ (w : ℕ). SeesMore between w new) n t)) a
-
--- a seat that belongs where another does has its place, but for its front
-pub same_place : (a b : Place) → with_front a [] ≡ with_front b [] → a ≡ with_front b a.front
-same_place a b e = ap (λ (p : Place). with_front p a.front) e

@@ -5,3 +5,4 @@ pub mod Fronts
 pub mod Landings
 pub mod Made
 pub mod Sending
+pub mod Turning

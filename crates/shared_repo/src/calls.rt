@@ -1,6 +1,6 @@
 //! The calls of a seat by their names, each one of its changes or reads.
 ghost use Rattle.std.specs.Prelude.{◌≡◌};
-ghost use Rattle.bookmark_lock.specs.Place.{with_front};
+ghost use Rattle.bookmark_lock.specs.Place.{moved};
 ghost use Rattle.reply_model.specs.Reply.{PutContent, PutChangeset, SetBookmark, LandDraft, HeadOf, ContentOf, ChangesetOf, LogFrom, FsnodeOf, UnodeOf, HistoryOf};
 ghost use Rattle.reply_model.specs.After.{After, Answer, Asks, Looks};
 ghost use Rattle.repo_calls.specs.Asking.{IsAnswer, place_of, stored_answer};
@@ -26,7 +26,7 @@ impl<D: Disk> Repo<D> {
         bytes: &[u8],
     ) -> Result<Granted, ChangeFault>
         requires place { seat.old.lock ≡ self.now }
-        ensures seat { seat.new ≡ with_front seat.old seat.new.front }
+        ensures seat { seat.new ≡ moved seat.old seat.new }
         ensures after { After self.now.opening.header seat.old.front seat.old.number (Asks (PutContent bytes.now)) (stored_answer result) seat.new.front }
         ensures front { IsFront self.now.opening seat.new.front }
     {
@@ -42,7 +42,7 @@ impl<D: Disk> Repo<D> {
         bytes: &[u8],
     ) -> Result<Granted, ChangeFault>
         requires place { seat.old.lock ≡ self.now }
-        ensures seat { seat.new ≡ with_front seat.old seat.new.front }
+        ensures seat { seat.new ≡ moved seat.old seat.new }
         ensures after { After self.now.opening.header seat.old.front seat.old.number (Asks (PutChangeset bytes.now)) (stored_answer result) seat.new.front }
         ensures front { IsFront self.now.opening seat.new.front }
     {
@@ -60,7 +60,7 @@ impl<D: Disk> Repo<D> {
         to: Option<Id>,
     ) -> Result<Granted, ChangeFault>
         requires place { seat.old.lock ≡ self.now }
-        ensures seat { seat.new ≡ with_front seat.old seat.new.front }
+        ensures seat { seat.new ≡ moved seat.old seat.new }
         ensures after { After self.now.opening.header seat.old.front seat.old.number (Asks (SetBookmark name.now from to)) (stored_answer result) seat.new.front }
         ensures front { IsFront self.now.opening seat.new.front }
     {
@@ -84,7 +84,7 @@ impl<D: Disk> Repo<D> {
         gate: &G,
     ) -> Result<Granted, ChangeFault>
         requires place { seat.old.lock ≡ self.now }
-        ensures seat { seat.new ≡ with_front seat.old seat.new.front }
+        ensures seat { seat.new ≡ moved seat.old seat.new }
         ensures after { After self.now.opening.header seat.old.front seat.old.number (Asks (LandDraft name.now draft)) (stored_answer result) seat.new.front }
         ensures front { IsFront self.now.opening seat.new.front }
     {
@@ -100,7 +100,7 @@ impl<D: Disk> Repo<D> {
         name: &BookName,
     ) -> Result<Seen, AskFault>
         requires place { seat.old.lock ≡ self.now }
-        ensures seat { seat.new ≡ with_front seat.old seat.new.front }
+        ensures seat { seat.new ≡ moved seat.old seat.new }
         ensures after { (answer : Answer) × IsAnswer result answer × After self.now.opening.header seat.old.front seat.old.number (Looks (HeadOf name.now)) answer seat.new.front }
         ensures front { IsFront self.now.opening seat.new.front }
     {
@@ -116,7 +116,7 @@ impl<D: Disk> Repo<D> {
         id: Id,
     ) -> Result<Seen, AskFault>
         requires place { seat.old.lock ≡ self.now }
-        ensures seat { seat.new ≡ with_front seat.old seat.new.front }
+        ensures seat { seat.new ≡ moved seat.old seat.new }
         ensures after { (answer : Answer) × IsAnswer result answer × After self.now.opening.header seat.old.front seat.old.number (Looks (ContentOf id)) answer seat.new.front }
         ensures front { IsFront self.now.opening seat.new.front }
     {
@@ -132,7 +132,7 @@ impl<D: Disk> Repo<D> {
         id: Id,
     ) -> Result<Seen, AskFault>
         requires place { seat.old.lock ≡ self.now }
-        ensures seat { seat.new ≡ with_front seat.old seat.new.front }
+        ensures seat { seat.new ≡ moved seat.old seat.new }
         ensures after { (answer : Answer) × IsAnswer result answer × After self.now.opening.header seat.old.front seat.old.number (Looks (ChangesetOf id)) answer seat.new.front }
         ensures front { IsFront self.now.opening seat.new.front }
     {
@@ -148,7 +148,7 @@ impl<D: Disk> Repo<D> {
         from: u64,
     ) -> Result<Seen, AskFault>
         requires place { seat.old.lock ≡ self.now }
-        ensures seat { seat.new ≡ with_front seat.old seat.new.front }
+        ensures seat { seat.new ≡ moved seat.old seat.new }
         ensures after { (answer : Answer) × IsAnswer result answer × After self.now.opening.header seat.old.front seat.old.number (Looks (LogFrom from)) answer seat.new.front }
         ensures front { IsFront self.now.opening seat.new.front }
     {
@@ -165,7 +165,7 @@ impl<D: Disk> Repo<D> {
         dir: Option<&RepoPath>,
     ) -> Result<Seen, AskFault>
         requires place { seat.old.lock ≡ self.now }
-        ensures seat { seat.new ≡ with_front seat.old seat.new.front }
+        ensures seat { seat.new ≡ moved seat.old seat.new }
         ensures after { (answer : Answer) × IsAnswer result answer × After self.now.opening.header seat.old.front seat.old.number (Looks (FsnodeOf id (place_of dir.entry))) answer seat.new.front }
         ensures front { IsFront self.now.opening seat.new.front }
     {
@@ -182,7 +182,7 @@ impl<D: Disk> Repo<D> {
         path: Option<&RepoPath>,
     ) -> Result<Seen, AskFault>
         requires place { seat.old.lock ≡ self.now }
-        ensures seat { seat.new ≡ with_front seat.old seat.new.front }
+        ensures seat { seat.new ≡ moved seat.old seat.new }
         ensures after { (answer : Answer) × IsAnswer result answer × After self.now.opening.header seat.old.front seat.old.number (Looks (UnodeOf id (place_of path.entry))) answer seat.new.front }
         ensures front { IsFront self.now.opening seat.new.front }
     {
@@ -199,7 +199,7 @@ impl<D: Disk> Repo<D> {
         path: &RepoPath,
     ) -> Result<Seen, AskFault>
         requires place { seat.old.lock ≡ self.now }
-        ensures seat { seat.new ≡ with_front seat.old seat.new.front }
+        ensures seat { seat.new ≡ moved seat.old seat.new }
         ensures after { (answer : Answer) × IsAnswer result answer × After self.now.opening.header seat.old.front seat.old.number (Looks (HistoryOf id path.now)) answer seat.new.front }
         ensures front { IsFront self.now.opening seat.new.front }
     {

@@ -1,12 +1,12 @@
 //! Changes of a repository that many seats share. An upload is hashed, decoded and put into its record outside of the turn,
 //! which has what needs the repository, and no more.
-ghost use Rattle.std.specs.Prelude.{◌≡◌};
-ghost use Rattle.bookmark_lock.specs.Place.{with_front};
+ghost use Rattle.std.specs.Prelude.{◌≡◌, None};
+ghost use Rattle.bookmark_lock.specs.Place.{moved};
 ghost use Rattle.bookmark_lock.specs.Turns.{IsTurn};
 ghost use Rattle.reply_model.specs.After.{After, Asks, Replies};
 ghost use Rattle.repo_calls.specs.Calls.{ask_seen};
 ghost use Rattle.repo_calls.specs.Asking.{stored_answer};
-ghost use Rattle.shared_repo.specs.Front.{IsFront, history_of, opening_of};
+ghost use Rattle.shared_repo.specs.Front.{IsFront, history_of, opening_of, sealed_of};
 
 use crate::repo::Repo;
 use crate::seat::RepoSeat;
@@ -30,7 +30,7 @@ impl<D: Disk> Repo<D> {
         gate: &G,
     ) -> Result<Granted, ChangeFault>
         requires place { seat.old.lock ≡ self.now }
-        ensures seat { seat.new ≡ with_front seat.old seat.new.front }
+        ensures seat { seat.new ≡ moved seat.old seat.new }
         ensures after { After self.now.opening.header seat.old.front seat.old.number (Asks (ask_seen ask.now)) (stored_answer result) seat.new.front }
         ensures front { IsFront self.now.opening seat.new.front }
     {
@@ -52,7 +52,7 @@ impl<D: Disk> Repo<D> {
         ask: &Ask,
     ) -> Result<Granted, ChangeFault>
         requires place { seat.old.lock ≡ self.now }
-        ensures seat { seat.new ≡ with_front seat.old seat.new.front }
+        ensures seat { seat.new ≡ moved seat.old seat.new }
         ensures after { After self.now.opening.header seat.old.front seat.old.number (Asks (ask_seen ask.now)) (stored_answer result) seat.new.front }
         ensures front { IsFront self.now.opening seat.new.front }
     {
@@ -65,6 +65,7 @@ impl<D: Disk> Repo<D> {
     }
 
     // The turn of a change that is ready.
+    #[tactic(auto, using(crate::proofs::Turning::keeps_none))]
     fn store_in_turn<R: Wait, C: TurnChange<D>>(
         &self,
         rt: &R,
@@ -74,7 +75,7 @@ impl<D: Disk> Repo<D> {
     ) -> Result<Granted, ChangeFault>
         requires place { seat.old.lock ≡ self.now }
         requires ready { C.ready change }
-        ensures seat { seat.new ≡ with_front seat.old seat.new.front }
+        ensures seat { seat.new ≡ moved seat.old seat.new }
         ensures after { After self.now.opening.header seat.old.front seat.old.number (Asks (C.asked change)) (stored_answer result) seat.new.front }
         ensures front { IsFront self.now.opening seat.new.front }
     {
@@ -85,7 +86,7 @@ impl<D: Disk> Repo<D> {
             |state: &mut RepoState<D>| -> (bool, Result<Granted, ChangeFault>)
                 requires { C.ready change }
                 ensures reply { Replies state.old.opening.header state.old.history who (Asks (C.asked change)) (stored_answer result.1) state.new.history }
-                ensures turn { IsTurn history_of opening_of who state.old state.new result.0 }
+                ensures turn { IsTurn history_of opening_of sealed_of who None state.old state.new result.0 }
                 ensures front { IsFront state.new.opening state.new.history }
             { change.store_in(state, alloc, who) },
         )

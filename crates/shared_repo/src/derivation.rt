@@ -1,7 +1,7 @@
 //! Derivations of manifests: each job is taken under one turn, derived outside of every turn, and
 //! settled under another.
 ghost use Rattle.std.specs.Prelude.{◌≡◌, false, IfOk, IfErr, IfSome};
-ghost use Rattle.bookmark_lock.specs.Place.{with_front};
+ghost use Rattle.bookmark_lock.specs.Place.{moved};
 ghost use Rattle.history_model.specs.History.{known};
 ghost use Rattle.manifest_store.specs.Settling.{IsCollision};
 ghost use Rattle.reply_model.specs.After.{After, Answers, Derives, nothing, SeesMore};
@@ -35,7 +35,7 @@ impl<D: Disk> Repo<D> {
         id: Id,
     ) -> Result<Roots, AskFault>
         requires place { seat.old.lock ≡ self.now }
-        ensures seat { seat.new ≡ with_front seat.old seat.new.front }
+        ensures seat { seat.new ≡ moved seat.old seat.new }
         ensures after { After self.now.opening.header seat.old.front seat.old.number (Derives id) (roots_answer result) seat.new.front }
         ensures more { SeesMore seat.old.front seat.old.number seat.new.front }
         ensures front { IsFront self.now.opening seat.new.front }
@@ -55,7 +55,7 @@ impl<D: Disk> Repo<D> {
         id: Id,
     ) -> Result<Roots, AskFault>
         requires place { seat.old.lock ≡ self.now }
-        ensures seat { seat.new ≡ with_front seat.old seat.new.front }
+        ensures seat { seat.new ≡ moved seat.old seat.new }
         ensures answer { Answers self.now.opening.header seat.new.front (Derives id) (roots_answer result) nothing }
         ensures more { SeesMore seat.old.front seat.old.number seat.new.front }
         ensures front { IsFront self.now.opening seat.new.front }
@@ -78,7 +78,7 @@ impl<D: Disk> Repo<D> {
         id: Id,
     ) -> Option<Result<Roots, AskFault>>
         requires place { seat.old.lock ≡ self.now }
-        ensures seat { seat.new ≡ with_front seat.old seat.new.front }
+        ensures seat { seat.new ≡ moved seat.old seat.new }
         ensures answer { IfSome result (λ answer. Answers self.now.opening.header seat.new.front (Derives id) (roots_answer answer) nothing) }
         ensures more { SeesMore seat.old.front seat.old.number seat.new.front }
         ensures front { IsFront self.now.opening seat.new.front }
@@ -98,6 +98,7 @@ impl<D: Disk> Repo<D> {
     }
 
     // The turn in which a job is taken, or the roots are read.
+    #[tactic(auto, using(crate::proofs::Turning::keeps_none, crate::proofs::Turning::still_turn))]
     fn next<R: Wait>(
         &self,
         rt: &R,
@@ -106,7 +107,7 @@ impl<D: Disk> Repo<D> {
         id: Id,
     ) -> Result<Next, AskFault>
         requires place { seat.old.lock ≡ self.now }
-        ensures seat { seat.new ≡ with_front seat.old seat.new.front }
+        ensures seat { seat.new ≡ moved seat.old seat.new }
         ensures more { SeesMore seat.old.front seat.old.number seat.new.front }
         ensures ok { IfOk result (IsNextSome self.now.opening.header seat.new.front id) }
         ensures err { IfErr result (λ fault. Answers self.now.opening.header seat.new.front (Derives id) (fault_answer fault) nothing) }
@@ -127,7 +128,7 @@ impl<D: Disk> Repo<D> {
     }
 
     // The turn in which what was derived is put in, without a copy of it and with nothing hashed.
-    #[tactic(auto, using(crate::proofs::Derivations::derived_later))]
+    #[tactic(auto, using(crate::proofs::Derivations::derived_later, crate::proofs::Turning::keeps_none, crate::proofs::Turning::still_turn))]
     fn settle<R: Wait>(
         &self,
         rt: &R,
@@ -137,7 +138,7 @@ impl<D: Disk> Repo<D> {
     ) -> Result<(), TableFault>
         requires place { seat.old.lock ≡ self.now }
         requires derived { WasDerived seat.old.front done }
-        ensures seat { seat.new ≡ with_front seat.old seat.new.front }
+        ensures seat { seat.new ≡ moved seat.old seat.new }
         ensures more { SeesMore seat.old.front seat.old.number seat.new.front }
         ensures err { IfErr result (λ fault. IsCollision (known seat.new.front) fault) }
         ensures front { IsFront self.now.opening seat.new.front }

@@ -1,13 +1,13 @@
 //! Landings: planned under one turn, rebased outside of every turn, and entered under another.
-ghost use Rattle.std.specs.Prelude.{◌≡◌, IfOk, IfErr, MatchOption, false};
-ghost use Rattle.bookmark_lock.specs.Place.{with_front};
+ghost use Rattle.std.specs.Prelude.{◌≡◌, IfOk, IfErr, MatchOption, false, None};
+ghost use Rattle.bookmark_lock.specs.Place.{moved};
 ghost use Rattle.bookmark_lock.specs.Turns.{IsTurn};
 ghost use Rattle.reply_model.specs.Reply.{LandDraft};
 ghost use Rattle.reply_model.specs.After.{After, Answers, Asks, Replies, nothing, SeesMore};
 ghost use Rattle.repo_calls.specs.Calls.{refused};
 ghost use Rattle.repo_machine.specs.Plans.{IsPlan, WasPlanned};
 ghost use Rattle.repo_calls.specs.Asking.{stored_answer};
-ghost use Rattle.shared_repo.specs.Front.{IsFront, history_of, opening_of};
+ghost use Rattle.shared_repo.specs.Front.{IsFront, history_of, opening_of, sealed_of};
 ghost use Rattle.shared_repo.specs.Landing.{IsEarlier};
 
 use crate::landing_turns::{land_in, plan_from};
@@ -43,7 +43,7 @@ impl<D: Disk> Repo<D> {
         gate: &G,
     ) -> Result<Granted, ChangeFault>
         requires place { seat.old.lock ≡ self.now }
-        ensures seat { seat.new ≡ with_front seat.old seat.new.front }
+        ensures seat { seat.new ≡ moved seat.old seat.new }
         ensures after { After self.now.opening.header seat.old.front seat.old.number (Asks (LandDraft name.now draft)) (stored_answer result) seat.new.front }
         ensures front { IsFront self.now.opening seat.new.front }
     {
@@ -62,7 +62,7 @@ impl<D: Disk> Repo<D> {
     }
 
     // The first turn of an attempt. There may be the plan of the attempt before.
-    #[tactic(auto, using(crate::proofs::Fronts::earlier_later))]
+    #[tactic(auto, using(crate::proofs::Fronts::earlier_later, crate::proofs::Turning::keeps_none, crate::proofs::Turning::still_turn))]
     fn plan<R: Wait>(
         &self,
         rt: &R,
@@ -74,7 +74,7 @@ impl<D: Disk> Repo<D> {
     ) -> Result<Plan, Refusal>
         requires place { seat.old.lock ≡ self.now }
         requires earlier { IsEarlier seat.old.front name.now draft earlier }
-        ensures seat { seat.new ≡ with_front seat.old seat.new.front }
+        ensures seat { seat.new ≡ moved seat.old seat.new }
         ensures more { SeesMore seat.old.front seat.old.number seat.new.front }
         ensures ok { IfOk result (IsPlan seat.new.front name.now draft) }
         ensures err { IfErr result (λ e. Answers self.now.opening.header seat.new.front (Asks (LandDraft name.now draft)) (refused e) nothing) }
@@ -108,7 +108,7 @@ impl<D: Disk> Repo<D> {
     ) -> Option<Result<Granted, ChangeFault>>
         requires place { seat.old.lock ≡ self.now }
         requires planned { IsPlan seat.old.front plan.now.name plan.now.draft plan.now }
-        ensures seat { seat.new ≡ with_front seat.old seat.new.front }
+        ensures seat { seat.new ≡ moved seat.old seat.new }
         ensures after { MatchOption result (SeesMore seat.old.front seat.old.number seat.new.front) (λ answer. After self.now.opening.header seat.old.front seat.old.number (Asks (LandDraft plan.now.name plan.now.draft)) (stored_answer answer) seat.new.front) }
         ensures front { IsFront self.now.opening seat.new.front }
     {
@@ -121,7 +121,7 @@ impl<D: Disk> Repo<D> {
     }
 
     // The second turn of an attempt: the landing's answer, or none where the head has moved.
-    #[tactic(auto, using(repo_machine::proofs::Planning::was_planned))]
+    #[tactic(auto, using(repo_machine::proofs::Planning::was_planned, crate::proofs::Turning::keeps_none))]
     fn exchange<R: Wait>(
         &self,
         rt: &R,
@@ -131,7 +131,7 @@ impl<D: Disk> Repo<D> {
     ) -> Option<Result<Granted, ChangeFault>>
         requires place { seat.old.lock ≡ self.now }
         requires planned { WasPlanned seat.old.front rebased }
-        ensures seat { seat.new ≡ with_front seat.old seat.new.front }
+        ensures seat { seat.new ≡ moved seat.old seat.new }
         ensures after { MatchOption result (SeesMore seat.old.front seat.old.number seat.new.front) (λ answer. After self.now.opening.header seat.old.front seat.old.number (Asks (LandDraft rebased.name rebased.draft)) (stored_answer answer) seat.new.front) }
         ensures front { IsFront self.now.opening seat.new.front }
     {
@@ -142,14 +142,14 @@ impl<D: Disk> Repo<D> {
             |state: &mut RepoState<D>| -> (bool, Option<Result<Granted, ChangeFault>>)
                 requires { WasPlanned state.old.history rebased }
                 ensures reply { MatchOption result.1 (state.new.history ≡ state.old.history) (λ answer. Replies state.old.opening.header state.old.history who (Asks (LandDraft rebased.name rebased.draft)) (stored_answer answer) state.new.history) }
-                ensures turn { IsTurn history_of opening_of who state.old state.new result.0 }
+                ensures turn { IsTurn history_of opening_of sealed_of who None state.old state.new result.0 }
                 ensures front { IsFront state.new.opening state.new.history }
             { exchange_in(state, alloc, who, rebased) },
         )
     }
 
     // The last attempt: the bookmark can't move from its plan to its entry.
-    #[tactic(auto, using(crate::proofs::Fronts::earlier_later))]
+    #[tactic(auto, using(crate::proofs::Fronts::earlier_later, crate::proofs::Turning::keeps_none))]
     fn land_in_one_turn<R: Wait>(
         &self,
         rt: &R,
@@ -161,7 +161,7 @@ impl<D: Disk> Repo<D> {
     ) -> Result<Granted, ChangeFault>
         requires place { seat.old.lock ≡ self.now }
         requires earlier { IsEarlier seat.old.front name.now draft earlier }
-        ensures seat { seat.new ≡ with_front seat.old seat.new.front }
+        ensures seat { seat.new ≡ moved seat.old seat.new }
         ensures after { After self.now.opening.header seat.old.front seat.old.number (Asks (LandDraft name.now draft)) (stored_answer result) seat.new.front }
         ensures front { IsFront self.now.opening seat.new.front }
     {
@@ -172,7 +172,7 @@ impl<D: Disk> Repo<D> {
             |state: &mut RepoState<D>| -> (bool, Result<Granted, ChangeFault>)
                 requires { IsEarlier state.old.history name.now draft earlier }
                 ensures reply { Replies state.old.opening.header state.old.history who (Asks (LandDraft name.entry.now draft)) (stored_answer result.1) state.new.history }
-                ensures turn { IsTurn history_of opening_of who state.old state.new result.0 }
+                ensures turn { IsTurn history_of opening_of sealed_of who None state.old state.new result.0 }
                 ensures front { IsFront state.new.opening state.new.history }
             { land_in(state, alloc, who, name, draft, earlier) },
         )

@@ -1,5 +1,5 @@
 //! What a landing does in its turns, where an attempt before may have left its plan.
-ghost use Rattle.std.specs.Prelude.{◌≡◌, ◌<◌, IfOk, IfErr};
+ghost use Rattle.std.specs.Prelude.{◌≡◌, ◌<◌, IfOk, IfErr, None};
 ghost use Rattle.bookmark_lock.specs.Turns.{IsTurn};
 ghost use Rattle.reply_model.specs.After.{Answers, Asks, Replies, nothing};
 ghost use Rattle.reply_model.specs.Reply.{LandDraft};
@@ -7,7 +7,7 @@ ghost use Rattle.repo_calls.specs.Calls.{refused};
 ghost use Rattle.repo_machine.specs.Again.{WasPlan};
 ghost use Rattle.repo_machine.specs.Plans.{IsPlan};
 ghost use Rattle.repo_calls.specs.Asking.{stored_answer};
-ghost use Rattle.shared_repo.specs.Front.{IsFront, history_of, opening_of};
+ghost use Rattle.shared_repo.specs.Front.{IsFront, history_of, opening_of, sealed_of};
 ghost use Rattle.shared_repo.specs.Landing.{IsEarlier};
 
 use crate::turns::{exchange_in, plan_in};
@@ -80,7 +80,7 @@ pub(crate) fn land_in<D: Disk>(
 ) -> (bool, Result<Granted, ChangeFault>)
     requires earlier { IsEarlier state.old.history name.now draft earlier }
     ensures reply { Replies state.old.opening.header state.old.history who (Asks (LandDraft name.now draft)) (stored_answer result.1) state.new.history }
-    ensures turn { IsTurn history_of opening_of who state.old state.new result.0 }
+    ensures turn { IsTurn history_of opening_of sealed_of who None state.old state.new result.0 }
     ensures front { IsFront state.new.opening state.new.history }
 {
     let plan = match plan_from(state, alloc, name, draft, earlier) {

@@ -1,15 +1,15 @@
 //! Reads of a repository that many seats share. A content's bytes are hashed and a changeset is encoded outside of the turn,
 //! and what a read of manifests lacks is derived before its turn.
-ghost use Rattle.std.specs.Prelude.{◌≡◌, false, length, Some, IfOk, IfErr};
+ghost use Rattle.std.specs.Prelude.{◌≡◌, false, length, Some, IfOk, IfErr, None};
 ghost use Rattle.std.specs.Arc.{arc_value};
-ghost use Rattle.bookmark_lock.specs.Place.{with_front};
+ghost use Rattle.bookmark_lock.specs.Place.{moved};
 ghost use Rattle.bookmark_lock.specs.Turns.{IsTurn};
 ghost use Rattle.reply_model.specs.Reply.{ContentOf, ChangesetOf};
 ghost use Rattle.history_model.specs.History.{changeset_of, content_len, known};
 ghost use Rattle.reply_model.specs.After.{After, Answer, Answers, Looks, Replies, nothing, SeesMore};
 ghost use Rattle.repo_calls.specs.Asking.{IsAnswer, bytes_answer, fault_answer, question_seen};
 ghost use Rattle.shared_repo.specs.Derivation.{AsksManifestOf};
-ghost use Rattle.shared_repo.specs.Front.{IsFront, history_of, opening_of};
+ghost use Rattle.shared_repo.specs.Front.{IsFront, history_of, opening_of, sealed_of};
 
 use crate::repo::Repo;
 use crate::seat::RepoSeat;
@@ -32,7 +32,7 @@ impl<D: Disk> Repo<D> {
         question: &Question,
     ) -> Result<Seen, AskFault>
         requires place { seat.old.lock ≡ self.now }
-        ensures seat { seat.new ≡ with_front seat.old seat.new.front }
+        ensures seat { seat.new ≡ moved seat.old seat.new }
         ensures after { (answer : Answer) × IsAnswer result answer × After self.now.opening.header seat.old.front seat.old.number (Looks (question_seen question.now)) answer seat.new.front }
         ensures front { IsFront self.now.opening seat.new.front }
     {
@@ -47,6 +47,7 @@ impl<D: Disk> Repo<D> {
     }
 
     // The turn of a read that is answered in it.
+    #[tactic(auto, using(crate::proofs::Turning::keeps_none))]
     fn look_in_turn<R: Wait, Q: TurnRead<D>>(
         &self,
         rt: &R,
@@ -55,7 +56,7 @@ impl<D: Disk> Repo<D> {
         question: &Q,
     ) -> Result<Seen, AskFault>
         requires place { seat.old.lock ≡ self.now }
-        ensures seat { seat.new ≡ with_front seat.old seat.new.front }
+        ensures seat { seat.new ≡ moved seat.old seat.new }
         ensures after { (answer : Answer) × IsAnswer result answer × After self.now.opening.header seat.old.front seat.old.number (Looks (Q.asked question.now)) answer seat.new.front }
         ensures front { IsFront self.now.opening seat.new.front }
     {
@@ -65,7 +66,7 @@ impl<D: Disk> Repo<D> {
             &mut seat.inner,
             |state: &mut RepoState<D>| -> (bool, Result<Seen, AskFault>)
                 ensures reply { (answer : Answer) × IsAnswer result.1 answer × Replies state.old.opening.header state.old.history who (Looks (Q.asked question.entry.now)) answer state.new.history }
-                ensures turn { IsTurn history_of opening_of who state.old state.new result.0 }
+                ensures turn { IsTurn history_of opening_of sealed_of who None state.old state.new result.0 }
                 ensures front { IsFront state.new.opening state.new.history }
             { question.look_in(state, alloc, who) },
         )
@@ -83,7 +84,7 @@ impl<D: Disk> Repo<D> {
     ) -> Result<Seen, AskFault>
         requires place { seat.old.lock ≡ self.now }
         requires manifest { AsksManifestOf id (question_seen question.now) }
-        ensures seat { seat.new ≡ with_front seat.old seat.new.front }
+        ensures seat { seat.new ≡ moved seat.old seat.new }
         ensures after { (answer : Answer) × IsAnswer result answer × After self.now.opening.header seat.old.front seat.old.number (Looks (question_seen question.now)) answer seat.new.front }
         ensures front { IsFront self.now.opening seat.new.front }
     {
@@ -102,7 +103,7 @@ impl<D: Disk> Repo<D> {
         id: Id,
     ) -> Result<Seen, AskFault>
         requires place { seat.old.lock ≡ self.now }
-        ensures seat { seat.new ≡ with_front seat.old seat.new.front }
+        ensures seat { seat.new ≡ moved seat.old seat.new }
         ensures after { (answer : Answer) × IsAnswer result answer × After self.now.opening.header seat.old.front seat.old.number (Looks (ContentOf id)) answer seat.new.front }
         ensures front { IsFront self.now.opening seat.new.front }
     {
@@ -114,6 +115,7 @@ impl<D: Disk> Repo<D> {
     }
 
     // The turn of a content's read.
+    #[tactic(auto, using(crate::proofs::Turning::keeps_none))]
     fn content_unchecked<R: Wait>(
         &self,
         rt: &R,
@@ -122,7 +124,7 @@ impl<D: Disk> Repo<D> {
         id: Id,
     ) -> Result<Vec<u8>, AskFault>
         requires place { seat.old.lock ≡ self.now }
-        ensures seat { seat.new ≡ with_front seat.old seat.new.front }
+        ensures seat { seat.new ≡ moved seat.old seat.new }
         ensures ok { IfOk result (λ bytes. SeesMore seat.old.front seat.old.number seat.new.front × (content_len seat.new.front id ≡ Some (length bytes.items))) }
         ensures err { IfErr result (λ fault. After self.now.opening.header seat.old.front seat.old.number (Looks (ContentOf id)) (fault_answer fault) seat.new.front) }
         ensures front { IsFront self.now.opening seat.new.front }
@@ -134,7 +136,7 @@ impl<D: Disk> Repo<D> {
             |state: &mut RepoState<D>| -> (bool, Result<Vec<u8>, AskFault>)
                 ensures ok { IfOk result.1 (λ bytes. (state.new.history ≡ state.old.history) × (content_len state.old.history id ≡ Some (length bytes.items))) }
                 ensures err { IfErr result.1 (λ fault. Replies state.old.opening.header state.old.history who (Looks (ContentOf id)) (fault_answer fault) state.new.history) }
-                ensures turn { IsTurn history_of opening_of who state.old state.new result.0 }
+                ensures turn { IsTurn history_of opening_of sealed_of who None state.old state.new result.0 }
                 ensures front { IsFront state.new.opening state.new.history }
             { content_in(state, alloc, who, id) },
         )
@@ -150,7 +152,7 @@ impl<D: Disk> Repo<D> {
         id: Id,
     ) -> Result<Seen, AskFault>
         requires place { seat.old.lock ≡ self.now }
-        ensures seat { seat.new ≡ with_front seat.old seat.new.front }
+        ensures seat { seat.new ≡ moved seat.old seat.new }
         ensures after { (answer : Answer) × IsAnswer result answer × After self.now.opening.header seat.old.front seat.old.number (Looks (ChangesetOf id)) answer seat.new.front }
         ensures front { IsFront self.now.opening seat.new.front }
     {
@@ -165,6 +167,7 @@ impl<D: Disk> Repo<D> {
     }
 
     // The turn of a changeset's read, which hands the changeset out.
+    #[tactic(auto, using(crate::proofs::Turning::keeps_none, crate::proofs::Turning::still_turn))]
     fn shared_changeset<R: Wait>(
         &self,
         rt: &R,
@@ -172,7 +175,7 @@ impl<D: Disk> Repo<D> {
         id: Id,
     ) -> Result<Arc<Commit>, AskFault>
         requires place { seat.old.lock ≡ self.now }
-        ensures seat { seat.new ≡ with_front seat.old seat.new.front }
+        ensures seat { seat.new ≡ moved seat.old seat.new }
         ensures more { SeesMore seat.old.front seat.old.number seat.new.front }
         ensures ok { IfOk result (λ commit. changeset_of (known seat.new.front) id ≡ Some (arc_value commit)) }
         ensures err { IfErr result (λ fault. Answers self.now.opening.header seat.new.front (Looks (ChangesetOf id)) (fault_answer fault) nothing) }

@@ -3,6 +3,7 @@ ghost use Rattle.std.specs.Prelude.{◌≡◌, ◌+◌, ◌<◌, ◌≤◌, ◌^
 ghost use Rattle.history_model.specs.History.{Entry, entries_by};
 ghost use Rattle.bookmark_lock.specs.Place.{lead_place, new_place, joined_place};
 ghost use Rattle.bookmark_lock.specs.Fronts.{IsJoined};
+ghost use Rattle.bookmark_lock.specs.Turns.{stored_length};
 ghost use Rattle.repo_machine.specs.Seats.{cleared};
 ghost use Rattle.shared_repo.specs.Front.{IsFront};
 
@@ -34,7 +35,7 @@ impl<D: Disk> Repo<D> {
     #[tactic(auto, using(crate::proofs::Cleared::cleared_zero))]
     pub fn new(alloc: Global, state: RepoState<D>) -> Result<(Repo<D>, RepoSeat), AllocError>
         ensures opening { IfOk result (λ made. made.0.opening ≡ state.opening) }
-        ensures lead { IfOk result (λ made. made.1 ≡ lead_place made.0 (cleared state.history)) }
+        ensures lead { IfOk result (λ made. made.1 ≡ lead_place made.0 (cleared state.history) (stored_length (cleared state.history))) }
         ensures front { IfOk result (λ made. IsFront made.0.opening made.1.front) }
     {
         let mut state = state;

@@ -3,13 +3,14 @@ ghost use Rattle.std.specs.Prelude.{◌≡◌};
 
 use std::marker::Model;
 
-/// A seat of a shared repository. Contracts see its place. What it has seen is a legal history.
+/// A seat of a shared repository. Contracts see its place. What it has seen is a legal history, and each of its entries is sealed.
 #[derive(Drop)]
 pub struct RepoSeat {
     pub(crate) inner: bookmark_lock::Seat,
 }
 
 impl Model for RepoSeat {
+    ghost use Rattle.std.specs.Prelude.{◌≡◌, None};
     ghost use Rattle.bookmark_lock.specs.Place.{Place};
     ghost use Rattle.shared_repo.specs.Front.{IsFront};
 
@@ -17,7 +18,7 @@ impl Model for RepoSeat {
 
     ghost view = { λ s. s.inner };
 
-    ghost invariant = { λ s. IsFront s.inner.lock.opening s.inner.front };
+    ghost invariant = { λ s. IsFront s.inner.lock.opening s.inner.front × (s.inner.unsealed ≡ None) };
 }
 
 impl RepoSeat {

@@ -1,6 +1,6 @@
 //! A seat with the repository that it is for.
-ghost use Rattle.std.specs.Prelude.{◌≡◌, []};
-ghost use Rattle.bookmark_lock.specs.Place.{Place, with_front};
+ghost use Rattle.std.specs.Prelude.{◌≡◌};
+ghost use Rattle.bookmark_lock.specs.Place.{Place, home_of};
 ghost use Rattle.reply_model.specs.After.{After};
 ghost use Rattle.repo_calls.proofs.Lawful.{shared};
 
@@ -65,7 +65,7 @@ impl<'a, R: Wait, D: Disk, G: Gate> Seat for Served<'a, R, D, G> {
 
     ghost Home = { Place };
 
-    ghost home = { λ s. with_front s [] };
+    ghost home = { λ s. home_of s };
 
     ghost replies = { After };
 

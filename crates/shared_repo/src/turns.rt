@@ -1,5 +1,5 @@
 //! What a seat does with the repository in one turn, and whether it made an entry.
-ghost use Rattle.std.specs.Prelude.{◌≡◌, ◌≢◌, IfOk, IfErr, IsSome, length, MatchBool, MatchOption, Some};
+ghost use Rattle.std.specs.Prelude.{◌≡◌, ◌≢◌, IfOk, IfErr, IsSome, length, MatchBool, MatchOption, Some, None};
 ghost use Rattle.std.specs.Arc.{arc_value};
 ghost use Rattle.bookmark_lock.specs.Turns.{IsTurn};
 ghost use Rattle.history_model.specs.Bookmark.{head};
@@ -11,7 +11,7 @@ ghost use Rattle.repo_calls.specs.Calls.{refused};
 ghost use Rattle.repo_machine.specs.Plans.{IsPlan, WasPlanned};
 ghost use Rattle.repo_machine.specs.Prepared.{IsPrepared, asked_by};
 ghost use Rattle.repo_calls.specs.Asking.{IsAnswer, fault_answer, question_seen, stored_answer};
-ghost use Rattle.shared_repo.specs.Front.{IsFront, history_of, opening_of};
+ghost use Rattle.shared_repo.specs.Front.{IsFront, history_of, opening_of, sealed_of};
 ghost use Rattle.shared_repo.specs.Landing.{outcome_of};
 
 use blob_disk::Disk;
@@ -47,7 +47,7 @@ pub(crate) trait TurnChange<D: Disk>: Drop {
     ) -> (bool, Result<Granted, ChangeFault>)
         requires { ready self }
         ensures reply { Replies state.old.opening.header state.old.history who (Asks (asked self)) (stored_answer result.1) state.new.history }
-        ensures turn { IsTurn history_of opening_of who state.old state.new result.0 }
+        ensures turn { IsTurn history_of opening_of sealed_of who None state.old state.new result.0 }
         ensures front { IsFront state.new.opening state.new.history };
 }
 
@@ -56,6 +56,7 @@ impl<D: Disk> TurnChange<D> for Prepared<'_> {
 
     ghost ready = { IsPrepared };
 
+    #[tactic(auto, using(crate::proofs::Turning::replies_seal))]
     fn store_in(
         self,
         state: &mut RepoState<D>,
@@ -80,13 +81,14 @@ pub(crate) trait TurnRead<D: Disk> {
         who: u64,
     ) -> (bool, Result<Seen, AskFault>)
         ensures reply { (answer : Answer) × IsAnswer result.1 answer × Replies state.old.opening.header state.old.history who (Looks (asked self.now)) answer state.new.history }
-        ensures turn { IsTurn history_of opening_of who state.old state.new result.0 }
+        ensures turn { IsTurn history_of opening_of sealed_of who None state.old state.new result.0 }
         ensures front { IsFront state.new.opening state.new.history };
 }
 
 impl<D: Disk> TurnRead<D> for Question<'_> {
     ghost asked = { question_seen };
 
+    #[tactic(auto, using(crate::proofs::Turning::replies_seal))]
     fn look_in(
         &self,
         state: &mut RepoState<D>,
@@ -100,6 +102,7 @@ impl<D: Disk> TurnRead<D> for Question<'_> {
 }
 
 // The bytes in the file for a content, before their digest is compared.
+#[tactic(auto, using(crate::proofs::Turning::replies_seal, crate::proofs::Turning::same_seals))]
 pub(crate) fn content_in<D: Disk>(
     state: &mut RepoState<D>,
     alloc: Global,
@@ -108,7 +111,7 @@ pub(crate) fn content_in<D: Disk>(
 ) -> (bool, Result<Vec<u8>, AskFault>)
     ensures ok { IfOk result.1 (λ bytes. (state.new.history ≡ state.old.history) × (content_len state.old.history id ≡ Some (length bytes.items))) }
     ensures err { IfErr result.1 (λ fault. Replies state.old.opening.header state.old.history who (Looks (ContentOf id)) (fault_answer fault) state.new.history) }
-    ensures turn { IsTurn history_of opening_of who state.old state.new result.0 }
+    ensures turn { IsTurn history_of opening_of sealed_of who None state.old state.new result.0 }
     ensures front { IsFront state.new.opening state.new.history }
 {
     let before = state.history_length();
@@ -171,7 +174,7 @@ pub(crate) fn exchange_in<D: Disk>(
     requires { WasPlanned state.old.history rebased }
     ensures reply { MatchOption result.1 (state.new.history ≡ state.old.history) (λ answer. Replies state.old.opening.header state.old.history who (Asks (LandDraft rebased.name rebased.draft)) (stored_answer answer) state.new.history) }
     ensures there { head state.old.history rebased.name ≡ Some rebased.old → IsSome result.1 }
-    ensures turn { IsTurn history_of opening_of who state.old state.new result.0 }
+    ensures turn { IsTurn history_of opening_of sealed_of who None state.old state.new result.0 }
     ensures front { IsFront state.new.opening state.new.history }
 {
     let before = state.history_length();

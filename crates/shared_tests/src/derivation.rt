@@ -1,6 +1,6 @@
 //! What a seat is told of the roots of changesets that another seat has stored.
 ghost use Rattle.std.specs.Prelude.{◌≡◌};
-ghost use Rattle.bookmark_lock.specs.Place.{with_front};
+ghost use Rattle.bookmark_lock.specs.Place.{moved};
 
 use crate::repository::new_repository;
 use crate::steps::{id, run_at};
@@ -50,7 +50,7 @@ fn told<R: Wait, D: Disk>(
     digits: &str,
 ) -> Result<String, Fail>
     requires place { seat.old.lock ≡ repo.now }
-    ensures seat { seat.new ≡ with_front seat.old seat.new.front }
+    ensures seat { seat.new ≡ moved seat.old seat.new }
 {
     let id = id(digits)?;
     tell(alloc, repo.derive_one(rt, alloc, seat, id))
@@ -64,7 +64,7 @@ fn check_row<R: Abort + Wait, D: Disk>(
     row: &str,
 ) -> Result<(), Fail>
     requires place { seat.old.lock ≡ repo.now }
-    ensures seat { seat.new ≡ with_front seat.old seat.new.front }
+    ensures seat { seat.new ≡ moved seat.old seat.new }
 {
     let (digits, wanted) = row.split_once(" = ").ok_or("a line")?;
     let told = told(rt, alloc, repo, seat, digits)?;
@@ -112,7 +112,7 @@ const EMPTY_ID: &str = "ffb74880ae0d3038b6e6e402ea0840634c79efb3c927e280d44f3656
 // Stores a changeset.
 fn put<R: Wait, D: Disk>(rt: &R, alloc: Global, repo: &Repo<D>, seat: &mut RepoSeat, bytes: &[u8])
     requires place { seat.old.lock ≡ repo.now }
-    ensures seat { seat.new ≡ with_front seat.old seat.new.front }
+    ensures seat { seat.new ≡ moved seat.old seat.new }
 {
     let _stored = repo.put_changeset(rt, alloc, seat, bytes);
 }
@@ -127,7 +127,7 @@ fn ask<R: Wait, D: Disk>(
     asks: bool,
 )
     requires place { seat.old.lock ≡ repo.now }
-    ensures seat { seat.new ≡ with_front seat.old seat.new.front }
+    ensures seat { seat.new ≡ moved seat.old seat.new }
 {
     if asks {
         let _roots = repo.derive_one(rt, alloc, seat, id);

@@ -1,6 +1,6 @@
 //! What one seat does and another is told then.
 ghost use Rattle.std.specs.Prelude.{◌≡◌};
-ghost use Rattle.bookmark_lock.specs.Place.{with_front};
+ghost use Rattle.bookmark_lock.specs.Place.{moved};
 
 use crate::repository::new_repository;
 use crate::steps::run_at;
@@ -30,7 +30,7 @@ fn run_both<R: Abort + Wait, D: Disk>(
 // Stores a content.
 fn put<R: Wait, D: Disk>(rt: &R, alloc: Global, repo: &Repo<D>, seat: &mut RepoSeat, bytes: &[u8])
     requires place { seat.old.lock ≡ repo.now }
-    ensures seat { seat.new ≡ with_front seat.old seat.new.front }
+    ensures seat { seat.new ≡ moved seat.old seat.new }
 {
     let _stored = repo.put_content(rt, alloc, seat, bytes);
 }
@@ -51,7 +51,7 @@ fn put_and_count<R: Wait, D: Disk>(
     bytes: &[u8],
 ) -> Result<u64, Fail>
     requires place { seat.old.lock ≡ repo.now }
-    ensures seat { seat.new ≡ with_front seat.old seat.new.front }
+    ensures seat { seat.new ≡ moved seat.old seat.new }
 {
     put(rt, alloc, repo, seat, bytes);
     total_of(repo.log(rt, alloc, seat, 0))

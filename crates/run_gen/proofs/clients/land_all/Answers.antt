@@ -1,7 +1,7 @@
 use Rattle.std.proofs.Common.{◌≡◌, ℕ, ◌+◌, [], ◌∷◌, Ok, Err, refl, ap, sym, subst, ◌∙◌}
 use Rattle.byte_fields.specs.Bytes.{Id}
 use Rattle.sha2.specs.Sha256.{sha256}
-use Rattle.bookmark_lock.specs.Place.{Place, with_front}
+use Rattle.bookmark_lock.specs.Place.{Place, moved}
 use Rattle.run_gen.specs.Stacks.{stack_of}
 use Rattle.run_gen.specs.Answers.{Answered}
 use Rattle.run_gen.specs.Running.{IsAt}
@@ -28,7 +28,7 @@ loop-stack-preserved g c =
     let asks = (stack_of c.args.number c.loop-stack.stack c.loop-stack.parent c.loop-stack.draws).asks in
     let told = subst (λ n. Answered header n mid.front asks (c.in-Ok.head ∷ []) (Ok c.in-Ok.head) to) (same_number seat mid inv.0) c.in-Ok.ensures.answered in
     let at = goes_on header seat.number seat.front c.args.number c.args.seed c.loop-stack.stack c.loop-stack.parent c.loop-stack.draws mid.front to inv.1 c.in-Ok.head told in (
-      c.land_stack.ensures.seat ∙ ap (λ (p : Place). with_front p to) inv.0,
+      c.land_stack.ensures.seat ∙ ap (λ (p : Place). moved p c.land_stack.new.seat) inv.0,
       subst (λ s. IsAt header seat.number seat.front c.args.number c.args.seed (c.loop-stack.stack + 1) c.in-Ok.head s to) (sym c.in-Ok.ensures.state) at,
     )
 

@@ -1,6 +1,6 @@
 use Rattle.std.proofs.Common.{◌≡◌, ℕ, ◌+◌, [], Err, ap, subst, ◌∙◌}
 use Rattle.byte_fields.specs.Bytes.{Id}
-use Rattle.bookmark_lock.specs.Place.{Place, with_front}
+use Rattle.bookmark_lock.specs.Place.{Place, moved}
 use Rattle.run_gen.specs.Stacks.{no_parts, parts_of}
 use Rattle.run_gen.specs.Answers.{Answered}
 use Rattle.run_gen.proofs.Stacking.{last_put, part_put, part_stopped, state_put}
@@ -14,7 +14,7 @@ loop-place-preserved g c =
     let stack = no_parts c.args.parent c.below-length.new.self in
     let inv = c.loop-place.invariant in
     let to = c.put_part.new.seat.front in (
-      c.put_part.ensures.seat ∙ ap (λ (p : Place). with_front p to) inv.0,
+      c.put_part.ensures.seat ∙ ap (λ (p : Place). moved p c.put_part.new.seat) inv.0,
       last_put header seat mid c.args.client c.args.stack c.loop-place.place stack c.loop-place.last c.loop-place.draws inv.0 inv.1 inv.2 inv.3 to c.in-Ok.id c.in-Ok.ensures.id,
       state_put header seat mid c.args.client c.args.stack c.loop-place.place stack c.loop-place.last c.loop-place.draws inv.0 inv.1 inv.2 inv.3 to c.put_part.new.draws c.in-Ok.ensures.state,
       part_put header seat mid c.args.client c.args.stack c.loop-place.place stack c.loop-place.last c.loop-place.draws inv.0 inv.1 inv.2 inv.3 to c.in-Ok.id c.in-Ok.ensures.answered,

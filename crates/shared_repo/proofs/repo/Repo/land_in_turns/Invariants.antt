@@ -1,9 +1,9 @@
 use Rattle.std.proofs.Common.{◌≡◌}
-use Rattle.bookmark_lock.specs.Place.{with_front}
+use Rattle.bookmark_lock.specs.Place.{moved}
 use Rattle.reply_model.specs.After.{SeesMore}
 use Rattle.shared_repo.specs.Landing.{IsEarlier}
 use Rattle.shared_repo.proofs.repo.Repo.land_in_turns.Given as goal
 
 abbrev pub invariant-loop-attempt : goal.invariant-loop-attempt
 invariant-loop-attempt g l =
-    (l.seat ≡ with_front l.initial.seat l.seat.front) × SeesMore l.initial.seat.front l.initial.seat.number l.seat.front × IsEarlier l.seat.front l.name l.draft l.earlier
+    (l.seat ≡ moved l.initial.seat l.seat) × SeesMore l.initial.seat.front l.initial.seat.number l.seat.front × IsEarlier l.seat.front l.name l.draft l.earlier
