@@ -121,7 +121,8 @@ a=1 | a/x | a=1 | 2
 a/b=1 | c/d | a/b=1 | 2
 a/b=1 | a/z/y | a/b=1 | 4
 a=1 | a a/b=22 | a/b=22 | 5
-a/b=22 a.b=1 | a/c=333 | a/b=22 a/c=333 a.b=1 | 5";
+a/b=22 a.b=1 | a/c=333 | a/b=22 a/c=333 a.b=1 | 5
+a=1 c=333 | b=22 | a=1 b=22 c=333 | 3";
 
 fn cut(row: &str) -> (&str, &str) {
     row.split_once(" | ").unwrap_or((row, ""))

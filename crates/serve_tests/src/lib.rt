@@ -3,6 +3,10 @@
 #![tactic(auto)]
 
 #[cfg(test)]
+mod gates;
+#[cfg(test)]
 mod given;
+#[cfg(test)]
+mod landings;
 #[cfg(test)]
 mod servers;

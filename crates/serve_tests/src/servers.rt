@@ -5,7 +5,7 @@ use crate::given::{calls, empty_opener, link_of, opener_of, words};
 use blob_disk::{Disk, MemDisk};
 use command_line::{Ran, Status, run};
 use net_ports::TcpAccept;
-use ports::{Accept, Failed, Link, MemAccept, MemLink, MemOpener, NoGate, Opener, ZeroBytes};
+use ports::{Accept, Failed, Gate, Link, MemAccept, MemLink, MemOpener, NoGate, Opener, ZeroBytes};
 use std::alloc::Global;
 use std::hash::RandomState;
 use std::io::{Eprint, Read, Write};
@@ -24,14 +24,21 @@ const NEW: &[u8] = b"BONSAI\x00\x01\x00\x00\x00\x00\x00\x01\x00\x00\x00";
 const WITH_CONTENT: &[u8] =
     b"BONSAI\x00\x01\x00\x00\x00\x00\x00\x01\x00\x00\x01\x00\x00\x00\x04Babc\x00";
 
-const REQUEST: &[u8] = b"PUT /content HTTP/1.1\r\nContent-Length: 3\r\n\r\nabc";
+/// The same with a changeset without parents and changes, and `main` there.
+pub(crate) const WITH_MAIN: &[u8] =
+    b"BONSAI\x00\x01\x00\x00\x00\x00\x00\x01\x00\x00\x01\x00\x00\x00\x1aC\x01\x00\x00\x01a\x00\x00\x00\x00\x00\x00\x00\x00\x00\x00\x00\x00\x00\x00\x00\x00\x00\x00\x00\x00\x01\x00\x00\x00\x28M\x04main\x00\x01\xff\xb7H\x80\xae\x0d08\xb6\xe6\xe4\x02\xea\x08\x40cLy\xef\xb3\xc9\x27\xe2\x80\xd4O6V\x7e\xceqi\x00";
+
+pub(crate) const REQUEST: &[u8] = b"PUT /content HTTP/1.1\r\nContent-Length: 3\r\n\r\nabc";
 
 /// How many bytes the answer to it has.
-const ANSWER: u64 = 170;
+pub(crate) const ANSWER: u64 = 170;
+
+/// How many bytes the answer has that tells where `main` is.
+const BOOKMARK: u64 = 179;
 
 /// A link over memory that counts the bytes of writes that were done, where the test can see them.
 #[derive(Drop)]
-struct SeenLink {
+pub(crate) struct SeenLink {
     link: MemLink,
     sent: Arc<AtomicU64>,
 }
@@ -54,8 +61,8 @@ impl Link for SeenLink {
     }
 }
 
-/// A server: its words, the file `repository`, which sync of it fails, how many connections come, which of them can't be
-/// written to, and which call of the accept fails. Then its status and its line, the file at the end, and how many bytes went out to
+/// A server: its words, the file `repository`, which sync of it fails, how many connections come, what those after the first
+/// ask for, which of them can't be written to, and which call of the accept fails. Then its status and its line, the file at the end, and how many bytes went out to
 /// the connections.
 #[derive(Clone, Copy)]
 struct Server {
@@ -63,6 +70,7 @@ struct Server {
     file: &'static [u8],
     unsynced: Option<u64>,
     links: u64,
+    then: &'static [u8],
     deaf: Option<u64>,
     lost: Option<u64>,
     status: Status,
@@ -76,6 +84,7 @@ const TWO: Server = Server {
     file: NEW,
     unsynced: None,
     links: 2,
+    then: REQUEST,
     deaf: None,
     lost: None,
     status: Status::Done,
@@ -127,14 +136,16 @@ const SERVERS: &[Server] = &[
         sent: ANSWER,
         ..TWO
     },
-    // the disk fails, which the one answer says
+    // the disk fails, which the first answer says, and reads go on
     Server {
-        line: "hg_cli serve repository A 1 0 1",
+        line: "hg_cli serve repository A 1 0 2",
+        file: WITH_MAIN,
         unsynced: Some(1),
+        then: b"GET /bookmark/main HTTP/1.1\r\n\r\n",
         status: Status::DiskFault,
         said: "disk fault\n",
         left: None,
-        sent: 111,
+        sent: 111 + BOOKMARK,
         ..TWO
     },
     // no repository
@@ -148,25 +159,30 @@ const SERVERS: &[Server] = &[
     },
 ];
 
-// Links with the request, the first of which has number 0. This one can't be written to.
-fn links_of(
-    alloc: Global,
-    count: u64,
-    deaf: Option<u64>,
-    sent: &Arc<AtomicU64>,
-) -> Result<Vec<SeenLink>, Fail> {
+// The server's links, the first of which has number 0.
+fn links_of(alloc: Global, server: &Server, sent: &Arc<AtomicU64>) -> Result<Vec<SeenLink>, Fail> {
     let mut links = Vec::new(alloc);
-    for number in 0..count {
-        let lost = if deaf == Some(number) { Some(0) } else { None };
-        links.push(seen_link(alloc, lost, sent)?)?;
+    for number in 0..server.links {
+        let lost = if server.deaf == Some(number) {
+            Some(0)
+        } else {
+            None
+        };
+        let input = if number == 0 { REQUEST } else { server.then };
+        links.push(seen_link(alloc, input, lost, sent)?)?;
     }
     Ok(links)
 }
 
-// A link with the request, of which this write fails.
-fn seen_link(alloc: Global, lost: Option<u64>, sent: &Arc<AtomicU64>) -> Result<SeenLink, Fail> {
+/// A link with this input, of which this write fails.
+pub(crate) fn seen_link(
+    alloc: Global,
+    input: &[u8],
+    lost: Option<u64>,
+    sent: &Arc<AtomicU64>,
+) -> Result<SeenLink, Fail> {
     let sent = sent.clone()?;
-    let link = link_of(alloc, REQUEST, lost)?;
+    let link = link_of(alloc, input, lost)?;
     Ok(SeenLink { link, sent })
 }
 
@@ -177,7 +193,7 @@ fn accept_of(
     sent: &Arc<AtomicU64>,
 ) -> Result<MemAccept<SeenLink>, Fail> {
     let failing = calls(alloc, server.lost)?;
-    let links = links_of(alloc, server.links, server.deaf, sent)?;
+    let links = links_of(alloc, server, sent)?;
     Ok(MemAccept::new(links, failing))
 }
 
@@ -186,13 +202,14 @@ fn keys() -> Result<RandomState, Fail> {
 }
 
 // A run on these words and this opener, which serves the connections of the accept.
-fn run_over<R, D, O, L, A, K>(
+fn run_over<R, D, O, L, A, K, G>(
     rt: &R,
     alloc: Global,
     words: &[String],
     link: &mut L,
     opener: &mut O,
     accept: A,
+    gate: &G,
 ) -> Result<Ran<D, A, K>, Fail>
 where
     R: Threads + Wait + Sync,
@@ -201,47 +218,52 @@ where
     L: Link,
     A: Accept<K> + Send,
     K: Link + Send,
+    G: Gate + Sync,
 {
     let keys = keys()?;
-    Ok(run(rt, alloc, keys, words, link, opener, accept, &NoGate))
+    Ok(run(rt, alloc, keys, words, link, opener, accept, gate))
 }
 
 // A run on this line.
-fn run_line<R, L, A, K>(
+fn run_line<R, L, A, K, G>(
     rt: &R,
     alloc: Global,
     line: &str,
     link: &mut L,
     opener: MemOpener<MemDisk>,
     accept: A,
+    gate: &G,
 ) -> Result<Ran<MemDisk, A, K>, Fail>
 where
     R: Threads + Wait + Sync,
     L: Link,
     A: Accept<K> + Send,
     K: Link + Send,
+    G: Gate + Sync,
 {
     let mut opener = opener;
     let words = words(alloc, line)?;
-    run_over(rt, alloc, words.as_slice(), link, &mut opener, accept)
+    run_over(rt, alloc, words.as_slice(), link, &mut opener, accept, gate)
 }
 
-// What a run on this line came to, and a link with this input on which it wrote.
-fn ran<R, A, K>(
+/// What a run on this line came to, and a link with this input on which it wrote.
+pub(crate) fn ran<R, A, K, G>(
     rt: &R,
     alloc: Global,
     line: &str,
     input: &[u8],
     opener: MemOpener<MemDisk>,
     accept: A,
+    gate: &G,
 ) -> Result<(Ran<MemDisk, A, K>, MemLink), Fail>
 where
     R: Threads + Wait + Sync,
     A: Accept<K> + Send,
     K: Link + Send,
+    G: Gate + Sync,
 {
     let mut link = link_of(alloc, input, None)?;
-    let ran = run_line(rt, alloc, line, &mut link, opener, accept)?;
+    let ran = run_line(rt, alloc, line, &mut link, opener, accept, gate)?;
     Ok((ran, link))
 }
 
@@ -261,7 +283,7 @@ fn served<R: Threads + Wait + Sync>(
 ) -> Result<(Ran<MemDisk, MemAccept<SeenLink>, SeenLink>, MemLink), Fail> {
     let accept = accept_of(alloc, server, sent)?;
     let opener = opener_of(alloc, server.file, server.unsynced)?;
-    ran(rt, alloc, server.line, b"GET", opener, accept)
+    ran(rt, alloc, server.line, b"GET", opener, accept, &NoGate)
 }
 
 fn is_end<A, K: Drop>(ran: &Ran<MemDisk, A, K>, said: &[u8], sent: u64, server: &Server) -> bool {
@@ -319,7 +341,7 @@ fn check_refused<R: Abort + Threads + Wait + Sync>(
     status: Status,
 ) -> Result<(), Fail> {
     let accept = two_links(alloc)?;
-    let (mut ran, _) = ran(rt, alloc, line, b"", empty_opener(alloc), accept)?;
+    let (mut ran, _) = ran(rt, alloc, line, b"", empty_opener(alloc), accept, &NoGate)?;
     check_unserved(rt, &mut ran, line, status);
     Ok(())
 }
@@ -371,7 +393,7 @@ where
 {
     let opener = opener_of(alloc, NEW, None)?;
     let line = "hg_cli serve repository 127.0.0.1:0 1 0 1";
-    let (ran, link) = ran(rt, alloc, line, b"", opener, accept)?;
+    let (ran, link) = ran(rt, alloc, line, b"", opener, accept, &NoGate)?;
     Ok((ran.status, link))
 }
 

@@ -1,5 +1,4 @@
-//! Two landings at once: the first one waits between its plan and its entry until the other is answered.
-use crate::gates::FirstWaits;
+//! Two landings at once, and which changesets are derived then.
 use crate::repository::new_repository;
 use crate::serving::{MOST_DERIVERS, serve};
 use crate::watched::Watched;
@@ -133,11 +132,10 @@ fn has_derived<D: Disk>(alloc: Global, state: &RepoState<D>) -> Result<bool, Fai
     Ok(true)
 }
 
-// What the landings left: how many gave up waiting, how many were answered and how many links served, how
-// many entries there are, and whether the drafts' manifests are derived.
+// What the landings left: how many were answered and how many links served, how many entries there are, and
+// whether the drafts' manifests are derived.
 #[derive(Clone, Copy, Debug, PartialEq, Eq)]
 struct Left {
-    gave_up: u64,
     landed: u64,
     served: u64,
     entries: u64,
@@ -147,13 +145,11 @@ struct Left {
 fn left_in<D: Disk, A: Drop, L: Drop>(
     alloc: Global,
     closing: Closing<D, A, L>,
-    gave_up: u64,
     landed: u64,
 ) -> Result<Left, Fail> {
     let state = closing.state.ok_or("memory")?;
     let derived = has_derived(alloc, &state)?;
     Ok(Left {
-        gave_up,
         landed,
         served: closing.served.count(),
         entries: state.history_length(),
@@ -168,11 +164,9 @@ fn left_of<R: Threads + Wait + Sync, D: Disk + Send>(
     derivers: u64,
 ) -> Result<Left, Fail> {
     let landed = AtomicU64::new(0);
-    let gate = FirstWaits::new(&landed);
     let accept = accept_of(alloc, &landed)?;
-    let closing = serve(rt, alloc, state, accept, &gate, 2, derivers, 2)?;
-    let (_, gave_up) = gate.told();
-    left_in(alloc, closing, gave_up, landed.load(Ordering::SeqCst))
+    let closing = serve(rt, alloc, state, accept, &NoGate, 2, derivers, 2)?;
+    left_in(alloc, closing, landed.load(Ordering::SeqCst))
 }
 
 fn check<R: Abort + Threads + Wait + Sync>(
@@ -182,7 +176,6 @@ fn check<R: Abort + Threads + Wait + Sync>(
 ) -> Result<(), Fail> {
     let left = left_of(rt, alloc, with_main(alloc)?, derivers)?;
     let wanted = Left {
-        gave_up: 0,
         landed: 2,
         served: 2,
         entries: 7,
@@ -190,13 +183,6 @@ fn check<R: Abort + Threads + Wait + Sync>(
     };
     assert_eq!(rt; left, wanted, "{derivers} derivers");
     Ok(())
-}
-
-#[test]
-fn a_landing_goes_on_while_another_waits(rt: HostRuntime) -> Result<(), Fail> {
-    let alloc = rt.alloc();
-    check(&rt, alloc, 0)?;
-    check(&rt, alloc, MOST_DERIVERS)
 }
 
 // Whether the changeset at which `main` stands is derived once a server that served nothing has ended.
@@ -213,8 +199,12 @@ fn head_is_derived<R: Threads + Wait + Sync>(
 }
 
 #[test]
-fn the_heads_of_bookmarks_are_derived_from_the_beginning(rt: HostRuntime) -> Result<(), Fail> {
+fn what_is_landed_is_derived_and_what_bookmarks_are_at_from_the_beginning(
+    rt: HostRuntime,
+) -> Result<(), Fail> {
     let alloc = rt.alloc();
+    check(&rt, alloc, 0)?;
+    check(&rt, alloc, MOST_DERIVERS)?;
     assert!(rt; !head_is_derived(&rt, alloc, 0)?);
     assert!(rt; head_is_derived(&rt, alloc, MOST_DERIVERS)?);
     Ok(())

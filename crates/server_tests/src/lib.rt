@@ -5,8 +5,6 @@
 #[cfg(test)]
 mod derivers;
 #[cfg(test)]
-mod gates;
-#[cfg(test)]
 mod landings;
 #[cfg(test)]
 mod links;

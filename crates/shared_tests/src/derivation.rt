@@ -1,13 +1,15 @@
-//! What a seat is told of the roots of changesets that another seat has stored.
+//! What a seat is told of what another seat has stored.
 ghost use Rattle.std.specs.Prelude.{◌≡◌};
 ghost use Rattle.bookmark_lock.specs.Place.{moved};
 
+use crate::looks::tell;
 use crate::repository::new_repository;
-use crate::steps::{id, run_at};
+use crate::steps::{id, main_name, run_at};
 use blob_disk::Disk;
 use node_table::Roots;
 use object_id::Id;
 use repo_calls::AskFault;
+use repo_path::RepoPath;
 use repo_state::RepoState;
 use shared_repo::{Repo, RepoSeat};
 use std::alloc::{AllocError, Global};
@@ -15,45 +17,128 @@ use std::process::Abort;
 use std::sync::Wait;
 use std::test::Fail;
 
-// A changeset without changes, and its child that sets `p` to `abc`.
+// A changeset without changes, its child that sets `p` to `abc`, and `main` there.
 const STORED: &str = "\
 content abc = done
 changeset 4301000001610000000000000000000000000000000000000000 = done
-changeset 430101ffb74880ae0d3038b6e6e402ea0840634c79efb3c927e280d44f36567ece7169000161000000000000000000000000000000000000000100017001000000000000000003ba7816bf8f01cfea414140de5dae2223b00361a396177a9cb410ff61f20015ad = done";
+changeset 430101ffb74880ae0d3038b6e6e402ea0840634c79efb3c927e280d44f36567ece7169000161000000000000000000000000000000000000000100017001000000000000000003ba7816bf8f01cfea414140de5dae2223b00361a396177a9cb410ff61f20015ad = done
+move - e8795b6f358309976a85a48b88590a7b77ffcdc1ce55d29a761853d4ff0669f0 = done";
 
-// A changeset, and the ids of its root nodes: SHA-256 (FIPS 180-4) of their bytes. No changeset has the last id.
-const ROOTS: &str = "\
-e8795b6f358309976a85a48b88590a7b77ffcdc1ce55d29a761853d4ff0669f0 = 36e6592b894c06d9c9e1094cea7485f777ee5f383e6b33ee39a311fdd78761ad 9f7c1e7f1b51f1ce2df2bc6d46c90a9269d8e85e462e1d529dd67ce1d4da7c29
-ffb74880ae0d3038b6e6e402ea0840634c79efb3c927e280d44f36567ece7169 = 702db16de9a1c44301e07731bf5464bd76da2ad7b35d676037a87fc045159af4 eacb0d21f6b8017700a05579119b7116b63959b732397837f5acdb7c875dee91
-ba7816bf8f01cfea414140de5dae2223b00361a396177a9cb410ff61f20015ad = no changeset";
+// Reads, and what they tell: the ids of a changeset's root fsnode and root unode, bytes of nodes, and entries of the log.
+// Ids are SHA-256 (FIPS 180-4) of the bytes. No changeset has the third id, and nothing is at `q`.
+const SEEN: &str = "\
+roots e8795b6f358309976a85a48b88590a7b77ffcdc1ce55d29a761853d4ff0669f0 = 36e6592b894c06d9c9e1094cea7485f777ee5f383e6b33ee39a311fdd78761ad 9f7c1e7f1b51f1ce2df2bc6d46c90a9269d8e85e462e1d529dd67ce1d4da7c29
+roots ffb74880ae0d3038b6e6e402ea0840634c79efb3c927e280d44f36567ece7169 = 702db16de9a1c44301e07731bf5464bd76da2ad7b35d676037a87fc045159af4 eacb0d21f6b8017700a05579119b7116b63959b732397837f5acdb7c875dee91
+roots ba7816bf8f01cfea414140de5dae2223b00361a396177a9cb410ff61f20015ad = no changeset
+head = e8795b6f358309976a85a48b88590a7b77ffcdc1ce55d29a761853d4ff0669f0
+content ba7816bf8f01cfea414140de5dae2223b00361a396177a9cb410ff61f20015ad = 616263
+changeset e8795b6f358309976a85a48b88590a7b77ffcdc1ce55d29a761853d4ff0669f0 = 430101ffb74880ae0d3038b6e6e402ea0840634c79efb3c927e280d44f36567ece7169000161000000000000000000000000000000000000000100017001000000000000000003ba7816bf8f01cfea414140de5dae2223b00361a396177a9cb410ff61f20015ad
+fsnode ffb74880ae0d3038b6e6e402ea0840634c79efb3c927e280d44f36567ece7169 = 46010000000000000000000000000000000000000000000000000000000000000000000000000000000000000000
+fsnode e8795b6f358309976a85a48b88590a7b77ffcdc1ce55d29a761853d4ff0669f0 = 46010000000000000001000000000000000300000000000000000000000000000001000000000000000300000001017000000000000000000003ba7816bf8f01cfea414140de5dae2223b00361a396177a9cb410ff61f20015ad
+fsnode e8795b6f358309976a85a48b88590a7b77ffcdc1ce55d29a761853d4ff0669f0 q = no path
+unode e8795b6f358309976a85a48b88590a7b77ffcdc1ce55d29a761853d4ff0669f0 p = 560100ba7816bf8f01cfea414140de5dae2223b00361a396177a9cb410ff61f20015ad00148de9c5a7a44d19e56cd9ae1a554bf67847afb0c58f6e12fa29ac7ddfca9940e8795b6f358309976a85a48b88590a7b77ffcdc1ce55d29a761853d4ff0669f0
+history e8795b6f358309976a85a48b88590a7b77ffcdc1ce55d29a761853d4ff0669f0 p = 1 e8795b6f358309976a85a48b88590a7b77ffcdc1ce55d29a761853d4ff0669f0
+log 1 = 4, changeset ffb74880ae0d3038b6e6e402ea0840634c79efb3c927e280d44f36567ece7169, changeset e8795b6f358309976a85a48b88590a7b77ffcdc1ce55d29a761853d4ff0669f0, move main - e8795b6f358309976a85a48b88590a7b77ffcdc1ce55d29a761853d4ff0669f0";
 
-fn tell_roots(alloc: Global, roots: &Roots) -> Result<String, Fail> {
-    let fsnode = roots.fsnode.to_hex(alloc)?;
-    let unode = roots.unode.to_hex(alloc)?;
-    Ok(format!(in alloc; "{fsnode} {unode}")?)
-}
-
-fn tell(alloc: Global, answer: Result<Roots, AskFault>) -> Result<String, Fail> {
+fn tell_roots(alloc: Global, answer: Result<Roots, AskFault>) -> Result<String, Fail> {
     match answer {
-        Ok(roots) => tell_roots(alloc, &roots),
-        Err(AskFault::NoChangeset { .. }) => Ok(String::from_str(alloc, "no changeset")?),
-        Err(_) => Err(Fail::from("roots")),
+        Ok(roots) => {
+            let fsnode = roots.fsnode.to_hex(alloc)?;
+            let unode = roots.unode.to_hex(alloc)?;
+            Ok(format!(in alloc; "{fsnode} {unode}")?)
+        }
+        Err(fault) => tell(alloc, Err(fault)),
     }
 }
 
-// The roots of a changeset, as digits.
+// What a read tells.
 fn told<R: Wait, D: Disk>(
     rt: &R,
     alloc: Global,
     repo: &Repo<D>,
     seat: &mut RepoSeat,
-    digits: &str,
+    read: &str,
 ) -> Result<String, Fail>
     requires place { seat.old.lock ≡ repo.now }
     ensures seat { seat.new ≡ moved seat.old seat.new }
 {
+    let (word, rest) = read.split_once(" ").unwrap_or((read, ""));
+    match word {
+        "head" => told_head(rt, alloc, repo, seat),
+        "log" => told_log(rt, alloc, repo, seat, rest),
+        _ => told_of(rt, alloc, repo, seat, word, rest),
+    }
+}
+
+fn told_head<R: Wait, D: Disk>(
+    rt: &R,
+    alloc: Global,
+    repo: &Repo<D>,
+    seat: &mut RepoSeat,
+) -> Result<String, Fail>
+    requires place { seat.old.lock ≡ repo.now }
+    ensures seat { seat.new ≡ moved seat.old seat.new }
+{
+    let name = main_name(alloc)?;
+    tell(alloc, repo.head(rt, alloc, seat, &name))
+}
+
+fn told_log<R: Wait, D: Disk>(
+    rt: &R,
+    alloc: Global,
+    repo: &Repo<D>,
+    seat: &mut RepoSeat,
+    from: &str,
+) -> Result<String, Fail>
+    requires place { seat.old.lock ≡ repo.now }
+    ensures seat { seat.new ≡ moved seat.old seat.new }
+{
+    let from = from.parse()?;
+    tell(alloc, repo.log(rt, alloc, seat, from))
+}
+
+// What is told of a content or a changeset, by its digits, and of a path behind them.
+fn told_of<R: Wait, D: Disk>(
+    rt: &R,
+    alloc: Global,
+    repo: &Repo<D>,
+    seat: &mut RepoSeat,
+    word: &str,
+    rest: &str,
+) -> Result<String, Fail>
+    requires place { seat.old.lock ≡ repo.now }
+    ensures seat { seat.new ≡ moved seat.old seat.new }
+{
+    let (digits, path) = rest.split_once(" ").unwrap_or((rest, ""));
     let id = id(digits)?;
-    tell(alloc, repo.derive_one(rt, alloc, seat, id))
+    match word {
+        "roots" => tell_roots(alloc, repo.derive_one(rt, alloc, seat, id)),
+        "content" => tell(alloc, repo.content(rt, alloc, seat, id)),
+        "changeset" => tell(alloc, repo.changeset(rt, alloc, seat, id)),
+        _ => told_at(rt, alloc, repo, seat, word, id, path),
+    }
+}
+
+// What is told of a path in a changeset's tree, and of the root where it is no path.
+fn told_at<R: Wait, D: Disk>(
+    rt: &R,
+    alloc: Global,
+    repo: &Repo<D>,
+    seat: &mut RepoSeat,
+    word: &str,
+    id: Id,
+    path: &str,
+) -> Result<String, Fail>
+    requires place { seat.old.lock ≡ repo.now }
+    ensures seat { seat.new ≡ moved seat.old seat.new }
+{
+    let path = RepoPath::parse(alloc, path).ok();
+    match (word, &path) {
+        ("fsnode", path) => tell(alloc, repo.fsnode(rt, alloc, seat, id, path.as_ref())),
+        ("unode", path) => tell(alloc, repo.unode(rt, alloc, seat, id, path.as_ref())),
+        ("history", Some(path)) => tell(alloc, repo.history(rt, alloc, seat, id, path)),
+        _ => Err(Fail::from("a read")),
+    }
 }
 
 fn check_row<R: Abort + Wait, D: Disk>(
@@ -66,8 +151,8 @@ fn check_row<R: Abort + Wait, D: Disk>(
     requires place { seat.old.lock ≡ repo.now }
     ensures seat { seat.new ≡ moved seat.old seat.new }
 {
-    let (digits, wanted) = row.split_once(" = ").ok_or("a line")?;
-    let told = told(rt, alloc, repo, seat, digits)?;
+    let (read, wanted) = row.split_once(" = ").ok_or("a line")?;
+    let told = told(rt, alloc, repo, seat, read)?;
     assert_eq!(rt; told.as_str(), wanted, "{row}");
     Ok(())
 }
@@ -80,7 +165,7 @@ fn check_rows<R: Abort + Wait, D: Disk>(
 ) -> Result<(), Fail>
     requires place { seat.old.lock ≡ repo.now }
 {
-    for row in ROOTS.lines() {
+    for row in SEEN.lines() {
         check_row(rt, alloc, repo, seat, row)?;
     }
     Ok(())
@@ -99,7 +184,7 @@ fn run_derived<R: Abort + Wait, D: Disk>(
 }
 
 #[test]
-fn a_seat_is_told_the_roots_of_what_another_stored(rt: HostRuntime) -> Result<(), Fail> {
+fn a_seat_is_told_what_another_stored(rt: HostRuntime) -> Result<(), Fail> {
     let alloc = rt.alloc();
     run_derived(&rt, alloc, new_repository(alloc, &[])?)
 }

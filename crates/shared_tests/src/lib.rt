@@ -10,6 +10,8 @@ mod gates;
 #[cfg(test)]
 mod landings;
 #[cfg(test)]
+mod looks;
+#[cfg(test)]
 mod repository;
 #[cfg(test)]
 mod seats;

@@ -2,10 +2,11 @@
 ghost use Rattle.std.specs.Prelude.{◌≡◌};
 ghost use Rattle.bookmark_lock.specs.Place.{moved};
 
+use crate::looks::tell;
 use crate::repository::new_repository;
 use crate::steps::run_at;
 use blob_disk::Disk;
-use repo_calls::{AskFault, Seen};
+use repo_calls::{AskFault, Question, Seen};
 use repo_state::RepoState;
 use shared_repo::{Repo, RepoSeat};
 use std::alloc::Global;
@@ -57,18 +58,26 @@ fn put_and_count<R: Wait, D: Disk>(
     total_of(repo.log(rt, alloc, seat, 0))
 }
 
-// A seat that is split off after the lead's first entry makes the second, and the lead joins it.
+// How many entries the lead and a seat that is split off then see after an entry of each, and the lead once it has joined
+// the other, and the repository that is closed then.
 fn run_split<R: Wait, D: Disk>(
     rt: &R,
     alloc: Global,
     state: RepoState<D>,
-) -> Result<(u64, u64, u64), Fail> {
+) -> Result<([u64; 3], RepoState<D>), Fail> {
     let (repo, mut lead) = Repo::new(alloc, state)?;
-    let first = put_and_count(rt, alloc, &repo, &mut lead, b"a")?;
+    let first = put_and_count(rt, alloc, &repo, &mut lead, b"abc")?;
     let mut other = repo.split(&mut lead);
-    let second = put_and_count(rt, alloc, &repo, &mut other, b"b")?;
+    let second = put_and_count(rt, alloc, &repo, &mut other, b"")?;
     repo.join(&mut lead, other);
-    Ok((first, second, repo.close(lead).history_length()))
+    let joined = total_of(repo.log(rt, alloc, &mut lead, 0))?;
+    Ok(([first, second, joined], repo.close(lead)))
+}
+
+// What a repository that is served alone tells of its log.
+fn log_of<D: Disk>(alloc: Global, state: RepoState<D>) -> Result<String, Fail> {
+    let mut state = state;
+    tell(alloc, state.look(alloc, 0, &Question::Log(0)))
 }
 
 // The sync that ends the first entry's record fails. Reads go on.
@@ -87,10 +96,15 @@ fn a_sync_that_fails_for_one_seat_ends_the_changes_of_all(rt: HostRuntime) -> Re
     run_both(&rt, alloc, new_repository(alloc, &[4])?, FAILED, DOWN)
 }
 
+// The ids are SHA-256 (FIPS 180-4) of `abc` and of nothing.
+const CLOSED: &str =
+    "2, content ba7816bf8f01cfea414140de5dae2223b00361a396177a9cb410ff61f20015ad 3, content e3b0c44298fc1c149afbf4c8996fb92427ae41e4649b934ca495991b7852b855 0";
+
 #[test]
 fn a_new_seat_sees_what_the_lead_has_seen(rt: HostRuntime) -> Result<(), Fail> {
     let alloc = rt.alloc();
-    let counts = run_split(&rt, alloc, new_repository(alloc, &[])?)?;
-    assert_eq!(rt; counts, (1, 2, 2));
+    let (counts, state) = run_split(&rt, alloc, new_repository(alloc, &[])?)?;
+    assert_eq!(rt; counts, [1, 2, 2]);
+    assert_eq!(rt; log_of(alloc, state)?.as_str(), CLOSED);
     Ok(())
 }

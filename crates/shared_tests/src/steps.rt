@@ -4,9 +4,10 @@
 //! - `content TEXT` and `changeset DIGITS` store what they name;
 //! - `move FROM TO` moves `main`, where `-` stands for no bookmark;
 //! - `land ID` lands a draft on `main`, and tells how many new changesets there are, and the last;
-//! - `total` tells how many entries the log has.
+//! - `total` tells how many entries the log has, and `log N` those from this number on, too.
 ghost use Rattle.std.specs.Prelude.{◌≡◌};
 
+use crate::looks::tell as tell_answer;
 use blob_disk::Disk;
 use object_id::Id;
 use ports::NoGate;
@@ -59,6 +60,7 @@ fn told<S: Seat>(alloc: Global, seat: &mut S, step: &str) -> Result<String, Fail
         "move" => move_main(alloc, seat, rest),
         "land" => land(alloc, seat, rest),
         "total" => tell_total(alloc, seat),
+        "log" => tell_log(alloc, seat, rest),
         _ => Err(Fail::from("a step")),
     }
 }
@@ -140,6 +142,11 @@ fn tell_landed(alloc: Global, ids: &[Id]) -> Result<String, Fail> {
 fn tell_total<S: Seat>(alloc: Global, seat: &mut S) -> Result<String, Fail> {
     let total = total(alloc, seat)?;
     Ok(format!(in alloc; "{total}")?)
+}
+
+fn tell_log<S: Seat>(alloc: Global, seat: &mut S, from: &str) -> Result<String, Fail> {
+    let question = Question::Log(from.parse()?);
+    tell_answer(alloc, seat.look(alloc, &question))
 }
 
 /// How many entries the log has.

@@ -5,24 +5,26 @@ use std::thread;
 
 const MOST_TURNS: u64 = 1_000_000;
 
-/// The first landing that comes here waits until one is answered, for so many turns at most.
+/// The first landing that comes here waits until more than so many bytes are sent, for so many turns at most.
 #[derive(Drop)]
 pub(crate) struct FirstWaits<'a> {
-    answered: &'a AtomicU64,
+    sent: &'a AtomicU64,
+    bytes: u64,
     came: AtomicU64,
     gave_up: AtomicU64,
 }
 
 impl<'a> FirstWaits<'a> {
-    pub(crate) fn new(answered: &'a AtomicU64) -> Self {
+    pub(crate) fn new(sent: &'a AtomicU64, bytes: u64) -> Self {
         FirstWaits {
-            answered,
+            sent,
+            bytes,
             came: AtomicU64::new(0),
             gave_up: AtomicU64::new(0),
         }
     }
 
-    /// How many landings came here, and how many gave up waiting.
+    /// How often landings came here, and how many gave up waiting.
     pub(crate) fn told(&self) -> (u64, u64) {
         (
             self.came.load(Ordering::SeqCst),
@@ -37,7 +39,7 @@ impl<'a> Gate for FirstWaits<'a> {
             return;
         }
         for _ in 0..MOST_TURNS {
-            if self.answered.load(Ordering::SeqCst) > 0 {
+            if self.sent.load(Ordering::SeqCst) > self.bytes {
                 return;
             }
             thread::yield_now();
