@@ -4,7 +4,7 @@ ghost use Rattle.std.specs.Option.{ForSome};
 ghost use Rattle.ports.specs.Faults.{Counts};
 ghost use Rattle.disk_model.specs.Images.{IsImage, Writes, Syncs};
 ghost use Rattle.disk_model.specs.Meaning.{Meaning, IsLong, IsSound};
-ghost use Rattle.disk_model.specs.Calls.{Kept, LeavesOnly, Looked, Did};
+ghost use Rattle.disk_model.specs.Calls.{Kept, LeavesOnly, Looked, Did, SameMoment, NextMoment};
 
 use ports::Failed;
 
@@ -15,16 +15,17 @@ pub trait Disk: Drop {
     /// before, the count of faults, the place up to which no call fails, and whether it is honest.
     ghost meaning: { Self → Meaning };
 
-    /// How many bytes the file has.
+    /// How many bytes the file has. Once it is told, the moment and the count of faults are as before.
     fn size(&mut self) -> Result<u64, Failed>
         ensures size { IfOk result (λ n. ForSome (meaning self.old).reads (λ file. n ≡ length file)) }
         ensures looked { Looked (meaning self.old) (meaning self.new) }
         ensures kept { Kept (meaning self.old) (meaning self.new) }
         ensures time { LeavesOnly (IsImage (meaning self.new).state) (meaning self.old) (meaning self.new) }
         ensures faults { Counts (meaning self.old).faults (meaning self.new).faults (is_err result) }
+        ensures still { OnOk result (SameMoment (meaning self.old) (meaning self.new)) }
         ensures quiet { IsSome (meaning self.old).quiet → IsOk result };
 
-    /// Fills `buf` with the bytes from `at` on.
+    /// Fills `buf` with the bytes from `at` on. A disk may try again, and count each try that failed.
     fn read_at(&mut self, at: u64, buf: &mut [u8]) -> Result<(), Failed>
         requires { IsLong (meaning self.old).reads (at + length buf.old) }
         ensures bytes { OnOk result (ForSome (meaning self.old).reads (λ file. buf.new ≡ take (length buf.old) (drop at file))) }
@@ -45,12 +46,14 @@ pub trait Disk: Drop {
         ensures faults { Counts (meaning self.old).faults (meaning self.new).faults (is_err result) }
         ensures quiet { ForSome (meaning self.old).quiet (λ most. at + length bytes.now ≤ most → IsOk result) };
 
-    /// After it, a crash leaves what reads give. One that fails makes nothing stable.
+    /// After it, a crash leaves what reads give. One that fails makes nothing stable. One that is done is a moment,
+    /// and no call more has failed.
     fn sync(&mut self) -> Result<(), Failed>
         ensures did { Did (Syncs (is_ok result)) (meaning self.old) (meaning self.new) }
         ensures kept { Kept (meaning self.old) (meaning self.new) }
         ensures time { LeavesOnly (IsImage (meaning self.new).state) (meaning self.old) (meaning self.new) }
         ensures faults { Counts (meaning self.old).faults (meaning self.new).faults (is_err result) }
+        ensures next { OnOk result (NextMoment (meaning self.old) (meaning self.new)) }
         ensures quiet { IsSome (meaning self.old).quiet → IsOk result };
 
     /// How many calls failed so far. It stands at the last value of its type.

@@ -4,7 +4,7 @@ ghost use Rattle.std.specs.Option.{ForSome};
 ghost use Rattle.ports.specs.Faults.{Counts};
 ghost use Rattle.disk_model.specs.Images.{IsImage, Writes, Syncs};
 ghost use Rattle.disk_model.specs.Meaning.{IsLong};
-ghost use Rattle.disk_model.specs.Calls.{Kept, LeavesOnly, Looked, Did};
+ghost use Rattle.disk_model.specs.Calls.{Kept, LeavesOnly, Looked, Did, SameMoment, NextMoment};
 ghost use Rattle.blob_disk.specs.Memory.{IsGood, blank, disk_of, holding_all};
 ghost use Rattle.blob_disk.specs.Log.{blank_log};
 ghost use Rattle.blob_disk.specs.Tally.{called, fresh, is_due, made};
@@ -137,6 +137,7 @@ impl Disk for MemDisk {
         ensures kept { Kept (told_of self.old) (told_of self.new) }
         ensures time { LeavesOnly (IsImage (told_of self.new).state) (told_of self.old) (told_of self.new) }
         ensures faults { Counts (told_of self.old).faults (told_of self.new).faults (is_err result) }
+        ensures still { OnOk result (SameMoment (told_of self.old) (told_of self.new)) }
         ensures quiet { IsSome (told_of self.old).quiet → IsOk result }
         ensures fails { IsErr result ↔ IsTrue (is_due Size (tally_of self.old)) }
         ensures calls { tally_of self.new ≡ called Size (is_err result) (tally_of self.old) }
@@ -199,6 +200,7 @@ impl Disk for MemDisk {
         ensures kept { Kept (told_of self.old) (told_of self.new) }
         ensures time { LeavesOnly (IsImage (told_of self.new).state) (told_of self.old) (told_of self.new) }
         ensures faults { Counts (told_of self.old).faults (told_of self.new).faults (is_err result) }
+        ensures next { OnOk result (NextMoment (told_of self.old) (told_of self.new)) }
         ensures quiet { IsSome (told_of self.old).quiet → IsOk result }
         ensures done { IsOk result ↔ IsSynced self.old }
         ensures calls { tally_of self.new ≡ called Sync (is_err result) (tally_of self.old) }

@@ -122,7 +122,7 @@ set_paths es = map (λ s. s.0) (sets es)
 
 neighbours_sets : (before : Option Path) (es : List (Path × FileChange)) → neighbours before es ≡ next_to before (set_paths es)
 neighbours_sets before [] = refl
-neighbours_sets before ((p, Set f) ∷ es) = ap (below before p) (neighbours_sets (Some p) es)
+neighbours_sets before ((p, Set f copied) ∷ es) = ap (below before p) (neighbours_sets (Some p) es)
 neighbours_sets before ((p, Delete) ∷ es) = neighbours_sets before es
 
 some_by : (long : Path) (s : Path × File) (b : Bool) (o : Option (Path × File)) (r : Option Path) → option_map (λ s. s.0) o ≡ r → option_map (λ s. s.0) (cond b (Some s) o) ≡ cond b (Some s.0) r
@@ -147,12 +147,12 @@ conflict_paths all (s ∷ ss) =
 
 below_sets : (p : Path) (es : List (Path × FileChange)) → below_all path_cmp p es ≡ true → AllByRecursion (λ q. path_lt p q ≡ true) (set_paths es)
 below_sets p [] h = tt
-below_sets p ((q, Set f) ∷ es) h = (first_of (path_lt p q) (below_all path_cmp p es) h, below_sets p es (second_of (path_lt p q) (below_all path_cmp p es) h))
+below_sets p ((q, Set f copied) ∷ es) h = (first_of (path_lt p q) (below_all path_cmp p es) h, below_sets p es (second_of (path_lt p q) (below_all path_cmp p es) h))
 below_sets p ((q, Delete) ∷ es) h = below_sets p es (second_of (path_lt p q) (below_all path_cmp p es) h)
 
 sets_rise : (es : List (Path × FileChange)) → is_sorted path_cmp es ≡ true → IsRising (set_paths es)
 sets_rise [] h = tt
-sets_rise ((p, Set f) ∷ es) h = (below_sets p es (first_of (below_all path_cmp p es) (is_sorted path_cmp es) h), sets_rise es (second_of (below_all path_cmp p es) (is_sorted path_cmp es) h))
+sets_rise ((p, Set f copied) ∷ es) h = (below_sets p es (first_of (below_all path_cmp p es) (is_sorted path_cmp es) h), sets_rise es (second_of (below_all path_cmp p es) (is_sorted path_cmp es) h))
 sets_rise ((p, Delete) ∷ es) h = sets_rise es (second_of (below_all path_cmp p es) (is_sorted path_cmp es) h)
 
 pub neighbours_conflict : (c : Changeset) → is_sorted path_cmp c.changes ≡ true → neighbours None c.changes ≡ self_conflict c

@@ -2,6 +2,7 @@
 use Rattle.std.proofs.Common.{◌≡◌, ℕ, suc, ◌-◌, List, [], ◌∷◌, ◌++◌, length, Option, Some, None, refl, ap, ◌∙◌, arith}
 use Rattle.std.specs.Prelude.{option_map, slice_get}
 use Rattle.byte_fields.proofs.Run.{Run}
+use Rattle.changeset_model.specs.Version.{Version}
 use Rattle.changeset_model.specs.Path.{Path}
 use Rattle.changeset_model.specs.Changeset.{FileChange}
 use Rattle.changeset_model.specs.Decoding.{edit, edits}
@@ -14,10 +15,10 @@ last_path_push before [] e = refl
 last_path_push before (d ∷ es) e = last_path_push (Some d.0) es e
 
 -- edits, each of a path after the one before
-abbrev pub edits_run : Run (Path × FileChange) (Option Path)
-edits_run = record {
-  all = edits;
-  one = edit;
+abbrev pub edits_run : Version → ℕ → Run (Path × FileChange) (Option Path)
+edits_run v parents = record {
+  all = edits v parents;
+  one = edit v parents;
   next = λ before e. Some e.0;
   none = λ before bytes. refl;
   more = λ n before bytes. refl;

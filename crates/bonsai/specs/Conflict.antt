@@ -10,5 +10,5 @@ below (Some q) p later = if is_strict_prefix q p then Some (q, p) else later
 
 abbrev pub neighbours : Option Path → List (Path × FileChange) → Option (Path × Path)
 neighbours before [] = None
-neighbours before ((p, Set f) ∷ es) = below before p (neighbours (Some p) es)
+neighbours before ((p, Set f copied) ∷ es) = below before p (neighbours (Some p) es)
 neighbours before ((p, Delete) ∷ es) = neighbours before es

@@ -6,5 +6,6 @@ pub mod EqualViews
 pub mod Kept
 pub mod LastPath
 pub mod Making
+pub mod Versions
 pub mod View
 pub mod Kinds

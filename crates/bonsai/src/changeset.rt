@@ -4,6 +4,8 @@ ghost use Rattle.std.specs.Cmp.{partial_equiv_from_equiv};
 ghost use Rattle.changeset_model.specs.Changeset as model;
 ghost use Rattle.history_model.specs.Pushrebase.{on_parent};
 ghost use Rattle.bonsai.specs.Equal.{changeset_eq, changeset_eq_equiv};
+ghost use Rattle.bonsai.specs.Making.{KeepsOnParent};
+ghost use Rattle.bonsai.specs.Versions.{version_view};
 ghost use Rattle.bonsai.specs.View.{change_view, edits_view};
 
 use crate::change::Change;
@@ -11,13 +13,16 @@ use crate::edit::Edit;
 use crate::edit_list::{change_among, paths_of};
 use crate::encoding::encode;
 use crate::fields::{Fields, are_same};
+use crate::moment::Date;
+use crate::version::Version;
 use object_id::Id;
 use repo_path::RepoPath;
 use std::alloc::{AllocError, Global};
 use std::marker::Model;
 
-/// A changeset: at most two parents, the author, when and with which message, and what it changes, by rising paths. It
-/// keeps the rules of its fields, so it has one encoding, and no path that it sets lies under another. Contracts see the definitions' changeset.
+/// A changeset: the version of its encoding, at most two parents, the author, when and with which message, and what it
+/// changes, by rising paths. It keeps the rules of its fields, so it has one encoding, and no path that it sets lies under
+/// another. Contracts see the definitions' changeset.
 #[derive(Debug, Drop)]
 pub struct Changeset {
     pub(crate) fields: Fields,
@@ -85,17 +90,42 @@ impl Changeset {
         ensures { IfOk result (λ c. c ≡ self.now) }
     {
         let parents = Vec::from_slice(alloc, self.fields.parents.as_slice())?;
-        let fields = self.fields.with_parents(alloc, parents)?;
+        let fields = self.fields.with_parents(alloc, parents, self.date())?;
         Ok(Changeset { fields })
     }
 
-    /// The same changeset with this one parent, in memory of its own.
-    pub fn with_parent(&self, alloc: Global, parent: Id) -> Result<Changeset, AllocError>
-        ensures { IfOk result (λ c. c ≡ on_parent parent self.now) }
+    /// The same changeset with this one parent, in memory of its own. One of the second version is dated at the moment.
+    /// Its copy sources must then name this parent, as they do where it has one parent.
+    pub fn with_parent(
+        &self,
+        alloc: Global,
+        parent: Id,
+        moment: u64,
+    ) -> Result<Changeset, AllocError>
+        requires { KeepsOnParent self.now }
+        ensures { IfOk result (λ c. c ≡ on_parent parent moment self.now) }
     {
         let parents = sole_parent(alloc, &parent)?;
-        let fields = self.fields.with_parents(alloc, parents)?;
+        let date = self.date().landed(self.fields.version, moment);
+        let fields = self.fields.with_parents(alloc, parents, date)?;
         Ok(Changeset { fields })
+    }
+
+    /// The version of its encoding.
+    pub fn version(&self) -> Version
+        ensures { version_view result ≡ self.now.version }
+    {
+        self.fields.version
+    }
+
+    fn date(&self) -> Date
+        ensures seconds { result.seconds ≡ self.now.seconds }
+        ensures offset { result.offset ≡ self.now.offset }
+    {
+        Date {
+            seconds: self.fields.seconds,
+            offset: self.fields.offset,
+        }
     }
 }
 

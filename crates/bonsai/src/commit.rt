@@ -1,5 +1,5 @@
 //! A changeset with its id.
-ghost use Rattle.std.specs.Prelude.{◌≡◌, ◌<◌, ◌^◌, ◌++◌, length, IfOk, OnOk, IsTrue};
+ghost use Rattle.std.specs.Prelude.{◌≡◌, ℕ, ◌<◌, ◌^◌, ◌++◌, length, IfOk, OnOk, IsTrue};
 ghost use Rattle.byte_fields.specs.Bytes.{Id as ModelId, is_bytes};
 ghost use Rattle.changeset_model.specs.Changeset as model;
 ghost use Rattle.changeset_model.specs.Decoding.{decoded};
@@ -91,17 +91,17 @@ impl Commit {
     /// The length of the encoding in bytes.
     pub fn encoded_length(&self) -> usize
         ensures value { result ≡ length (model.spelling self.now) }
-        ensures short { result < 2 ^ 25 }
+        ensures short { result < 2 ^ 26 }
     {
         // The changeset keeps its rules, and so is short.
         let _edits = self.changeset.edits();
         self.encoded_length
     }
 
-    /// The length in bytes that the encoding has once the changeset has one parent, whichever it is.
+    /// The length in bytes that the encoding has once the changeset has one parent, whichever it is, at any moment.
     pub fn length_on_parent(&self) -> usize
-        ensures value { (parent : ModelId) → IsTrue (is_bytes 32 parent) → result ≡ length (model.spelling (on_parent parent self.now)) }
-        ensures short { result < 2 ^ 26 }
+        ensures value { (parent : ModelId) (moment : ℕ) → IsTrue (is_bytes 32 parent) → result ≡ length (model.spelling (on_parent parent moment self.now)) }
+        ensures short { result < 2 ^ 27 }
     {
         self.encoded_length() + ID_LENGTH - self.changeset.parents().len() * ID_LENGTH
     }

@@ -22,10 +22,8 @@ impl Edit {
         ensures { IfOk result (λ e. edit_view e ≡ edit_view self.now) }
     {
         let path = self.path.copy(alloc)?;
-        Ok(Edit {
-            path,
-            change: self.change,
-        })
+        let change = self.change.copy(alloc)?;
+        Ok(Edit { path, change })
     }
 }
 

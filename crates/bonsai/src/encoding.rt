@@ -1,16 +1,20 @@
 //! The spelling of a changeset. Numbers stand high byte first.
-ghost use Rattle.std.specs.Prelude.{◌≡◌, ◌≤◌, ◌∷◌, ◌++◌, length, flat_map, OnOk, IfOk, IsTrue};
+ghost use Rattle.std.specs.Prelude.{◌≡◌, ◌≤◌, ◌+◌, option_map, ◌∷◌, ◌++◌, length, flat_map, OnOk, IfOk, IsTrue};
 ghost use Rattle.std.specs.List.{concat};
 ghost use Rattle.std.specs.Int.{w16, w32, w64, to_be_bytes, cast_unsigned};
 ghost use Rattle.byte_fields.specs.Bytes.{sized};
 ghost use Rattle.changeset_model.specs.Changeset as model;
-ghost use Rattle.bonsai.specs.View.{change_view, edit_view, edits_view, fields_view};
+ghost use Rattle.changeset_model.specs.Version.{version_byte};
+ghost use Rattle.bonsai.specs.Versions.{version_view};
+ghost use Rattle.bonsai.specs.View.{source_view, change_view, edit_view, edits_view, fields_view};
 
 use crate::change::Change;
 use crate::changeset::Changeset;
+use crate::copy_source::CopySource;
 use crate::edit::Edit;
 use crate::fields::Fields;
 use crate::limits::{LONGEST_AUTHOR, LONGEST_MESSAGE, MOST_EDITS, MOST_PARENTS};
+use crate::version::Version;
 use object_id::Id;
 use repo_path::LONGEST_PATH;
 use std::alloc::{AllocError, Global};
@@ -45,9 +49,18 @@ fn room_for(fields: &Fields) -> usize {
 
 fn room_for_edit(edit: &Edit) -> usize {
     let path = edit.path.as_str().len();
-    match edit.change {
+    match &edit.change {
         Change::Delete => path + 3,
-        Change::Set { .. } => path + 44,
+        Change::Set { copied, .. } => path + 44 + room_for_source(copied),
+    }
+}
+
+fn room_for_source(copied: &Option<CopySource>) -> usize
+    ensures { result ≤ LONGEST_PATH + 4 }
+{
+    match copied {
+        Some(source) => source.path.as_str().len() + 4,
+        None => 1,
     }
 }
 
@@ -55,20 +68,20 @@ fn put_fields(out: &mut Vec<u8>, fields: &Fields) -> Result<(), AllocError>
     requires { IsTrue (model.is_changeset (fields_view fields.now)) }
     ensures { OnOk result (out.new.items ≡ out.old.items ++ model.spelling (fields_view fields.now)) }
 {
-    put_head(out, fields.parents.as_slice())?;
+    put_head(out, fields.version, fields.parents.as_slice())?;
     put_author(out, fields.author.as_str())?;
     put_date(out, fields.seconds, fields.offset)?;
     put_message(out, fields.message.as_str())?;
-    put_edit_list(out, fields.edits.as_slice())?;
+    put_edit_list(out, fields.version, fields.edits.as_slice())?;
     Ok(())
 }
 
 // The mark, the version and the parents.
-fn put_head(out: &mut Vec<u8>, parents: &[Id]) -> Result<(), AllocError>
+fn put_head(out: &mut Vec<u8>, version: Version, parents: &[Id]) -> Result<(), AllocError>
     requires { length parents.now ≤ MOST_PARENTS }
-    ensures { OnOk result (out.new.items ≡ out.old.items ++ 0x43 ∷ 1 ∷ length parents.now ∷ concat parents.now) }
+    ensures { OnOk result (out.new.items ≡ out.old.items ++ 0x43 ∷ version_byte (version_view version) ∷ length parents.now ∷ concat parents.now) }
 {
-    out.extend_from_slice(&[b'C', 1, parents.len() as u8])?;
+    out.extend_from_slice(&[b'C', version.to_byte(), parents.len() as u8])?;
     put_parents(out, parents)
 }
 
@@ -80,12 +93,12 @@ fn put_date(out: &mut Vec<u8>, seconds: i64, offset: i32) -> Result<(), AllocErr
 }
 
 // How many edits there are, and then each.
-fn put_edit_list(out: &mut Vec<u8>, edits: &[Edit]) -> Result<(), AllocError>
+fn put_edit_list(out: &mut Vec<u8>, version: Version, edits: &[Edit]) -> Result<(), AllocError>
     requires { length edits.now ≤ MOST_EDITS }
-    ensures { OnOk result (out.new.items ≡ out.old.items ++ to_be_bytes w32 (length edits.now) ++ flat_map model.edit_bytes (edits_view edits.now)) }
+    ensures { OnOk result (out.new.items ≡ out.old.items ++ to_be_bytes w32 (length edits.now) ++ flat_map (model.edit_bytes (version_view version)) (edits_view edits.now)) }
 {
     out.extend_from_slice(&(edits.len() as u32).to_be_bytes())?;
-    put_edits(out, edits)
+    put_edits(out, version, edits)
 }
 
 fn put_parents(out: &mut Vec<u8>, parents: &[Id]) -> Result<(), AllocError>
@@ -121,24 +134,24 @@ fn put_message(out: &mut Vec<u8>, message: &str) -> Result<(), AllocError>
     out.extend_from_slice(message.as_bytes())
 }
 
-fn put_edits(out: &mut Vec<u8>, edits: &[Edit]) -> Result<(), AllocError>
-    ensures { OnOk result (out.new.items ≡ out.old.items ++ flat_map model.edit_bytes (edits_view edits.now)) }
+fn put_edits(out: &mut Vec<u8>, version: Version, edits: &[Edit]) -> Result<(), AllocError>
+    ensures { OnOk result (out.new.items ≡ out.old.items ++ flat_map (model.edit_bytes (version_view version)) (edits_view edits.now)) }
 {
     for edit in edits {
-        put_edit(out, edit)?;
+        put_edit(out, version, edit)?;
     }
     Ok(())
 }
 
-fn put_edit(out: &mut Vec<u8>, edit: &Edit) -> Result<(), AllocError>
-    ensures { OnOk result (out.new.items ≡ out.old.items ++ model.edit_bytes (edit_view edit.now)) }
+fn put_edit(out: &mut Vec<u8>, version: Version, edit: &Edit) -> Result<(), AllocError>
+    ensures { OnOk result (out.new.items ≡ out.old.items ++ model.edit_bytes (version_view version) (edit_view edit.now)) }
 {
     put_short(out, edit.path.as_str().as_bytes())?;
-    put_change(out, &edit.change)
+    put_change(out, version, &edit.change)
 }
 
-fn put_change(out: &mut Vec<u8>, change: &Change) -> Result<(), AllocError>
-    ensures { OnOk result (out.new.items ≡ out.old.items ++ model.change_bytes (change_view change.now)) }
+fn put_change(out: &mut Vec<u8>, version: Version, change: &Change) -> Result<(), AllocError>
+    ensures { OnOk result (out.new.items ≡ out.old.items ++ model.change_bytes (version_view version) (change_view change.now)) }
 {
     match change {
         Change::Delete => out.push(0)?,
@@ -146,11 +159,42 @@ fn put_change(out: &mut Vec<u8>, change: &Change) -> Result<(), AllocError>
             content,
             kind,
             size,
+            copied,
         } => {
             out.extend_from_slice(&[1, kind.to_byte()])?;
             out.extend_from_slice(&size.to_be_bytes())?;
             out.extend_from_slice(content.as_bytes())?;
+            put_copied(out, version, copied)?;
         }
     }
     Ok(())
+}
+
+// The first version has nothing there.
+fn put_copied(
+    out: &mut Vec<u8>,
+    version: Version,
+    copied: &Option<CopySource>,
+) -> Result<(), AllocError>
+    ensures { OnOk result (out.new.items ≡ out.old.items ++ model.copied_bytes (version_view version) (option_map source_view copied.now)) }
+{
+    match version {
+        Version::First => Ok(()),
+        Version::Second => put_source(out, copied),
+    }
+}
+
+fn put_source(out: &mut Vec<u8>, copied: &Option<CopySource>) -> Result<(), AllocError>
+    ensures { OnOk result (out.new.items ≡ out.old.items ++ model.source_bytes (option_map source_view copied.now)) }
+{
+    match copied {
+        None => {
+            out.push(0)?;
+            Ok(())
+        }
+        Some(source) => {
+            out.extend_from_slice(&[1, source.parent])?;
+            put_short(out, source.path.as_str().as_bytes())
+        }
+    }
 }

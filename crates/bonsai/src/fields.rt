@@ -10,7 +10,9 @@ use crate::conflict::{Conflict, first_conflict};
 use crate::edit::Edit;
 use crate::edit_list::{are_equal, copy_of};
 use crate::edits::edit_list_at;
+use crate::moment::Date;
 use crate::parts::{author_at, message_at, parent_list_at};
+use crate::version::{Version, version_at};
 use byte_fields::FieldFault;
 use byte_fields::fields::{exactly_at, i32_at, i64_at};
 use object_id::Id;
@@ -19,6 +21,8 @@ use std::alloc::{AllocError, Global};
 /// The fields of a changeset. Whether they keep its rules is known once they are in a `Changeset`.
 #[derive(Debug, Drop)]
 pub struct Fields {
+    /// That of the encoding. Only the second has copy sources.
+    pub version: Version,
     /// The ids of the parents, at most two different ones.
     pub parents: Vec<Id>,
     /// 1 to `LONGEST_AUTHOR` bytes without 00 and 0A.
@@ -34,18 +38,24 @@ pub struct Fields {
 }
 
 impl Fields {
-    /// The same fields but for the parents, in memory of their own.
-    pub(crate) fn with_parents(&self, alloc: Global, parents: Vec<Id>) -> Result<Fields, AllocError>
-        ensures { IfOk result (λ f. fields_view f ≡ record (fields_view self.now) { parents = parents.items }) }
+    /// The same fields but for the parents and the date, in memory of their own.
+    pub(crate) fn with_parents(
+        &self,
+        alloc: Global,
+        parents: Vec<Id>,
+        date: Date,
+    ) -> Result<Fields, AllocError>
+        ensures { IfOk result (λ f. fields_view f ≡ record (fields_view self.now) { parents = parents.items; seconds = date.seconds; offset = date.offset }) }
     {
         let author = String::from_str(alloc, self.author.as_str())?;
         let message = String::from_str(alloc, self.message.as_str())?;
         let edits = copy_of(alloc, self.edits.as_slice())?;
         Ok(Fields {
+            version: self.version,
             parents,
             author,
-            seconds: self.seconds,
-            offset: self.offset,
+            seconds: date.seconds,
+            offset: date.offset,
             message,
             edits,
         })
@@ -65,14 +75,15 @@ pub(crate) fn fields_at(alloc: Global, bytes: &[u8]) -> Result<(Fields, &[u8]), 
     ensures { Reads (λ x. (fields_view x.0, x.1.now)) result (decoding.changeset bytes.now) }
 {
     let rest = exactly_at(bytes, b'C')?;
-    let rest = exactly_at(rest, 1)?;
+    let (version, rest) = version_at(rest)?;
     let (parents, rest) = parent_list_at(alloc, rest)?;
     let (author, rest) = author_at(alloc, rest)?;
     let (seconds, rest) = i64_at(rest)?;
     let (offset, rest) = i32_at(rest)?;
     let (message, rest) = message_at(alloc, rest)?;
-    let (edits, rest) = edit_list_at(alloc, rest)?;
+    let (edits, rest) = edit_list_at(alloc, version, parents.len() as u8, rest)?;
     let fields = Fields {
+        version,
         parents,
         author,
         seconds,
@@ -87,7 +98,8 @@ pub(crate) fn fields_at(alloc: Global, bytes: &[u8]) -> Result<(Fields, &[u8]), 
 pub(crate) fn are_same(left: &Fields, right: &Fields) -> bool
     ensures { result ≡ changeset_eq (fields_view left.now) (fields_view right.now) }
 {
-    left.parents == right.parents
+    left.version.to_byte() == right.version.to_byte()
+        && left.parents == right.parents
         && left.author == right.author
         && left.seconds == right.seconds
         && left.offset == right.offset

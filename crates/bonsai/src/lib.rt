@@ -5,6 +5,7 @@ pub mod change;
 pub mod changeset;
 pub mod commit;
 mod conflict;
+pub mod copy_source;
 pub mod decode_fault;
 pub mod decoding;
 pub mod edit;
@@ -15,12 +16,15 @@ pub mod fields;
 pub mod kind;
 pub mod limits;
 pub mod making;
+mod moment;
 mod parts;
 mod text;
+pub mod version;
 
 pub use change::Change;
 pub use changeset::Changeset;
 pub use commit::Commit;
+pub use copy_source::CopySource;
 pub use decode_fault::DecodeFault;
 pub use decoding::decode;
 pub use edit::Edit;
@@ -31,3 +35,4 @@ pub use limits::{
     LONGEST_AUTHOR, LONGEST_ENCODING, LONGEST_MESSAGE, MOST_CONTENT, MOST_EDITS, MOST_PARENTS,
 };
 pub use making::FieldsFault;
+pub use version::{Version, version_at};

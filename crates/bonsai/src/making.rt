@@ -1,18 +1,21 @@
 //! Changesets of fields that were made and not read.
-ghost use Rattle.std.specs.Prelude.{◌≡◌, ◌&&◌, nat_le, length, None, true, IfOk, IfErr, IsTrue};
+ghost use Rattle.std.specs.Prelude.{◌≡◌, ◌≤◌, ◌&&◌, nat_le, length, None, Some, true, IfOk, IfErr, IsTrue};
 ghost use Rattle.std.specs.FinMap.{is_sorted};
 ghost use Rattle.changeset_model.specs.Path.{path_cmp};
 ghost use Rattle.changeset_model.specs.Changeset as model;
-ghost use Rattle.bonsai.specs.Making.{IsFault, IsEditsFault, keeps_size as has_size, keep_sizes as have_sizes};
-ghost use Rattle.bonsai.specs.View.{edit_view, edits_view, fields_view};
+ghost use Rattle.bonsai.specs.Making.{IsFault, IsEditsFault, keeps_size as has_size, keep_sizes as have_sizes, keeps_source as has_source, keep_sources as have_sources};
+ghost use Rattle.bonsai.specs.Versions.{version_view};
+ghost use Rattle.bonsai.specs.View.{source_view, edit_view, edits_view, fields_view};
 ghost use Rattle.bonsai.specs.declared.making.FieldsFault.TheVariants.{Memory};
 
 use crate::change::Change;
 use crate::changeset::Changeset;
+use crate::copy_source::CopySource;
 use crate::edit::Edit;
 use crate::fields::Fields;
 use crate::limits::{LONGEST_AUTHOR, LONGEST_MESSAGE, MOST_CONTENT, MOST_EDITS};
 use crate::text::line_of;
+use crate::version::Version;
 use byte_fields::is_text;
 use object_id::Id;
 use repo_path::RepoPath;
@@ -37,6 +40,9 @@ pub enum FieldsFault {
     /// A set names a size of more than `MOST_CONTENT` bytes.
     #[error("a file is too large")]
     TooLarge,
+    /// A copy source stands in the first version, or names a parent that isn't there.
+    #[error("a file is copied from a parent that is not there")]
+    BadSource,
     /// A path isn't greater than the one before it.
     #[error("the paths of the edits do not rise")]
     Unordered,
@@ -75,6 +81,19 @@ impl Changeset {
         }
         Ok(Changeset { fields })
     }
+
+    /// Whether its copy sources name a parent that is there once it has one parent, whichever it is.
+    pub fn keeps_on_parent(&self) -> bool
+        ensures value { result ≡ model.are_changes self.now.version 1 self.now.changes }
+        // They do where it has one parent at most.
+        ensures alone { length self.now.parents ≤ 1 → IsTrue result }
+    {
+        let place = Place {
+            version: self.fields.version,
+            parents: 1,
+        };
+        keep_sources(place, self.fields.edits.as_slice())
+    }
 }
 
 // The rules of each field.
@@ -92,18 +111,32 @@ fn check_rules(fields: &Fields) -> Result<(), FieldsFault>
     if !is_message(fields.message.as_str()) {
         return Err(FieldsFault::BadMessage);
     }
-    check_edits(fields.edits.as_slice())
+    let place = Place {
+        version: fields.version,
+        parents: fields.parents.len(),
+    };
+    check_edits(place, fields.edits.as_slice())
 }
 
-fn check_edits(edits: &[Edit]) -> Result<(), FieldsFault>
-    ensures rules { IfOk result (λ _. IsTrue (model.are_changes (edits_view edits.now))) }
-    ensures fault { IfErr result (λ fault. IsEditsFault fault (edits_view edits.now)) }
+// What the rules of a copy source look at.
+#[derive(Clone, Copy)]
+struct Place {
+    version: Version,
+    parents: usize,
+}
+
+fn check_edits(place: Place, edits: &[Edit]) -> Result<(), FieldsFault>
+    ensures rules { IfOk result (λ _. IsTrue (model.are_changes (version_view place.version) place.parents (edits_view edits.now))) }
+    ensures fault { IfErr result (λ fault. IsEditsFault (version_view place.version) place.parents fault (edits_view edits.now)) }
 {
     if edits.len() > MOST_EDITS as usize {
         return Err(FieldsFault::TooManyEdits);
     }
     if !keep_sizes(edits) {
         return Err(FieldsFault::TooLarge);
+    }
+    if !keep_sources(place, edits) {
+        return Err(FieldsFault::BadSource);
     }
     if !are_rising(edits) {
         return Err(FieldsFault::Unordered);
@@ -172,10 +205,46 @@ fn keeps_size(edit: &Edit) -> bool
             content,
             kind: _,
             size,
+            copied: _,
         } => {
             let _bytes = content.as_bytes();
             *size <= MOST_CONTENT
         }
+    }
+}
+
+// Whether each copy source names a parent that is there.
+fn keep_sources(place: Place, edits: &[Edit]) -> bool
+    ensures { result ≡ have_sources (version_view place.version) place.parents (edits_view edits.now) }
+{
+    for edit in edits {
+        if !keeps_source(place, edit) {
+            return false;
+        }
+    }
+    true
+}
+
+fn keeps_source(place: Place, edit: &Edit) -> bool
+    ensures { result ≡ has_source (version_view place.version) place.parents (edit_view edit.now) }
+{
+    match &edit.change {
+        Change::Set {
+            copied: Some(source),
+            ..
+        } => names_parent(place, source),
+        Change::Set { copied: None, .. } | Change::Delete => true,
+    }
+}
+
+fn names_parent(place: Place, source: &CopySource) -> bool
+    ensures { result ≡ model.is_copied (version_view place.version) place.parents (Some (source_view source.now)) }
+{
+    // What it has kept its rules when it was made.
+    let _path = source.path.as_str();
+    match place.version {
+        Version::First => false,
+        Version::Second => usize::from(source.parent) < place.parents,
     }
 }
 

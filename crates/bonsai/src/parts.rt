@@ -1,5 +1,5 @@
 //! The parts of a changeset, each read from left to right.
-ghost use Rattle.std.specs.Prelude.{◌≡◌, string_bytes, nat_lt, nat_le, ◌&&◌, not, bytes_eq, option_map, IfOk, IfErr};
+ghost use Rattle.std.specs.Prelude.{◌≡◌, ◌≤◌, length, string_bytes, nat_lt, nat_le, ◌&&◌, not, bytes_eq, option_map, IfOk, IfErr};
 ghost use Rattle.std.specs.Int.{w16};
 ghost use Rattle.byte_fields.specs.Gives.{Gives};
 ghost use Rattle.byte_fields.specs.Reading.{number, bytes_of, keeping};
@@ -7,13 +7,16 @@ ghost use Rattle.byte_fields.specs.Reads.{Reads};
 ghost use Rattle.byte_fields.specs.declared.field_fault.FieldFault.TheVariants.{Memory};
 ghost use Rattle.changeset_model.specs.Path.{elements, is_path};
 ghost use Rattle.changeset_model.specs.Decoding as decoding;
-ghost use Rattle.bonsai.specs.View.{change_view, edit_view};
+ghost use Rattle.bonsai.specs.Versions.{version_view};
+ghost use Rattle.bonsai.specs.View.{source_view, change_view, edit_view};
 
 use crate::change::Change;
+use crate::copy_source::CopySource;
 use crate::edit::Edit;
 use crate::kind_at;
 use crate::limits::{LONGEST_AUTHOR, LONGEST_MESSAGE, MOST_CONTENT};
 use crate::text::{line_of, text_of};
+use crate::version::Version;
 use byte_fields::fields::{bytes_at, id_at, u8_below, u16_at, u32_up_to, u64_up_to};
 use byte_fields::{BadField, FieldFault};
 use object_id::Id;
@@ -57,7 +60,8 @@ pub(crate) fn message_at(alloc: Global, bytes: &[u8]) -> Result<(String, &[u8]),
 
 /// The parents: at most two, the second another one than the first.
 pub(crate) fn parent_list_at(alloc: Global, bytes: &[u8]) -> Result<(Vec<Id>, &[u8]), FieldFault>
-    ensures { Reads (λ x. (x.0.items, x.1.now)) result (decoding.parent_list bytes.now) }
+    ensures read { Reads (λ x. (x.0.items, x.1.now)) result (decoding.parent_list bytes.now) }
+    ensures few { IfOk result (λ x. length x.0.items ≤ 2) }
 {
     let (count, rest) = u8_below(bytes, 3)?;
     match count {
@@ -68,7 +72,8 @@ pub(crate) fn parent_list_at(alloc: Global, bytes: &[u8]) -> Result<(Vec<Id>, &[
 }
 
 fn one_parent(alloc: Global, bytes: &[u8]) -> Result<(Vec<Id>, &[u8]), FieldFault>
-    ensures { Reads (λ x. (x.0.items, x.1.now)) result (decoding.parents 1 bytes.now) }
+    ensures read { Reads (λ x. (x.0.items, x.1.now)) result (decoding.parents 1 bytes.now) }
+    ensures few { IfOk result (λ x. length x.0.items ≤ 2) }
 {
     let (first, rest) = id_at(bytes)?;
     let parents = Vec::from_array(alloc, [Id::from_bytes(first)])?;
@@ -76,7 +81,8 @@ fn one_parent(alloc: Global, bytes: &[u8]) -> Result<(Vec<Id>, &[u8]), FieldFaul
 }
 
 fn two_parents(alloc: Global, bytes: &[u8]) -> Result<(Vec<Id>, &[u8]), FieldFault>
-    ensures { Reads (λ x. (x.0.items, x.1.now)) result (decoding.parents 2 bytes.now) }
+    ensures read { Reads (λ x. (x.0.items, x.1.now)) result (decoding.parents 2 bytes.now) }
+    ensures few { IfOk result (λ x. length x.0.items ≤ 2) }
 {
     let (first, rest) = id_at(bytes)?;
     let (second, rest) = other_id_at(rest, &first)?;
@@ -93,31 +99,6 @@ fn other_id_at<'a>(bytes: &'a [u8], first: &[u8; 32]) -> Result<([u8; 32], &'a [
         return Err(BadField { left: bytes.len() });
     }
     Ok((id, rest))
-}
-
-// A file's type, size and content, which a change sets.
-fn set_at(bytes: &[u8]) -> Result<(Change, &[u8]), BadField>
-    ensures { Gives (λ x. (change_view x.0, x.1.now)) result (decoding.change_of 1 bytes.now) }
-{
-    let (kind, rest) = kind_at(bytes)?;
-    let (size, rest) = u64_up_to(rest, MOST_CONTENT)?;
-    let (content, rest) = id_at(rest)?;
-    let set = Change::Set {
-        content: Id::from_bytes(content),
-        kind,
-        size,
-    };
-    Ok((set, rest))
-}
-
-fn change_at(bytes: &[u8]) -> Result<(Change, &[u8]), BadField>
-    ensures { Gives (λ x. (change_view x.0, x.1.now)) result (decoding.change bytes.now) }
-{
-    let (tag, rest) = u8_below(bytes, 2)?;
-    if tag == 0 {
-        return Ok((Change::Delete, rest));
-    }
-    set_at(rest)
 }
 
 // The path that a text is, if it is one and comes after the path before.
@@ -156,17 +137,96 @@ fn path_at<'a>(
     Ok((path, after))
 }
 
+// The parent's place and the path of a copy source.
+fn source_at(
+    alloc: Global,
+    parents: u8,
+    bytes: &[u8],
+) -> Result<(Option<CopySource>, &[u8]), FieldFault>
+    ensures { Reads (λ x. (option_map source_view x.0, x.1.now)) result (decoding.source_for parents 1 bytes.now) }
+{
+    let (parent, rest) = u8_below(bytes, parents)?;
+    let (path, rest) = path_at(alloc, None, rest)?;
+    Ok((Some(CopySource { parent, path }), rest))
+}
+
+fn source_if_told(
+    alloc: Global,
+    parents: u8,
+    bytes: &[u8],
+) -> Result<(Option<CopySource>, &[u8]), FieldFault>
+    ensures { Reads (λ x. (option_map source_view x.0, x.1.now)) result (decoding.source parents bytes.now) }
+{
+    let (flag, rest) = u8_below(bytes, 2)?;
+    if flag == 0 {
+        return Ok((None, rest));
+    }
+    source_at(alloc, parents, rest)
+}
+
+// Where a file that is set was copied from. The first version has nothing there.
+fn copied_at(
+    alloc: Global,
+    version: Version,
+    parents: u8,
+    bytes: &[u8],
+) -> Result<(Option<CopySource>, &[u8]), FieldFault>
+    ensures { Reads (λ x. (option_map source_view x.0, x.1.now)) result (decoding.copied (version_view version) parents bytes.now) }
+{
+    match version {
+        Version::First => Ok((None, bytes)),
+        Version::Second => source_if_told(alloc, parents, bytes),
+    }
+}
+
+// A file's type, size and content, which a change sets, and where it was copied from.
+fn set_at(
+    alloc: Global,
+    version: Version,
+    parents: u8,
+    bytes: &[u8],
+) -> Result<(Change, &[u8]), FieldFault>
+    ensures { Reads (λ x. (change_view x.0, x.1.now)) result (decoding.change_of (version_view version) parents 1 bytes.now) }
+{
+    let (kind, rest) = kind_at(bytes)?;
+    let (size, rest) = u64_up_to(rest, MOST_CONTENT)?;
+    let (content, rest) = id_at(rest)?;
+    let (copied, rest) = copied_at(alloc, version, parents, rest)?;
+    let set = Change::Set {
+        content: Id::from_bytes(content),
+        kind,
+        size,
+        copied,
+    };
+    Ok((set, rest))
+}
+
+fn change_at(
+    alloc: Global,
+    version: Version,
+    parents: u8,
+    bytes: &[u8],
+) -> Result<(Change, &[u8]), FieldFault>
+    ensures { Reads (λ x. (change_view x.0, x.1.now)) result (decoding.change (version_view version) parents bytes.now) }
+{
+    let (tag, rest) = u8_below(bytes, 2)?;
+    if tag == 0 {
+        return Ok((Change::Delete, rest));
+    }
+    set_at(alloc, version, parents, rest)
+}
+
 /// A path after the one before, with its change.
 pub(crate) fn edit_at<'a>(
     alloc: Global,
+    version: Version,
+    parents: u8,
     before: Option<&RepoPath>,
     bytes: &'a [u8],
 ) -> Result<(Edit, &'a [u8]), FieldFault>
-    ensures { Reads (λ x. (edit_view x.0, x.1.now)) result (decoding.edit (option_map (λ q. q.now) before.entry) bytes.now) }
+    ensures { Reads (λ x. (edit_view x.0, x.1.now)) result (decoding.edit (version_view version) parents (option_map (λ q. q.now) before.entry) bytes.now) }
 {
     let (path, rest) = path_at(alloc, before, bytes)?;
-    match change_at(rest) {
-        Ok((change, rest)) => Ok((Edit { path, change }, rest)),
-        Err(fault) => Err(fault.into()),
-    }
+    let (change, rest) = change_at(alloc, version, parents, rest)?;
+    Ok((Edit { path, change }, rest))
 }

@@ -6,7 +6,7 @@ use Rattle.std.specs.List.{list_all, concat, onto_first}
 use Rattle.std.specs.Option.{option_map_or}
 use Rattle.std.specs.Int.{Width, w8, w16, w32, w64, byte_len, from_be_bytes, to_be_bytes, cast_signed, cast_unsigned}
 use Rattle.std.specs.FinMap.{is_sorted}
-use Rattle.std.proofs.lemmas.Bool.{ltb-false, le-ltb, cases_lt, leb-true, ltb-true, lt-ltb, and_parts, and_from, eq-eqb, eqb-true}
+use Rattle.std.proofs.lemmas.Bool.{ltb-false, le-ltb, cases_lt, leb-true, ltb-true, lt-ltb, and_parts, and_from, eq-eqb, eqb-true, or_cases}
 use Rattle.std.proofs.lemmas.List.{append_assoc, append-nil, take-append-drop, length-take, get_or-drop, get_or-take, get_or_past}
 use Rattle.std.proofs.lemmas.Nat.{be_bytes_2, be_bytes_4, be_bytes_8}
 use Rattle.std.proofs.lemmas.Slice.Eq.{bytes_eq-Decides}
@@ -18,9 +18,10 @@ use Rattle.std.specs.FinMap.Entries.{below_all}
 use Rattle.byte_fields.proofs.FieldLemmas.{all_bytes}
 use Rattle.byte_fields.specs.Bytes.{IsBytes, Id, sized, is_bytes, is_line, is_text}
 use Rattle.changeset_model.specs.Path.{Path, text_of, elements, is_path, path_lt, path_cmp}
-use Rattle.changeset_model.specs.Changeset.{most_encoded, self_conflict, File, FileChange, Set, Delete, Changeset, kind_byte, file_bytes, change_bytes, edit_bytes, spelling, most_size, are_parents, is_author, is_message, is_signed, is_change, are_changes, is_changeset, Spells}
+use Rattle.changeset_model.specs.Version.{Version, First, Second, version_byte, is_version, version_of}
+use Rattle.changeset_model.specs.Changeset.{most_encoded, self_conflict, File, CopySource, FileChange, Set, Delete, Changeset, kind_byte, file_bytes, copied_bytes, is_copied, change_bytes, edit_bytes, spelling, most_size, are_parents, is_author, is_message, is_signed, is_change, are_changes, is_changeset, Spells}
 use Rattle.byte_fields.specs.Reading.{Reader, value, and_then, ◌>>=◌, field, keeping, number, bytes_of, exactly, with_len, signed, id, read, whole}
-use Rattle.changeset_model.specs.Decoding.{TooLong, without_conflict, in_order, decoded, parents, parent_list, author, message, kind_of, file, change_of, is_after, path, change, edit, edits, edit_list, changeset}
+use Rattle.changeset_model.specs.Decoding.{TooLong, without_conflict, in_order, decoded, parents, parent_list, author, message, kind_of, file, a_source, source_for, copied, change_of, is_after, path, change, edit, edits, edit_list, changeset}
 
 pub IsBytes-drop : (n : ℕ) (bytes : List ℕ) → IsBytes bytes → IsBytes (drop n bytes)
 IsBytes-drop n bytes h i = rw get_or-drop (h (n + i))
@@ -237,32 +238,6 @@ file_ok rule bytes f rest fits e =
     let spelled : Took bytes (file_bytes (a_file kind size content)) s3.0.1 = subst (λ k. Took bytes ((k ∷ []) ++ (to_be_bytes w64 size ++ (content ++ []))) s3.0.1) (sym (kind_byte-kind_of kind n1.keeps)) all in
     subst (λ f. FileRead rule bytes f rest) last.0 (record { took = subst (λ r. Took bytes (file_bytes (a_file kind size content)) r) last.1 spelled; size = n2.keeps; small = n2.below; content = n3.good })
 
--- ---- changes
-
-record ChangeRead (bytes : List ℕ) (c : FileChange) (rest : List ℕ) : Type 0 where
-  took : Took bytes (change_bytes c) rest
-  good : is_change c ≡ true
-
-change_by : (tag : ℕ) → nat_lt tag 2 ≡ true → (bytes mid : List ℕ) (c : FileChange) (rest : List ℕ) → Took bytes (tag ∷ []) mid → change_of tag mid ≡ Ok (c, rest) → ChangeRead bytes c rest
-change_by zero h bytes mid c rest took e =
-    let last = value_ok Delete c mid rest e in
-    subst (λ c. ChangeRead bytes c rest) last.0 (record { took = subst (λ r. Took bytes (0 ∷ []) r) last.1 took; good = refl })
-change_by (suc zero) h bytes mid c rest took e =
-    let s = bind_ok (file (λ size. nat_le size most_size) mid) (λ f. value (Set f)) (c, rest) e in
-    let f = file_ok (λ size. nat_le size most_size) mid s.0.0 s.0.1 took.left s.1 in
-    let last = value_ok (Set s.0.0) c s.0.1 rest s.2 in
-    subst (λ c. ChangeRead bytes c rest) last.0 (record {
-      took = subst (λ r. Took bytes (1 ∷ file_bytes s.0.0) r) last.1 (took_then bytes (1 ∷ []) mid (file_bytes s.0.0) s.0.1 took f.took);
-      good = and_from _ _ f.size f.content;
-    })
-change_by (suc (suc tag)) h bytes mid c rest took e = absurd (let lt = ltb-true (suc (suc tag)) 2 h in omega arith)
-
-change_ok : (bytes : List ℕ) (c : FileChange) (rest : List ℕ) → IsBytes bytes → change bytes ≡ Ok (c, rest) → ChangeRead bytes c rest
-change_ok bytes c rest fits e =
-    let s = bind_ok (number w8 (λ n. nat_lt n 2) bytes) change_of (c, rest) e in
-    let n = byte_ok (λ n. nat_lt n 2) bytes s.0.0 s.0.1 fits s.1 in
-    change_by s.0.0 n.keeps bytes s.0.1 c rest n.took s.2
-
 -- ---- paths
 
 slash_on : (e : List ℕ) (b : ℕ) (p : Path) → text_of (onto_first b (e ∷ p)) ≡ b ∷ text_of (e ∷ p)
@@ -313,6 +288,65 @@ path_ok before bytes p rest fits e =
       after = both.1;
     })
 
+-- ---- changes
+
+record CopiedRead (v : Version) (n : ℕ) (bytes : List ℕ) (s : Option CopySource) (rest : List ℕ) : Type 0 where
+  took : Took bytes (copied_bytes v s) rest
+  good : is_copied v n s ≡ true
+
+source_by : (n flag : ℕ) → nat_lt flag 2 ≡ true → (bytes mid : List ℕ) (s : Option CopySource) (rest : List ℕ) → Took bytes (flag ∷ []) mid → source_for n flag mid ≡ Ok (s, rest) → CopiedRead Second n bytes s rest
+source_by n zero h bytes mid s rest took e =
+    let last = value_ok None s mid rest e in
+    subst (λ s. CopiedRead Second n bytes s rest) last.0 (record { took = subst (λ r. Took bytes (0 ∷ []) r) last.1 took; good = refl })
+source_by n (suc zero) h bytes mid s rest took e =
+    let s1 = bind_ok (number w8 (λ m. nat_lt m n) mid) (λ parent. path None >>= λ p. value (Some (a_source parent p))) (s, rest) e in
+    let parent = s1.0.0 in
+    let n1 = byte_ok (λ m. nat_lt m n) mid parent s1.0.1 took.left s1.1 in
+    let s2 = bind_ok (path None s1.0.1) (λ p. value (Some (a_source parent p))) (s, rest) s1.2 in
+    let p = s2.0.0 in
+    let n2 = path_ok None s1.0.1 p s2.0.1 n1.took.left s2.1 in
+    let last = value_ok (Some (a_source parent p)) s s2.0.1 rest s2.2 in
+    subst (λ s. CopiedRead Second n bytes s rest) last.0 (record {
+      took = subst (λ r. Took bytes (1 ∷ parent ∷ sized w16 (text_of p)) r) last.1 (took_then bytes (1 ∷ []) mid ((parent ∷ []) ++ sized w16 (text_of p)) s2.0.1 took (took_then mid (parent ∷ []) s1.0.1 (sized w16 (text_of p)) s2.0.1 n1.took n2.took));
+      good = and_from _ _ n1.keeps n2.good;
+    })
+source_by n (suc (suc flag)) h bytes mid s rest took e = absurd (let lt = ltb-true (suc (suc flag)) 2 h in omega arith)
+
+copied_ok : (v : Version) (n : ℕ) (bytes : List ℕ) (s : Option CopySource) (rest : List ℕ) → IsBytes bytes → copied v n bytes ≡ Ok (s, rest) → CopiedRead v n bytes s rest
+copied_ok First n bytes s rest fits e =
+    let last = value_ok None s bytes rest e in
+    subst (λ s. CopiedRead First n bytes s rest) last.0 (record { took = subst (λ r. Took bytes [] r) last.1 (took_end bytes fits); good = refl })
+copied_ok Second n bytes s rest fits e =
+    let s1 = bind_ok (number w8 (λ n. nat_lt n 2) bytes) (source_for n) (s, rest) e in
+    let n1 = byte_ok (λ n. nat_lt n 2) bytes s1.0.0 s1.0.1 fits s1.1 in
+    source_by n s1.0.0 n1.keeps bytes s1.0.1 s rest n1.took s1.2
+
+record ChangeRead (v : Version) (n : ℕ) (bytes : List ℕ) (c : FileChange) (rest : List ℕ) : Type 0 where
+  took : Took bytes (change_bytes v c) rest
+  good : is_change v n c ≡ true
+
+change_by : (v : Version) (n tag : ℕ) → nat_lt tag 2 ≡ true → (bytes mid : List ℕ) (c : FileChange) (rest : List ℕ) → Took bytes (tag ∷ []) mid → change_of v n tag mid ≡ Ok (c, rest) → ChangeRead v n bytes c rest
+change_by v n zero h bytes mid c rest took e =
+    let last = value_ok Delete c mid rest e in
+    subst (λ c. ChangeRead v n bytes c rest) last.0 (record { took = subst (λ r. Took bytes (0 ∷ []) r) last.1 took; good = refl })
+change_by v n (suc zero) h bytes mid c rest took e =
+    let s = bind_ok (file (λ size. nat_le size most_size) mid) (λ f. copied v n >>= λ s. value (Set f s)) (c, rest) e in
+    let f = file_ok (λ size. nat_le size most_size) mid s.0.0 s.0.1 took.left s.1 in
+    let t = bind_ok (copied v n s.0.1) (λ source. value (Set s.0.0 source)) (c, rest) s.2 in
+    let from = copied_ok v n s.0.1 t.0.0 t.0.1 f.took.left t.1 in
+    let last = value_ok (Set s.0.0 t.0.0) c t.0.1 rest t.2 in
+    subst (λ c. ChangeRead v n bytes c rest) last.0 (record {
+      took = subst (λ r. Took bytes (1 ∷ (file_bytes s.0.0 ++ copied_bytes v t.0.0)) r) last.1 (took_then bytes (1 ∷ []) mid (file_bytes s.0.0 ++ copied_bytes v t.0.0) t.0.1 took (took_then mid (file_bytes s.0.0) s.0.1 (copied_bytes v t.0.0) t.0.1 f.took from.took));
+      good = and_from _ _ (and_from _ _ f.size f.content) from.good;
+    })
+change_by v n (suc (suc tag)) h bytes mid c rest took e = absurd (let lt = ltb-true (suc (suc tag)) 2 h in omega arith)
+
+change_ok : (v : Version) (n : ℕ) (bytes : List ℕ) (c : FileChange) (rest : List ℕ) → IsBytes bytes → change v n bytes ≡ Ok (c, rest) → ChangeRead v n bytes c rest
+change_ok v n bytes c rest fits e =
+    let s = bind_ok (number w8 (λ n. nat_lt n 2) bytes) (change_of v n) (c, rest) e in
+    let b = byte_ok (λ n. nat_lt n 2) bytes s.0.0 s.0.1 fits s.1 in
+    change_by v n s.0.0 b.keeps bytes s.0.1 c rest b.took s.2
+
 -- ---- lists of changes
 
 pub below_later : (x y : Path) (es : List (Path × FileChange)) → path_lt x y ≡ true → below_all path_cmp y es ≡ true → below_all path_cmp x es ≡ true
@@ -326,60 +360,60 @@ below_first x [] h sorted = refl
 below_first x (e ∷ es) h sorted =
     and_from _ _ h (below_later x e.0 es h (and_parts (below_all path_cmp e.0 es) (is_sorted path_cmp es) sorted).0)
 
-record EditRead (before : Option Path) (bytes : List ℕ) (e : Path × FileChange) (rest : List ℕ) : Type 0 where
-  took : Took bytes (edit_bytes e) rest
-  good : (is_path e.0 && is_change e.1) ≡ true
+record EditRead (v : Version) (n : ℕ) (before : Option Path) (bytes : List ℕ) (e : Path × FileChange) (rest : List ℕ) : Type 0 where
+  took : Took bytes (edit_bytes v e) rest
+  good : (is_path e.0 && is_change v n e.1) ≡ true
   after : is_after before e.0 ≡ true
 
-edit_ok : (before : Option Path) (bytes : List ℕ) (e : Path × FileChange) (rest : List ℕ) → IsBytes bytes → edit before bytes ≡ Ok (e, rest) → EditRead before bytes e rest
-edit_ok before bytes e rest fits eq =
-    let s1 = bind_ok (path before bytes) (λ p. change >>= λ c. value (p, c)) (e, rest) eq in
+edit_ok : (v : Version) (n : ℕ) (before : Option Path) (bytes : List ℕ) (e : Path × FileChange) (rest : List ℕ) → IsBytes bytes → edit v n before bytes ≡ Ok (e, rest) → EditRead v n before bytes e rest
+edit_ok v n before bytes e rest fits eq =
+    let s1 = bind_ok (path before bytes) (λ p. change v n >>= λ c. value (p, c)) (e, rest) eq in
     let p = s1.0.0 in
     let n1 = path_ok before bytes p s1.0.1 fits s1.1 in
-    let s2 = bind_ok (change s1.0.1) (λ c. value (p, c)) (e, rest) s1.2 in
+    let s2 = bind_ok (change v n s1.0.1) (λ c. value (p, c)) (e, rest) s1.2 in
     let c = s2.0.0 in
-    let n2 = change_ok s1.0.1 c s2.0.1 n1.took.left s2.1 in
+    let n2 = change_ok v n s1.0.1 c s2.0.1 n1.took.left s2.1 in
     let last = value_ok {A = Path × FileChange} (p, c) e s2.0.1 rest s2.2 in
-    subst (λ e. EditRead before bytes e rest) last.0 (record {
-      took = subst (λ r. Took bytes (edit_bytes (p, c)) r) last.1 (took_then bytes (sized w16 (text_of p)) s1.0.1 (change_bytes c) s2.0.1 n1.took n2.took);
+    subst (λ e. EditRead v n before bytes e rest) last.0 (record {
+      took = subst (λ r. Took bytes (edit_bytes v (p, c)) r) last.1 (took_then bytes (sized w16 (text_of p)) s1.0.1 (change_bytes v c) s2.0.1 n1.took n2.took);
       good = and_from _ _ n1.good n2.good;
       after = n1.after;
     })
 
-record EditsRead (n : ℕ) (before : Option Path) (bytes : List ℕ) (es : List (Path × FileChange)) (rest : List ℕ) : Type 0 where
-  took : Took bytes (flat_map edit_bytes es) rest
+record EditsRead (v : Version) (ps n : ℕ) (before : Option Path) (bytes : List ℕ) (es : List (Path × FileChange)) (rest : List ℕ) : Type 0 where
+  took : Took bytes (flat_map (edit_bytes v) es) rest
   len : length es ≡ n
-  each : list_all (λ e. is_path e.0 && is_change e.1) es ≡ true
+  each : list_all (λ e. is_path e.0 && is_change v ps e.1) es ≡ true
   sorted : is_sorted path_cmp es ≡ true
   first : starts_after before es ≡ true
 
-edits_ok : (n : ℕ) (before : Option Path) (bytes : List ℕ) (es : List (Path × FileChange)) (rest : List ℕ) → IsBytes bytes → edits n before bytes ≡ Ok (es, rest) → EditsRead n before bytes es rest
-edits_ok zero before bytes es rest fits eq =
+edits_ok : (v : Version) (ps n : ℕ) (before : Option Path) (bytes : List ℕ) (es : List (Path × FileChange)) (rest : List ℕ) → IsBytes bytes → edits v ps n before bytes ≡ Ok (es, rest) → EditsRead v ps n before bytes es rest
+edits_ok v ps zero before bytes es rest fits eq =
     let last = value_ok [] es bytes rest eq in
-    subst (λ es. EditsRead 0 before bytes es rest) last.0 (record { took = subst (λ r. Took bytes [] r) last.1 (took_end bytes fits); len = refl; each = refl; sorted = refl; first = refl })
-edits_ok (suc n) before bytes es rest fits eq =
-    let s1 = bind_ok (edit before bytes) (λ e. edits n (Some e.0) >>= λ es. value (e ∷ es)) (es, rest) eq in
+    subst (λ es. EditsRead v ps 0 before bytes es rest) last.0 (record { took = subst (λ r. Took bytes [] r) last.1 (took_end bytes fits); len = refl; each = refl; sorted = refl; first = refl })
+edits_ok v ps (suc n) before bytes es rest fits eq =
+    let s1 = bind_ok (edit v ps before bytes) (λ e. edits v ps n (Some e.0) >>= λ es. value (e ∷ es)) (es, rest) eq in
     let e = s1.0.0 in
-    let n1 = edit_ok before bytes e s1.0.1 fits s1.1 in
-    let s2 = bind_ok (edits n (Some e.0) s1.0.1) (λ es. value (e ∷ es)) (es, rest) s1.2 in
+    let n1 = edit_ok v ps before bytes e s1.0.1 fits s1.1 in
+    let s2 = bind_ok (edits v ps n (Some e.0) s1.0.1) (λ es. value (e ∷ es)) (es, rest) s1.2 in
     let later = s2.0.0 in
-    let n2 = edits_ok n (Some e.0) s1.0.1 later s2.0.1 n1.took.left s2.1 in
+    let n2 = edits_ok v ps n (Some e.0) s1.0.1 later s2.0.1 n1.took.left s2.1 in
     let last = value_ok (e ∷ later) es s2.0.1 rest s2.2 in
-    subst (λ es. EditsRead (suc n) before bytes es rest) last.0 (record {
-      took = subst (λ r. Took bytes (edit_bytes e ++ flat_map edit_bytes later) r) last.1 (took_then bytes (edit_bytes e) s1.0.1 (flat_map edit_bytes later) s2.0.1 n1.took n2.took);
+    subst (λ es. EditsRead v ps (suc n) before bytes es rest) last.0 (record {
+      took = subst (λ r. Took bytes (edit_bytes v e ++ flat_map (edit_bytes v) later) r) last.1 (took_then bytes (edit_bytes v e) s1.0.1 (flat_map (edit_bytes v) later) s2.0.1 n1.took n2.took);
       len = ap suc n2.len;
       each = and_from _ _ n1.good n2.each;
       sorted = and_from _ _ (below_first e.0 later n2.first n2.sorted) n2.sorted;
       first = n1.after;
     })
 
-edit_list_ok : (bytes : List ℕ) (es : List (Path × FileChange)) (rest : List ℕ) → IsBytes bytes → edit_list bytes ≡ Ok (es, rest) → Took bytes (to_be_bytes w32 (length es) ++ flat_map edit_bytes es) rest × (are_changes es ≡ true)
-edit_list_ok bytes es rest fits eq =
-    let s = bind_ok (number w32 (λ n. nat_le n 4096) bytes) (λ count. edits count None) (es, rest) eq in
+edit_list_ok : (v : Version) (ps : ℕ) (bytes : List ℕ) (es : List (Path × FileChange)) (rest : List ℕ) → IsBytes bytes → edit_list v ps bytes ≡ Ok (es, rest) → Took bytes (to_be_bytes w32 (length es) ++ flat_map (edit_bytes v) es) rest × (are_changes v ps es ≡ true)
+edit_list_ok v ps bytes es rest fits eq =
+    let s = bind_ok (number w32 (λ n. nat_le n 4096) bytes) (λ count. edits v ps count None) (es, rest) eq in
     let count = s.0.0 in
     let n = number_ok w32 (2 ^ 32) wide32 (λ n. nat_le n 4096) bytes count s.0.1 fits s.1 in
-    let r = edits_ok count None s.0.1 es rest n.took.left s.2 in (
-      took_then bytes (to_be_bytes w32 (length es)) s.0.1 (flat_map edit_bytes es) rest (subst (λ m. Took bytes (to_be_bytes w32 m) s.0.1) (sym r.len) n.took) r.took,
+    let r = edits_ok v ps count None s.0.1 es rest n.took.left s.2 in (
+      took_then bytes (to_be_bytes w32 (length es)) s.0.1 (flat_map (edit_bytes v) es) rest (subst (λ m. Took bytes (to_be_bytes w32 m) s.0.1) (sym r.len) n.took) r.took,
       and_from _ _ (and_from _ _ (subst (λ m. nat_le m 4096 ≡ true) (sym r.len) n.keeps) r.each) r.sorted,
     )
 
@@ -440,41 +474,44 @@ message_ok bytes text rest fits e =
 
 -- ---- a changeset
 
-record MessageRead (ps : List Id) (a : List ℕ) (s o : ℤ) (bytes : List ℕ) (c : Changeset) (rest : List ℕ) : Type 0 where
+record MessageRead (v : Version) (ps : List Id) (a : List ℕ) (s o : ℤ) (bytes : List ℕ) (c : Changeset) (rest : List ℕ) : Type 0 where
   took : Took bytes (from_message_bytes c) rest
-  first : c ≡ put_together ps a s o c.message c.changes
+  first : c ≡ put_together v ps a s o c.message c.changes
   good_message : is_message c.message ≡ true
-  good_changes : are_changes c.changes ≡ true
+  good_changes : are_changes v (length ps) c.changes ≡ true
 
-from_message_by : (ps : List Id) (a : List ℕ) (s o : ℤ) (b0 b1 b2 : List ℕ) (m : List ℕ) (es : List (Path × FileChange)) (c : Changeset) (rest : List ℕ) → Took b0 (sized w32 m) b1 × (is_message m ≡ true) → Took b1 (to_be_bytes w32 (length es) ++ flat_map edit_bytes es) b2 × (are_changes es ≡ true) → put_together ps a s o m es ≡ c → b2 ≡ rest → MessageRead ps a s o b0 c rest
-from_message_by ps a s o b0 b1 b2 m es c rest t1 t2 e r =
-    let end = took_then b1 (to_be_bytes w32 (length es) ++ flat_map edit_bytes es) b2 [] b2 t2.0 (took_end b2 t2.0.left) in
-    let all = took_then b0 (sized w32 m) b1 (to_be_bytes w32 (length es) ++ (flat_map edit_bytes es ++ [])) b2 t1.0 end in
-    subst (λ c. MessageRead ps a s o b0 c rest) e (record {
-      took = subst (λ r. Took b0 (sized w32 m ++ (to_be_bytes w32 (length es) ++ (flat_map edit_bytes es ++ []))) r) r all;
+from_message_by : (v : Version) (ps : List Id) (a : List ℕ) (s o : ℤ) (b0 b1 b2 : List ℕ) (m : List ℕ) (es : List (Path × FileChange)) (c : Changeset) (rest : List ℕ) → Took b0 (sized w32 m) b1 × (is_message m ≡ true) → Took b1 (to_be_bytes w32 (length es) ++ flat_map (edit_bytes v) es) b2 × (are_changes v (length ps) es ≡ true) → put_together v ps a s o m es ≡ c → b2 ≡ rest → MessageRead v ps a s o b0 c rest
+from_message_by v ps a s o b0 b1 b2 m es c rest t1 t2 e r =
+    let end = took_then b1 (to_be_bytes w32 (length es) ++ flat_map (edit_bytes v) es) b2 [] b2 t2.0 (took_end b2 t2.0.left) in
+    let all = took_then b0 (sized w32 m) b1 (to_be_bytes w32 (length es) ++ (flat_map (edit_bytes v) es ++ [])) b2 t1.0 end in
+    subst (λ c. MessageRead v ps a s o b0 c rest) e (record {
+      took = subst (λ r. Took b0 (sized w32 m ++ (to_be_bytes w32 (length es) ++ (flat_map (edit_bytes v) es ++ []))) r) r all;
       first = refl;
       good_message = t1.1;
       good_changes = t2.1;
     })
 
-from_message_ok : (ps : List Id) (a : List ℕ) (s o : ℤ) (bytes : List ℕ) (c : Changeset) (rest : List ℕ) → IsBytes bytes → from_message ps a s o bytes ≡ Ok (c, rest) → MessageRead ps a s o bytes c rest
-from_message_ok ps a s o bytes c rest fits eq =
-    let s1 = bind_ok (message bytes) (λ m. edit_list >>= λ es. value (put_together ps a s o m es)) (c, rest) eq in
+from_message_ok : (v : Version) (ps : List Id) (a : List ℕ) (s o : ℤ) (bytes : List ℕ) (c : Changeset) (rest : List ℕ) → IsBytes bytes → from_message v ps a s o bytes ≡ Ok (c, rest) → MessageRead v ps a s o bytes c rest
+from_message_ok v ps a s o bytes c rest fits eq =
+    let s1 = bind_ok (message bytes) (λ m. edit_list v (length ps) >>= λ es. value (put_together v ps a s o m es)) (c, rest) eq in
     let m = s1.0.0 in
     let t1 = message_ok bytes m s1.0.1 fits s1.1 in
-    let s2 = bind_ok (edit_list s1.0.1) (λ es. value (put_together ps a s o m es)) (c, rest) s1.2 in
+    let s2 = bind_ok (edit_list v (length ps) s1.0.1) (λ es. value (put_together v ps a s o m es)) (c, rest) s1.2 in
     let es = s2.0.0 in
-    let t2 = edit_list_ok s1.0.1 es s2.0.1 t1.0.left s2.1 in
-    let last = value_ok (put_together ps a s o m es) c s2.0.1 rest s2.2 in
-    from_message_by ps a s o bytes s1.0.1 s2.0.1 m es c rest t1 t2 last.0 last.1
+    let t2 = edit_list_ok v (length ps) s1.0.1 es s2.0.1 t1.0.left s2.1 in
+    let last = value_ok (put_together v ps a s o m es) c s2.0.1 rest s2.2 in
+    from_message_by v ps a s o bytes s1.0.1 s2.0.1 m es c rest t1 t2 last.0 last.1
 
-record AuthorRead (ps : List Id) (bytes : List ℕ) (c : Changeset) (rest : List ℕ) : Type 0 where
+record AuthorRead (v : Version) (ps : List Id) (bytes : List ℕ) (c : Changeset) (rest : List ℕ) : Type 0 where
   took : Took bytes (from_author_bytes c) rest
+  same_version : c.version ≡ v
   same_parents : c.parents ≡ ps
-  good : (is_author c.author && is_signed 64 c.seconds && is_signed 32 c.offset && is_message c.message && are_changes c.changes) ≡ true
+  good : (is_author c.author && is_signed 64 c.seconds && is_signed 32 c.offset && is_message c.message && are_changes c.version (length c.parents) c.changes) ≡ true
 
-from_author_by : (ps : List Id) (b0 b1 b2 b3 : List ℕ) (a : List ℕ) (s o : ℤ) (c : Changeset) (rest : List ℕ) → Took b0 (sized w16 a) b1 × (is_author a ≡ true) → Took b1 (to_be_bytes w64 (cast_unsigned w64 s)) b2 × (is_signed 64 s ≡ true) → Took b2 (to_be_bytes w32 (cast_unsigned w32 o)) b3 × (is_signed 32 o ≡ true) → MessageRead ps a s o b3 c rest → AuthorRead ps b0 c rest
-from_author_by ps b0 b1 b2 b3 a s o c rest t1 t2 t3 m =
+from_author_by : (v : Version) (ps : List Id) (b0 b1 b2 b3 : List ℕ) (a : List ℕ) (s o : ℤ) (c : Changeset) (rest : List ℕ) → Took b0 (sized w16 a) b1 × (is_author a ≡ true) → Took b1 (to_be_bytes w64 (cast_unsigned w64 s)) b2 × (is_signed 64 s ≡ true) → Took b2 (to_be_bytes w32 (cast_unsigned w32 o)) b3 × (is_signed 32 o ≡ true) → MessageRead v ps a s o b3 c rest → AuthorRead v ps b0 c rest
+from_author_by v ps b0 b1 b2 b3 a s o c rest t1 t2 t3 m =
+    let v-is : c.version ≡ v = ap (λ (c : Changeset). c.version) m.first in
+    let ps-is : c.parents ≡ ps = ap (λ (c : Changeset). c.parents) m.first in
     let a-is : a ≡ c.author = ap (λ (c : Changeset). c.author) (sym m.first) in
     let s-is : s ≡ c.seconds = ap (λ (c : Changeset). c.seconds) (sym m.first) in
     let o-is : o ≡ c.offset = ap (λ (c : Changeset). c.offset) (sym m.first) in
@@ -482,19 +519,27 @@ from_author_by ps b0 b1 b2 b3 a s o c rest t1 t2 t3 m =
       took = took_then b0 (sized w16 c.author) b1 (to_be_bytes w64 (cast_unsigned w64 c.seconds) ++ (to_be_bytes w32 (cast_unsigned w32 c.offset) ++ from_message_bytes c)) rest (subst (λ a. Took b0 (sized w16 a) b1) a-is t1.0)
           (took_then b1 (to_be_bytes w64 (cast_unsigned w64 c.seconds)) b2 (to_be_bytes w32 (cast_unsigned w32 c.offset) ++ from_message_bytes c) rest (subst (λ s. Took b1 (to_be_bytes w64 (cast_unsigned w64 s)) b2) s-is t2.0)
           (took_then b2 (to_be_bytes w32 (cast_unsigned w32 c.offset)) b3 (from_message_bytes c) rest (subst (λ o. Took b2 (to_be_bytes w32 (cast_unsigned w32 o)) b3) o-is t3.0) m.took));
-      same_parents = ap (λ (c : Changeset). c.parents) m.first;
-      good = and_from _ _ (and_from _ _ (and_from _ _ (and_from _ _ (subst (λ a. is_author a ≡ true) a-is t1.1) (subst (λ s. is_signed 64 s ≡ true) s-is t2.1)) (subst (λ o. is_signed 32 o ≡ true) o-is t3.1)) m.good_message) m.good_changes;
+      same_version = v-is;
+      same_parents = ps-is;
+      good = and_from _ _ (and_from _ _ (and_from _ _ (and_from _ _ (subst (λ a. is_author a ≡ true) a-is t1.1) (subst (λ s. is_signed 64 s ≡ true) s-is t2.1)) (subst (λ o. is_signed 32 o ≡ true) o-is t3.1)) m.good_message) (subst (λ v. are_changes v (length c.parents) c.changes ≡ true) (sym v-is) (subst (λ ps. are_changes v (length ps) c.changes ≡ true) (sym ps-is) m.good_changes));
     }
 
-from_author_ok : (ps : List Id) (bytes : List ℕ) (c : Changeset) (rest : List ℕ) → IsBytes bytes → from_author ps bytes ≡ Ok (c, rest) → AuthorRead ps bytes c rest
-from_author_ok ps bytes c rest fits eq =
-    let s1 = bind_ok (author bytes) (λ a. signed w64 >>= λ s. signed w32 >>= λ o. from_message ps a s o) (c, rest) eq in
+from_author_ok : (v : Version) (ps : List Id) (bytes : List ℕ) (c : Changeset) (rest : List ℕ) → IsBytes bytes → from_author v ps bytes ≡ Ok (c, rest) → AuthorRead v ps bytes c rest
+from_author_ok v ps bytes c rest fits eq =
+    let s1 = bind_ok (author bytes) (λ a. signed w64 >>= λ s. signed w32 >>= λ o. from_message v ps a s o) (c, rest) eq in
     let t1 = author_ok bytes s1.0.0 s1.0.1 fits s1.1 in
-    let s2 = bind_ok (signed w64 s1.0.1) (λ s. signed w32 >>= λ o. from_message ps s1.0.0 s o) (c, rest) s1.2 in
+    let s2 = bind_ok (signed w64 s1.0.1) (λ s. signed w32 >>= λ o. from_message v ps s1.0.0 s o) (c, rest) s1.2 in
     let t2 = signed_64_ok s1.0.1 s2.0.0 s2.0.1 t1.0.left s2.1 in
-    let s3 = bind_ok (signed w32 s2.0.1) (λ o. from_message ps s1.0.0 s2.0.0 o) (c, rest) s2.2 in
+    let s3 = bind_ok (signed w32 s2.0.1) (λ o. from_message v ps s1.0.0 s2.0.0 o) (c, rest) s2.2 in
     let t3 = signed_32_ok s2.0.1 s3.0.0 s3.0.1 t2.0.left s3.1 in
-    from_author_by ps bytes s1.0.1 s2.0.1 s3.0.1 s1.0.0 s2.0.0 s3.0.0 c rest t1 t2 t3 (from_message_ok ps s1.0.0 s2.0.0 s3.0.0 s3.0.1 c rest t3.0.left s3.2)
+    from_author_by v ps bytes s1.0.1 s2.0.1 s3.0.1 s1.0.0 s2.0.0 s3.0.0 c rest t1 t2 t3 (from_message_ok v ps s1.0.0 s2.0.0 s3.0.0 s3.0.1 c rest t3.0.left s3.2)
+
+version_byte-version_of : (n : ℕ) → is_version n ≡ true → version_byte (version_of n) ≡ n
+version_byte-version_of n h =
+    elim (or_cases (n == 1) (n == 2) h) [
+      | inl one ↦ let e = eqb-true n 1 one in subst (λ n. version_byte (version_of n) ≡ n) (sym e) refl
+      | inr two ↦ let e = eqb-true n 2 two in subst (λ n. version_byte (version_of n) ≡ n) (sym e) refl
+    ]
 
 record ChangesetRead (bytes : List ℕ) (c : Changeset) (rest : List ℕ) : Type 0 where
   took : Took bytes (spelling c) rest
@@ -503,24 +548,24 @@ record ChangesetRead (bytes : List ℕ) (c : Changeset) (rest : List ℕ) : Type
 with_parents : (p a s o m e : Bool) → p ≡ true → (a && s && o && m && e) ≡ true → (p && a && s && o && m && e) ≡ true
 with_parents p a s o m e h g = (λ i. h i && a && s && o && m && e) ∙ g
 
-changeset_by : (b0 b1 b2 b3 : List ℕ) (ps : List Id) (c : Changeset) (rest : List ℕ) → Took b0 (0x43 ∷ []) b1 → Took b1 (1 ∷ []) b2 → Took b2 ((length ps ∷ []) ++ concat ps) b3 × (are_parents ps ≡ true) → AuthorRead ps b3 c rest → ChangesetRead b0 c rest
-changeset_by b0 b1 b2 b3 ps c rest t1 t2 t3 a =
+changeset_by : (b0 b1 b2 b3 : List ℕ) (n : ℕ) → is_version n ≡ true → (ps : List Id) (c : Changeset) (rest : List ℕ) → Took b0 (0x43 ∷ []) b1 → Took b1 (n ∷ []) b2 → Took b2 ((length ps ∷ []) ++ concat ps) b3 × (are_parents ps ≡ true) → AuthorRead (version_of n) ps b3 c rest → ChangesetRead b0 c rest
+changeset_by b0 b1 b2 b3 n known ps c rest t1 t2 t3 a =
     record {
-      took = took_then b0 (0x43 ∷ []) b1 ((1 ∷ []) ++ (((length c.parents ∷ []) ++ concat c.parents) ++ from_author_bytes c)) rest t1
-          (took_then b1 (1 ∷ []) b2 (((length c.parents ∷ []) ++ concat c.parents) ++ from_author_bytes c) rest t2
+      took = took_then b0 (0x43 ∷ []) b1 ((version_byte c.version ∷ []) ++ (((length c.parents ∷ []) ++ concat c.parents) ++ from_author_bytes c)) rest t1
+          (took_then b1 (version_byte c.version ∷ []) b2 (((length c.parents ∷ []) ++ concat c.parents) ++ from_author_bytes c) rest (subst (λ m. Took b1 (m ∷ []) b2) (sym (version_byte-version_of n known) ∙ ap version_byte (sym a.same_version)) t2)
           (took_then b2 ((length c.parents ∷ []) ++ concat c.parents) b3 (from_author_bytes c) rest (subst (λ ps. Took b2 ((length ps ∷ []) ++ concat ps) b3) (sym a.same_parents) t3.0) a.took));
-      good = with_parents (are_parents c.parents) (is_author c.author) (is_signed 64 c.seconds) (is_signed 32 c.offset) (is_message c.message) (are_changes c.changes) (subst (λ ps. are_parents ps ≡ true) (sym a.same_parents) t3.1) a.good;
+      good = with_parents (are_parents c.parents) (is_author c.author) (is_signed 64 c.seconds) (is_signed 32 c.offset) (is_message c.message) (are_changes c.version (length c.parents) c.changes) (subst (λ ps. are_parents ps ≡ true) (sym a.same_parents) t3.1) a.good;
     }
 
 changeset_ok : (bytes : List ℕ) (c : Changeset) (rest : List ℕ) → IsBytes bytes → changeset bytes ≡ Ok (c, rest) → ChangesetRead bytes c rest
 changeset_ok bytes c rest fits eq =
-    let s1 = bind_ok (exactly (0x43 ∷ []) bytes) (λ _. exactly (1 ∷ []) >>= λ _. parent_list >>= from_author) (c, rest) eq in
+    let s1 = bind_ok (exactly (0x43 ∷ []) bytes) (λ _. number w8 is_version >>= λ v. parent_list >>= from_author (version_of v)) (c, rest) eq in
     let t1 = exactly_ok (0x43 ∷ []) bytes s1.0.0 s1.0.1 fits s1.1 in
-    let s2 = bind_ok (exactly (1 ∷ []) s1.0.1) (λ _. parent_list >>= from_author) (c, rest) s1.2 in
-    let t2 = exactly_ok (1 ∷ []) s1.0.1 s2.0.0 s2.0.1 t1.left s2.1 in
-    let s3 = bind_ok (parent_list s2.0.1) from_author (c, rest) s2.2 in
-    let t3 = parent_list_ok s2.0.1 s3.0.0 s3.0.1 t2.left s3.1 in
-    changeset_by bytes s1.0.1 s2.0.1 s3.0.1 s3.0.0 c rest t1 t2 t3 (from_author_ok s3.0.0 s3.0.1 c rest t3.0.left s3.2)
+    let s2 = bind_ok (number w8 is_version s1.0.1) (λ v. parent_list >>= from_author (version_of v)) (c, rest) s1.2 in
+    let t2 = byte_ok is_version s1.0.1 s2.0.0 s2.0.1 t1.left s2.1 in
+    let s3 = bind_ok (parent_list s2.0.1) (from_author (version_of s2.0.0)) (c, rest) s2.2 in
+    let t3 = parent_list_ok s2.0.1 s3.0.0 s3.0.1 t2.took.left s3.1 in
+    changeset_by bytes s1.0.1 s2.0.1 s3.0.1 s2.0.0 t2.keeps s3.0.0 c rest t1 t2.took t3 (from_author_ok (version_of s2.0.0) s3.0.0 s3.0.1 c rest t3.0.left s3.2)
 
 pub whole_ok : {A : Type 0} (n : ℕ) (o : Result (A × List ℕ) ℕ) (x : A) → whole n o ≡ Ok x → o ≡ Ok (x, [])
 whole_ok n (Ok (x, [])) y e = ap (λ x. Ok (x, [])) (ok_is x y e)

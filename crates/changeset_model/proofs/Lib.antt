@@ -3,3 +3,4 @@ pub mod Rising
 pub mod Texts
 pub mod Spelling
 pub mod Accepting
+pub mod Places

@@ -1,5 +1,5 @@
 -- What is spelled is read again, whatever follows it.
-use Rattle.std.proofs.Common.{◌≡◌, ℕ, ◌^◌, ◌<◌, ◌≤◌, Bool, true, false, cond, not, ◌&&◌, List, [], ◌∷◌, ◌++◌, length, refl, sym, ap, ◌∙◌, arith, ℤ, pos, negsuc, SFits, length-append}
+use Rattle.std.proofs.Common.{◌≡◌, ℕ, ◌^◌, ◌<◌, ◌≤◌, Bool, true, false, cond, not, ◌&&◌, List, [], ◌∷◌, ◌++◌, length, refl, sym, ap, subst, ◌∙◌, arith, ℤ, pos, negsuc, SFits, length-append}
 use Rattle.std.specs.Prelude.{Option, Some, None, Result, Ok, Err, nat_le, nat_lt, ◌==◌, bytes_eq, flat_map}
 use Rattle.std.specs.List.{list_all, concat, onto_first}
 use Rattle.std.specs.Int.{w8, w16, w32, w64, from_be_bytes, to_be_bytes, cast_signed, cast_unsigned}
@@ -13,9 +13,10 @@ use Rattle.std.proofs.Math.Facts.{Fits-of_z}
 use Rattle.std.proofs.lemmas.Nat.{from_be_bytes-to_be_bytes_4, from_be_bytes-to_be_bytes_8}
 use Rattle.byte_fields.specs.Bytes.{Id, sized, is_bytes, is_line, is_text}
 use Rattle.changeset_model.specs.Path.{Path, text_of, elements, is_element, is_path, path_lt, path_cmp}
-use Rattle.changeset_model.specs.Changeset.{Kind, Regular, Executable, Symlink, File, FileChange, Set, Delete, Changeset, kind_byte, file_bytes, change_bytes, edit_bytes, spelling, most_size, are_parents, is_author, is_message, is_signed, is_change, are_changes, is_changeset}
+use Rattle.changeset_model.specs.Version.{Version, First, Second, version_byte, is_version, version_of}
+use Rattle.changeset_model.specs.Changeset.{Kind, Regular, Executable, Symlink, File, CopySource, FileChange, Set, Delete, Changeset, kind_byte, file_bytes, source_bytes, copied_bytes, is_copied, change_bytes, edit_bytes, spelling, most_size, are_parents, is_author, is_message, is_signed, is_change, are_changes, is_changeset}
 use Rattle.byte_fields.specs.Reading.{Reader, value, ◌>>=◌, keeping, number, bytes_of, exactly, signed, id, read, whole}
-use Rattle.changeset_model.specs.Decoding.{parents, parent_list, author, message, kind_of, file, change_of, is_after, path, change, edit, edits, edit_list, changeset}
+use Rattle.changeset_model.specs.Decoding.{parents, parent_list, author, message, kind_of, file, a_source, source_for, source, copied, change_of, is_after, path, change, edit, edits, edit_list, changeset}
 use Rattle.byte_fields.proofs.FieldLemmas.{Reads, reads_then, reads_last, reads_field, keeps, reads_number, reads_with_len, spelled_8, spelled_16, spelled_32, spelled_64}
 
 -- ---- paths as texts
@@ -161,15 +162,35 @@ reads_path before p h a =
     (and_from _ _ (some_text p h) len)
     (ap (keeping (λ p. is_path p && is_after before p)) (path_text p h) ∙ keeps (λ p. is_path p && is_after before p) p (and_from _ _ h a))
 
-reads_change : (c : FileChange) → is_change c ≡ true → Reads change (change_bytes c) c
-reads_change Delete h =
-    reads_then (number w8 (λ n. nat_lt n 2)) change_of (0 ∷ []) [] 0 Delete
+reads_source : (n : ℕ) (s : Option CopySource) → is_copied Second n s ≡ true → Reads (source n) (source_bytes s) s
+reads_source n None h =
+    reads_then (number w8 (λ n. nat_lt n 2)) (source_for n) (0 ∷ []) [] 0 None
     (reads_number w8 (λ n. nat_lt n 2) (0 ∷ []) 0 (spelled_8 0) refl) (λ rest. refl)
-reads_change (Set f) h =
-    let both = and_parts (nat_le f.size most_size) (is_bytes 32 f.content) h in
-    reads_then (number w8 (λ n. nat_lt n 2)) change_of (1 ∷ []) (file_bytes f) 1 (Set f)
+reads_source n (Some s) h =
+    let both = and_parts (nat_lt s.parent n) (is_path s.path) h in
+    reads_then (number w8 (λ n. nat_lt n 2)) (source_for n) (1 ∷ []) ((s.parent ∷ []) ++ sized w16 (text_of s.path)) 1 (Some s)
     (reads_number w8 (λ n. nat_lt n 2) (1 ∷ []) 1 (spelled_8 1) refl)
-    (reads_last (file (λ size. nat_le size most_size)) Set (file_bytes f) f (reads_file (λ size. nat_le size most_size) f (small_64 f.size both.0) both.0 both.1))
+    (reads_then (number w8 (λ m. nat_lt m n)) (λ parent. path None >>= λ p. value (Some (a_source parent p))) (s.parent ∷ []) (sized w16 (text_of s.path)) s.parent (Some s)
+    (reads_number w8 (λ m. nat_lt m n) (s.parent ∷ []) s.parent (spelled_8 s.parent) both.0)
+    (reads_last (path None) (λ p. Some (a_source s.parent p)) (sized w16 (text_of s.path)) s.path (reads_path None s.path both.1 refl)))
+
+reads_copied : (v : Version) (n : ℕ) (s : Option CopySource) → is_copied v n s ≡ true → Reads (copied v n) (copied_bytes v s) s
+reads_copied First n None h = λ rest. refl
+reads_copied First n (Some s) h = absurd (cc)
+reads_copied Second n s h = reads_source n s h
+
+reads_change : (v : Version) (n : ℕ) (c : FileChange) → is_change v n c ≡ true → Reads (change v n) (change_bytes v c) c
+reads_change v n Delete h =
+    reads_then (number w8 (λ n. nat_lt n 2)) (change_of v n) (0 ∷ []) [] 0 Delete
+    (reads_number w8 (λ n. nat_lt n 2) (0 ∷ []) 0 (spelled_8 0) refl) (λ rest. refl)
+reads_change v n (Set f s) h =
+    let all = and_parts (nat_le f.size most_size && is_bytes 32 f.content) (is_copied v n s) h in
+    let both = and_parts (nat_le f.size most_size) (is_bytes 32 f.content) all.0 in
+    reads_then (number w8 (λ n. nat_lt n 2)) (change_of v n) (1 ∷ []) (file_bytes f ++ copied_bytes v s) 1 (Set f s)
+    (reads_number w8 (λ n. nat_lt n 2) (1 ∷ []) 1 (spelled_8 1) refl)
+    (reads_then (file (λ size. nat_le size most_size)) (λ f. copied v n >>= λ s. value (Set f s)) (file_bytes f) (copied_bytes v s) f (Set f s)
+    (reads_file (λ size. nat_le size most_size) f (small_64 f.size both.0) both.0 both.1)
+    (reads_last (copied v n) (λ s. Set f s) (copied_bytes v s) s (reads_copied v n s all.1)))
 
 -- whether a path may stand before these changes
 abbrev pub starts_after : Option Path → List (Path × FileChange) → Bool
@@ -180,87 +201,96 @@ next_after : (e : Path × FileChange) (es : List (Path × FileChange)) → is_so
 next_after e [] h = refl
 next_after e (f ∷ es) h = first_so (path_lt e.0 f.0) _ (first_so _ (is_sorted path_cmp (f ∷ es)) h)
 
-reads_edits : (before : Option Path) (es : List (Path × FileChange)) → list_all (λ e. is_path e.0 && is_change e.1) es ≡ true → is_sorted path_cmp es ≡ true → starts_after before es ≡ true → Reads (edits (length es) before) (flat_map edit_bytes es) es
-reads_edits before [] each sorted first = λ rest. refl
-reads_edits before (e ∷ es) each sorted first =
-    let both = and_parts (is_path e.0) (is_change e.1) (first_so _ (list_all (λ e. is_path e.0 && is_change e.1) es) each) in
-    reads_then (edit before) (λ e. edits (length es) (Some e.0) >>= λ es. value (e ∷ es)) (edit_bytes e) (flat_map edit_bytes es) e (e ∷ es)
-    (reads_then (path before) (λ p. change >>= λ c. value (p, c)) (sized w16 (text_of e.0)) (change_bytes e.1) e.0 e
+reads_edits : (v : Version) (n : ℕ) (before : Option Path) (es : List (Path × FileChange)) → list_all (λ e. is_path e.0 && is_change v n e.1) es ≡ true → is_sorted path_cmp es ≡ true → starts_after before es ≡ true → Reads (edits v n (length es) before) (flat_map (edit_bytes v) es) es
+reads_edits v n before [] each sorted first = λ rest. refl
+reads_edits v n before (e ∷ es) each sorted first =
+    let both = and_parts (is_path e.0) (is_change v n e.1) (first_so _ (list_all (λ e. is_path e.0 && is_change v n e.1) es) each) in
+    reads_then (edit v n before) (λ e. edits v n (length es) (Some e.0) >>= λ es. value (e ∷ es)) (edit_bytes v e) (flat_map (edit_bytes v) es) e (e ∷ es)
+    (reads_then (path before) (λ p. change v n >>= λ c. value (p, c)) (sized w16 (text_of e.0)) (change_bytes v e.1) e.0 e
     (reads_path before e.0 both.0 first)
-    (reads_last change (λ c. (e.0, c)) (change_bytes e.1) e.1 (reads_change e.1 both.1)))
-    (reads_last (edits (length es) (Some e.0)) (λ es. e ∷ es) (flat_map edit_bytes es) es
-    (reads_edits (Some e.0) es (second_so (is_path e.0 && is_change e.1) _ each) (second_so _ (is_sorted path_cmp es) sorted) (next_after e es sorted)))
+    (reads_last (change v n) (λ c. (e.0, c)) (change_bytes v e.1) e.1 (reads_change v n e.1 both.1)))
+    (reads_last (edits v n (length es) (Some e.0)) (λ es. e ∷ es) (flat_map (edit_bytes v) es) es
+    (reads_edits v n (Some e.0) es (second_so (is_path e.0 && is_change v n e.1) _ each) (second_so _ (is_sorted path_cmp es) sorted) (next_after e es sorted)))
 
 none_before : (es : List (Path × FileChange)) → starts_after None es ≡ true
 none_before [] = refl
 none_before (e ∷ es) = refl
 
-reads_edit_list : (es : List (Path × FileChange)) → are_changes es ≡ true → Reads edit_list (to_be_bytes w32 (length es) ++ flat_map edit_bytes es) es
-reads_edit_list es h =
-    let both = and_parts (nat_le (length es) 4096 && list_all (λ e. is_path e.0 && is_change e.1) es) (is_sorted path_cmp es) h in
-    let parts = and_parts (nat_le (length es) 4096) (list_all (λ e. is_path e.0 && is_change e.1) es) both.0 in
+reads_edit_list : (v : Version) (n : ℕ) (es : List (Path × FileChange)) → are_changes v n es ≡ true → Reads (edit_list v n) (to_be_bytes w32 (length es) ++ flat_map (edit_bytes v) es) es
+reads_edit_list v n es h =
+    let both = and_parts (nat_le (length es) 4096 && list_all (λ e. is_path e.0 && is_change v n e.1) es) (is_sorted path_cmp es) h in
+    let parts = and_parts (nat_le (length es) 4096) (list_all (λ e. is_path e.0 && is_change v n e.1) es) both.0 in
     let short : length es ≤ 4096 = leb-true (length es) 4096 parts.0 in
-    reads_then (number w32 (λ n. nat_le n 4096)) (λ count. edits count None) (to_be_bytes w32 (length es)) (flat_map edit_bytes es) (length es) es
+    reads_then (number w32 (λ n. nat_le n 4096)) (λ count. edits v n count None) (to_be_bytes w32 (length es)) (flat_map (edit_bytes v) es) (length es) es
     (reads_number w32 (λ n. nat_le n 4096) (to_be_bytes w32 (length es)) (length es) (spelled_32 (length es) (omega arith)) parts.0)
-    (reads_edits None es parts.1 both.1 (none_before es))
+    (reads_edits v n None es parts.1 both.1 (none_before es))
 
 -- ---- a changeset
 
-abbrev pub put_together : List Id → List ℕ → ℤ → ℤ → List ℕ → List (Path × FileChange) → Changeset
-put_together parents author seconds offset message changes = record { parents = parents; author = author; seconds = seconds; offset = offset; message = message; changes = changes }
+abbrev pub put_together : Version → List Id → List ℕ → ℤ → ℤ → List ℕ → List (Path × FileChange) → Changeset
+put_together version parents author seconds offset message changes = record { version = version; parents = parents; author = author; seconds = seconds; offset = offset; message = message; changes = changes }
 
-abbrev pub from_message : List Id → List ℕ → ℤ → ℤ → Reader Changeset
-from_message ps a s o = message >>= λ m. edit_list >>= λ es. value (put_together ps a s o m es)
+abbrev pub from_message : Version → List Id → List ℕ → ℤ → ℤ → Reader Changeset
+from_message v ps a s o = message >>= λ m. edit_list v (length ps) >>= λ es. value (put_together v ps a s o m es)
 
-abbrev pub from_author : List Id → Reader Changeset
-from_author ps = author >>= λ a. signed w64 >>= λ s. signed w32 >>= λ o. from_message ps a s o
+abbrev pub from_author : Version → List Id → Reader Changeset
+from_author v ps = author >>= λ a. signed w64 >>= λ s. signed w32 >>= λ o. from_message v ps a s o
 
 abbrev pub from_message_bytes : Changeset → List ℕ
-from_message_bytes c = sized w32 c.message ++ (to_be_bytes w32 (length c.changes) ++ (flat_map edit_bytes c.changes ++ []))
+from_message_bytes c = sized w32 c.message ++ (to_be_bytes w32 (length c.changes) ++ (flat_map (edit_bytes c.version) c.changes ++ []))
 
 abbrev pub from_author_bytes : Changeset → List ℕ
 from_author_bytes c = sized w16 c.author ++ (to_be_bytes w64 (cast_unsigned w64 c.seconds) ++ (to_be_bytes w32 (cast_unsigned w32 c.offset) ++ from_message_bytes c))
 
-reads_from_message : (c : Changeset) → is_message c.message ≡ true → are_changes c.changes ≡ true → Reads (from_message c.parents c.author c.seconds c.offset) (from_message_bytes c) c
+reads_from_message : (c : Changeset) → is_message c.message ≡ true → are_changes c.version (length c.parents) c.changes ≡ true → Reads (from_message c.version c.parents c.author c.seconds c.offset) (from_message_bytes c) c
 reads_from_message c m e =
-    reads_then message (λ m. edit_list >>= λ es. value (put_together c.parents c.author c.seconds c.offset m es)) (sized w32 c.message) (to_be_bytes w32 (length c.changes) ++ (flat_map edit_bytes c.changes ++ [])) c.message c
+    reads_then message (λ m. edit_list c.version (length c.parents) >>= λ es. value (put_together c.version c.parents c.author c.seconds c.offset m es)) (sized w32 c.message) (to_be_bytes w32 (length c.changes) ++ (flat_map (edit_bytes c.version) c.changes ++ [])) c.message c
     (reads_message c.message m)
-    (reads_then edit_list (λ es. value (put_together c.parents c.author c.seconds c.offset c.message es)) (to_be_bytes w32 (length c.changes) ++ flat_map edit_bytes c.changes) [] c.changes c
-    (reads_edit_list c.changes e) (λ rest. refl))
+    (reads_then (edit_list c.version (length c.parents)) (λ es. value (put_together c.version c.parents c.author c.seconds c.offset c.message es)) (to_be_bytes w32 (length c.changes) ++ flat_map (edit_bytes c.version) c.changes) [] c.changes c
+    (reads_edit_list c.version (length c.parents) c.changes e) (λ rest. refl))
 
-reads_from_author : (c : Changeset) → is_changeset c ≡ true → Reads (from_author c.parents) (from_author_bytes c) c
+reads_from_author : (c : Changeset) → is_changeset c ≡ true → Reads (from_author c.version c.parents) (from_author_bytes c) c
 reads_from_author c h =
-    let e = and_parts (are_parents c.parents && is_author c.author && is_signed 64 c.seconds && is_signed 32 c.offset && is_message c.message) (are_changes c.changes) h in
+    let e = and_parts (are_parents c.parents && is_author c.author && is_signed 64 c.seconds && is_signed 32 c.offset && is_message c.message) (are_changes c.version (length c.parents) c.changes) h in
     let m = and_parts (are_parents c.parents && is_author c.author && is_signed 64 c.seconds && is_signed 32 c.offset) (is_message c.message) e.0 in
     let o = and_parts (are_parents c.parents && is_author c.author && is_signed 64 c.seconds) (is_signed 32 c.offset) m.0 in
     let s = and_parts (are_parents c.parents && is_author c.author) (is_signed 64 c.seconds) o.0 in
     let a = and_parts (are_parents c.parents) (is_author c.author) s.0 in
-    reads_then author (λ a. signed w64 >>= λ s. signed w32 >>= λ o. from_message c.parents a s o) (sized w16 c.author) (to_be_bytes w64 (cast_unsigned w64 c.seconds) ++ (to_be_bytes w32 (cast_unsigned w32 c.offset) ++ from_message_bytes c)) c.author c
+    reads_then author (λ a. signed w64 >>= λ s. signed w32 >>= λ o. from_message c.version c.parents a s o) (sized w16 c.author) (to_be_bytes w64 (cast_unsigned w64 c.seconds) ++ (to_be_bytes w32 (cast_unsigned w32 c.offset) ++ from_message_bytes c)) c.author c
     (reads_author c.author a.1)
-    (reads_then (signed w64) (λ s. signed w32 >>= λ o. from_message c.parents c.author s o) (to_be_bytes w64 (cast_unsigned w64 c.seconds)) (to_be_bytes w32 (cast_unsigned w32 c.offset) ++ from_message_bytes c) c.seconds c
+    (reads_then (signed w64) (λ s. signed w32 >>= λ o. from_message c.version c.parents c.author s o) (to_be_bytes w64 (cast_unsigned w64 c.seconds)) (to_be_bytes w32 (cast_unsigned w32 c.offset) ++ from_message_bytes c) c.seconds c
     (reads_signed_64 c.seconds s.1)
-    (reads_then (signed w32) (λ o. from_message c.parents c.author c.seconds o) (to_be_bytes w32 (cast_unsigned w32 c.offset)) (from_message_bytes c) c.offset c
+    (reads_then (signed w32) (λ o. from_message c.version c.parents c.author c.seconds o) (to_be_bytes w32 (cast_unsigned w32 c.offset)) (from_message_bytes c) c.offset c
     (reads_signed_32 c.offset o.1)
     (reads_from_message c m.1 e.1)))
 
 are_parents_of : (c : Changeset) → is_changeset c ≡ true → are_parents c.parents ≡ true
 are_parents_of c h =
-    let e = and_parts (are_parents c.parents && is_author c.author && is_signed 64 c.seconds && is_signed 32 c.offset && is_message c.message) (are_changes c.changes) h in
+    let e = and_parts (are_parents c.parents && is_author c.author && is_signed 64 c.seconds && is_signed 32 c.offset && is_message c.message) (are_changes c.version (length c.parents) c.changes) h in
     let m = and_parts (are_parents c.parents && is_author c.author && is_signed 64 c.seconds && is_signed 32 c.offset) (is_message c.message) e.0 in
     let o = and_parts (are_parents c.parents && is_author c.author && is_signed 64 c.seconds) (is_signed 32 c.offset) m.0 in
     let s = and_parts (are_parents c.parents && is_author c.author) (is_signed 64 c.seconds) o.0 in
     (and_parts (are_parents c.parents) (is_author c.author) s.0).0
 
+version_good : (v : Version) → is_version (version_byte v) ≡ true
+version_good First = refl
+version_good Second = refl
+
+pub version_back : (v : Version) → version_of (version_byte v) ≡ v
+version_back First = refl
+version_back Second = refl
+
 -- whatever follows the spelling of a changeset
 pub reads_changeset : (c : Changeset) → is_changeset c ≡ true → Reads changeset (spelling c) c
 reads_changeset c h =
-    reads_then (exactly (0x43 ∷ [])) (λ _. exactly (1 ∷ []) >>= λ _. parent_list >>= from_author) (0x43 ∷ []) ((1 ∷ []) ++ (((length c.parents ∷ []) ++ concat c.parents) ++ from_author_bytes c)) (0x43 ∷ []) c
+    reads_then (exactly (0x43 ∷ [])) (λ _. number w8 is_version >>= λ v. parent_list >>= from_author (version_of v)) (0x43 ∷ []) ((version_byte c.version ∷ []) ++ (((length c.parents ∷ []) ++ concat c.parents) ++ from_author_bytes c)) (0x43 ∷ []) c
     (reads_exactly (0x43 ∷ []))
-    (reads_then (exactly (1 ∷ [])) (λ _. parent_list >>= from_author) (1 ∷ []) (((length c.parents ∷ []) ++ concat c.parents) ++ from_author_bytes c) (1 ∷ []) c
-    (reads_exactly (1 ∷ []))
-    (reads_then parent_list from_author ((length c.parents ∷ []) ++ concat c.parents) (from_author_bytes c) c.parents c
+    (reads_then (number w8 is_version) (λ v. parent_list >>= from_author (version_of v)) (version_byte c.version ∷ []) (((length c.parents ∷ []) ++ concat c.parents) ++ from_author_bytes c) (version_byte c.version) c
+    (reads_number w8 is_version (version_byte c.version ∷ []) (version_byte c.version) (spelled_8 (version_byte c.version)) (version_good c.version))
+    (subst (λ v. Reads (parent_list >>= from_author v) (((length c.parents ∷ []) ++ concat c.parents) ++ from_author_bytes c) c) (sym (version_back c.version))
+    (reads_then parent_list (from_author c.version) ((length c.parents ∷ []) ++ concat c.parents) (from_author_bytes c) c.parents c
     (reads_parents c.parents (are_parents_of c h))
-    (reads_from_author c h)))
+    (reads_from_author c h))))
 
 pub read-spelling : (c : Changeset) → is_changeset c ≡ true → read changeset (spelling c) ≡ Ok c
 read-spelling c h = ap (whole (length (spelling c))) (ap changeset (sym (append-nil (spelling c))) ∙ reads_changeset c h [])

@@ -95,18 +95,18 @@ known_now ks c = by (is_known ks (id_of c)) refl
     by true e = ap (λ ks. is_known ks (id_of c)) (adds_none ks c e) ∙ e
     by false e = ap (λ ks. is_known ks (id_of c)) (adds_it ks c e) ∙ known_last ks (with_id c)
 
-can_by : (ks all : List Known) (stack : List Changeset) (head : Id) → is_known ks head ≡ true → ((P : Known → Type 0) → AllByRecursion P all → AllByRecursion P ks) → AreAlone all (rewrite stack head) → CanAdd ks (rewrite stack head)
-can_by ks all [] head there part alone = tt
-can_by ks all (c ∷ cs) head there part alone =
-    let new = on_parent head c in (
+can_by : (ks all : List Known) (stack : List Changeset) (head : Id) (moment : ℕ) → is_known ks head ≡ true → ((P : Known → Type 0) → AllByRecursion P all → AllByRecursion P ks) → AreAlone all (rewrite stack head moment) → CanAdd ks (rewrite stack head moment)
+can_by ks all [] head moment there part alone = tt
+can_by ks all (c ∷ cs) head moment there part alone =
+    let new = on_parent head moment c in (
       record { parents = (there, tt); alone = part (λ k. k.id ≡ id_of new → k.changeset ≡ new) alone.0 },
-      can_by (adding_one ks new) (all ++ with_id new ∷ []) cs (id_of new) (known_now ks new)
+      can_by (adding_one ks new) (all ++ with_id new ∷ []) cs (id_of new) moment (known_now ks new)
           (λ P each. (let both = both_parts P all (with_id new ∷ []) each in all_one P ks new (part P both.0) both.1.0)) alone.1,
     )
 
 -- the parents of a rewritten stack are the head and those before
-pub can_add : (ks : List Known) (stack : List Changeset) (head : Id) → is_known ks head ≡ true → AreAlone ks (rewrite stack head) → CanAdd ks (rewrite stack head)
-can_add ks stack head there alone = can_by ks ks stack head there (λ P each. each) alone
+pub can_add : (ks : List Known) (stack : List Changeset) (head : Id) (moment : ℕ) → is_known ks head ≡ true → AreAlone ks (rewrite stack head moment) → CanAdd ks (rewrite stack head moment)
+can_add ks stack head moment there alone = can_by ks ks stack head moment there (λ P each. each) alone
 
 -- ---- no others by their ids
 

@@ -112,7 +112,7 @@ fn path(alloc: Global, text: &str) -> Option<RepoPath> {
 
 fn change(alloc: Global, changeset: &Changeset, text: &str) -> Option<Change> {
     let path = path(alloc, text)?;
-    changeset.change_at(&path).copied()
+    changeset.change_at(&path)?.copy(alloc).ok()
 }
 
 fn touches(alloc: Global, changeset: &Changeset, wanted: &str) -> bool {
@@ -123,7 +123,10 @@ fn touches(alloc: Global, changeset: &Changeset, wanted: &str) -> bool {
 }
 
 fn moved(alloc: Global, changeset: &Changeset, parent: &str) -> Option<Changeset> {
-    changeset.with_parent(alloc, id_of_hex(parent)).ok()
+    if !changeset.keeps_on_parent() {
+        return None;
+    }
+    changeset.with_parent(alloc, id_of_hex(parent), 0).ok()
 }
 
 fn commit_on(alloc: Global, changeset: &Changeset, parent: &str) -> Option<Commit> {
@@ -183,6 +186,7 @@ fn tells_what_it_sets(alloc: Global, changeset: &Changeset) -> bool {
         content: id_of_hex(ABC),
         kind: FileKind::Regular,
         size: 3,
+        copied: None,
     };
     changeset.edits().len() == 1
         && change(alloc, changeset, "p") == Some(set)

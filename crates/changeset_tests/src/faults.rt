@@ -8,9 +8,10 @@ use std::alloc::{AllocError, Global};
 const FIELDS: [usize; 9] = [0, 1, 2, 3, 5, 6, 14, 18, 22];
 
 // A place in it, the byte that is put there, and where the fault is.
-const BAD_FIELDS: [(usize, u8, usize); 10] = [
+const BAD_FIELDS: [(usize, u8, usize); 11] = [
     (0, 0x44, 0),
-    (1, 2, 1),
+    (1, 0, 1),
+    (1, 3, 1),
     (2, 3, 2),
     (4, 0, 3),
     (3, 5, 3),

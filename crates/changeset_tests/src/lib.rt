@@ -6,6 +6,8 @@ mod bytes;
 #[cfg(test)]
 mod changesets;
 #[cfg(test)]
+mod copies;
+#[cfg(test)]
 mod faults;
 #[cfg(test)]
 mod making;

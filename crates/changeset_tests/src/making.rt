@@ -1,7 +1,9 @@
 //! Changesets that are made of their fields.
 use crate::bytes::{id_of_hex, letters, of_hex};
 use crate::samples::{NEW, OLD, RICH, RICH_ID};
-use bonsai::{Change, Changeset, Commit, Edit, Fields, FieldsFault, FileKind, decode};
+use bonsai::{
+    Change, Changeset, Commit, CopySource, Edit, Fields, FieldsFault, FileKind, Version, decode,
+};
 use object_id::Id;
 use repo_path::RepoPath;
 use std::alloc::Global;
@@ -19,6 +21,7 @@ fn set(alloc: Global, text: &str, kind: FileKind, size: u64) -> Option<Edit> {
         content,
         kind,
         size,
+        copied: None,
     };
     Some(Edit { path, change })
 }
@@ -54,6 +57,7 @@ fn fields(alloc: Global, parents: &[Id], author: &str, edits: Vec<Edit>) -> Opti
     let author = text(alloc, author)?;
     let message = text(alloc, "two\nlines")?;
     Some(Fields {
+        version: Version::First,
         parents,
         author,
         seconds: -1,
@@ -75,6 +79,7 @@ fn name_of(fault: &FieldsFault) -> &'static str {
         FieldsFault::BadMessage => "message",
         FieldsFault::TooManyEdits => "many",
         FieldsFault::TooLarge => "large",
+        FieldsFault::BadSource => "source",
         FieldsFault::Unordered => "unordered",
         FieldsFault::SelfConflict { short: _, long: _ } => "conflict",
         FieldsFault::Memory => "memory",
@@ -120,6 +125,41 @@ fn of_sets(alloc: Global, first: &str, second: &str, size: u64) -> Option<Fields
     fields(alloc, &[], "a", edits)
 }
 
+// A copy of `p` of a parent, given by its place.
+fn copy(alloc: Global, parent: u8) -> Option<Edit> {
+    let source = CopySource {
+        parent,
+        path: path(alloc, "p")?,
+    };
+    let change = Change::Set {
+        content: Id::of(b"abc"),
+        kind: FileKind::Regular,
+        size: 3,
+        copied: Some(source),
+    };
+    Some(Edit {
+        path: path(alloc, "q")?,
+        change,
+    })
+}
+
+// Such a copy in a changeset with so many parents.
+fn of_copy(alloc: Global, version: Version, parents: usize, place: u8) -> Option<Fields> {
+    let mut edits = Vec::new(alloc);
+    put(&mut edits, copy(alloc, place))?;
+    let both = [id_of_hex(OLD), id_of_hex(NEW)];
+    let mut fields = fields(alloc, both.get(..parents)?, "a", edits)?;
+    fields.version = version;
+    Some(fields)
+}
+
+// Whether such a copy may stand on one parent, whichever it is.
+fn may_move(alloc: Global, parents: usize, place: u8) -> Option<bool> {
+    let fields = of_copy(alloc, Version::Second, parents, place)?;
+    let changeset = changeset(alloc, fields).ok()?;
+    Some(changeset.keeps_on_parent())
+}
+
 fn changeset(alloc: Global, fields: Fields) -> Result<Changeset, FieldsFault> {
     Changeset::from_fields(alloc, fields)
 }
@@ -140,9 +180,10 @@ fn is_as_read(alloc: Global, changeset: &Changeset) -> bool {
 }
 
 fn differs_on_other_parent(alloc: Global, changeset: &Changeset) -> bool {
-    changeset
-        .with_parent(alloc, id_of_hex(NEW))
-        .is_ok_and(|other| other != *changeset)
+    changeset.keeps_on_parent()
+        && changeset
+            .with_parent(alloc, id_of_hex(NEW), 0)
+            .is_ok_and(|other| other != *changeset)
 }
 
 fn has_commit(alloc: Global, changeset: Changeset, id: &str, length: usize) -> bool {
@@ -182,6 +223,26 @@ fn parents_and_messages(rt: HostRuntime) {
     assert_eq!(rt; fault(alloc, of_parents(alloc, OLD, NEW)), "none");
     assert_eq!(rt; fault(alloc, of_parents(alloc, OLD, OLD)), "parents");
     assert_eq!(rt; fault(alloc, of_message(alloc, 1_048_577)), "message");
+}
+
+// A version, how many parents there are, the place of the one that is copied from, and why that makes no changeset.
+const COPIES: [(Version, usize, u8, &str); 5] = [
+    (Version::First, 1, 0, "source"),
+    (Version::Second, 0, 0, "source"),
+    (Version::Second, 1, 0, "none"),
+    (Version::Second, 1, 1, "source"),
+    (Version::Second, 2, 1, "none"),
+];
+
+#[test]
+fn sources_of_copies(rt: HostRuntime) {
+    let alloc = rt.alloc();
+    for (version, parents, place, want) in COPIES {
+        let fields = of_copy(alloc, version, parents, place);
+        assert_eq!(rt; fault(alloc, fields), want, "{place} of {parents}");
+    }
+    assert_eq!(rt; may_move(alloc, 2, 0), Some(true));
+    assert_eq!(rt; may_move(alloc, 2, 1), Some(false));
 }
 
 // Two paths that are set, the bytes of the second file, and why that makes no changeset.

@@ -11,7 +11,7 @@ use Rattle.history_model.specs.Journal.{Header}
 use Rattle.repo_journal.specs.View.{JournalView}
 use Rattle.repo_machine.specs.Counting.{counts_of}
 use Rattle.repo_machine.specs.Seats.{cleared}
-use Rattle.repo_state.specs.State.{IsSound, State, opening_of}
+use Rattle.repo_state.specs.State.{IsAllSealed, IsSound, State, opening_of}
 use Rattle.command_line.specs.declared.report.Report.{Report}
 use Rattle.command_line.specs.declared.status.Outcome.{Outcome}
 use Rattle.command_line.specs.Making.{Unopened}
@@ -40,18 +40,21 @@ pub serves_opened : {D : Type 0} (meaning : D → Meaning) (header : Header) (op
     → first.history ≡ opened → first.opening ≡ opening_of header journal.opening read → left ≡ Some state
     → IfSome left (λ s. s.opening ≡ first.opening) → IfSome left (λ s. IsPrefix (cleared first.history) s.history) → IfSome left (λ s. All (λ (e : Entry). e.who ≤ lanes) s.history)
     → IfSome left (λ (_ : State). TakesLinks connections faulted links)
-    → disks.IsSound (meaning disk) → meaning disk ≡ state.disk → IsSound state.opening state.history state.disk
+    → IfSome left (λ s. IsAllSealed s.history s.sealed)
+    → disks.IsSound (meaning disk) → meaning disk ≡ state.disk → IsSound state.opening state.history state.sealed state.disk
     → report ≡ served_report (is_down state.history) faulted links.served (counts_of state.history).entries
     → ServesOpened meaning header opened journal read lanes connections links report (Some disk)
-serves_opened meaning header opened journal read lanes connections links faulted report disk first state left history_is opening_is is opening begins seats takes whole disk_is sound report_is = record {
+serves_opened meaning header opened journal read lanes connections links faulted report disk first state left history_is opening_is is opening begins seats takes sealed whole disk_is sound report_is = record {
   disk = disk;
   disk_is = refl;
   whole = whole;
   history = state.history;
   begins = subst (λ h. IsPrefix (cleared h) state.history) history_is (subst (λ o. IfSome o (λ s. IsPrefix (cleared first.history) s.history)) is begins);
   seats = subst (λ o. IfSome o (λ s. All (λ (e : Entry). e.who ≤ lanes) s.history)) is seats;
-  sound = subst (λ m. IsSound (opening_of header journal.opening read) state.history m) (sym disk_is)
-      (subst (λ o. IsSound o state.history state.disk) (subst (λ o. IfSome o (λ s. s.opening ≡ first.opening)) is opening ∙ opening_is) sound);
+  sealed = state.sealed;
+  all_sealed = subst (λ o. IfSome o (λ s. IsAllSealed s.history s.sealed)) is sealed;
+  sound = subst (λ m. IsSound (opening_of header journal.opening read) state.history state.sealed m) (sym disk_is)
+      (subst (λ o. IsSound o state.history state.sealed state.disk) (subst (λ o. IfSome o (λ s. s.opening ≡ first.opening)) is opening ∙ opening_is) sound);
   faulted = faulted;
   takes = subst (λ o. IfSome o (λ (_ : State). TakesLinks connections faulted links)) is takes;
   report_is = report_is;
@@ -74,7 +77,9 @@ serves_repository meaning file shelf lanes connections links report left header 
       journal = journal;
       opens = opens.opens;
       history = serves.history;
-      closes = closes_file header opened serves.history journal (meaning opens.first) (meaning disk) (meaning serves.disk) serves.whole opens.opens (subst (λ h. IsPrefix h serves.history) as_read serves.begins) serves.sound;
+      sealed = serves.sealed;
+      all_sealed = serves.all_sealed;
+      closes = closes_file header opened serves.history serves.sealed journal (meaning opens.first) (meaning disk) (meaning serves.disk) serves.whole opens.opens (subst (λ h. IsPrefix h serves.history) as_read serves.begins) serves.all_sealed serves.sound;
       seats = serves.seats;
       faulted = serves.faulted;
       takes = serves.takes;

@@ -1,5 +1,6 @@
 -- A session on an opened repository, told of the file that the opener gave.
-use Rattle.std.proofs.Common.{◌≡◌, ℕ, ◌-◌, ◌^◌, ◌≤◌, false, List, length, sym, subst, ◌∙◌, arith}
+use Rattle.std.proofs.Common.{◌≡◌, ℕ, ◌-◌, ◌^◌, ◌≤◌, false, List, ◌++◌, length, refl, sym, ap, subst, ◌∙◌, arith}
+use Rattle.std.proofs.lemmas.List.{take_all}
 use Rattle.std.specs.Prelude.{Option, None, Some, MatchOption, IsTrue}
 use Rattle.std.specs.Option.{ForSome}
 use mathlib.Core.Logic.{inl, inr}
@@ -9,18 +10,28 @@ use Rattle.ports.specs.Openers.{Shelf}
 use Rattle.disk_model.specs.Meaning.{Meaning}
 use Rattle.disk_model.specs.Meaning as disks
 use Rattle.disk_model.specs.Calls.{Kept, LeavesOnly}
-use Rattle.history_model.specs.History.{Entry, is_down}
+use Rattle.history_model.specs.History.{Entry, bodies, is_down, stored}
 use Rattle.history_model.specs.Journal.{Header, Stands}
 use Rattle.repo_journal.specs.View.{JournalView}
-use Rattle.repo_state.specs.Images.{Leaves}
-use Rattle.repo_state.specs.State.{Covers, HasNoFault, IsSound, faults_in, opening_of}
+use Rattle.http_front.specs.declared.ended.Ended.{Ended}
+use Rattle.http_front.specs.declared.ended.Ended.TheVariants as ends
+use Rattle.http_front.specs.Serving.{Finished}
+use Rattle.repo_calls.specs.Replying.{Honestly}
+use Rattle.session_model.specs.Dating.{Dated}
+use Rattle.repo_state.specs.Alone.{RepliesAlone}
+use Rattle.repo_state.specs.Images.{Leaves, sealed_part}
+use Rattle.repo_state.specs.State.{State, Covers, HasNoFault, IsAllSealed, IsSealedAlone, IsSound, faults_in, opening_of}
 use Rattle.repo_state.proofs.Chains.{leaves_map, leaves_then}
 use Rattle.blob_disk.proofs.Clients.{kept_then}
+use Rattle.repo_state.proofs.GroupParts.{bodies_part, part_grows}
 use Rattle.repo_state.proofs.Leaving.{keeps_up}
+use Rattle.repo_state.proofs.Opening.{stored_count}
+use Rattle.repo_state.proofs.Stands.{stands-same}
 use Rattle.command_line.specs.Opening.{IsSettled, Opens, OpensIn}
 use Rattle.command_line.specs.declared.came.Came.{Came}
 use Rattle.command_line.specs.Outside.{Told}
-use Rattle.command_line.specs.Sessions.{IsCalm, LeavesFile, Serves, ServesFile}
+use Rattle.command_line.specs.declared.status.Status.{Status}
+use Rattle.command_line.specs.Sessions.{IsCalm, LeavesFile, Serves, ServesFile, session_status}
 use Rattle.command_line.specs.Serving.{ClosesFile}
 use Rattle.command_line.proofs.Entries.{session_adds, adds_prefix, adds_own, of_seat-stored, down_has_fault}
 
@@ -39,51 +50,91 @@ calm_of header h (Some n) calm = λ most is. subst (λ (o : Option ℕ). MatchOp
 is_calm : (header : Header) (h : List Entry) (first read : Meaning) → read.quiet ≡ first.quiet → (MatchOption read.quiet ⊥ (λ n. header.capacity ≤ n) → HasNoFault h) → IsCalm header h first
 is_calm header h first read same calm = calm_of header h first.quiet (subst (λ q. MatchOption q ⊥ (λ n. header.capacity ≤ n) → HasNoFault h) same calm)
 
-file_stands : (header : Header) (n moment : ℕ) (h : List Entry) (read m : Meaning) → disks.IsSound m → IsTrue m.honest → is_down h ≡ false → Leaves header n moment h read m → ForSome m.reads (λ bytes. Stands header bytes h)
-file_stands header n moment h read m whole honest up leaves bytes is =
+-- where as many are sealed, the sealed part is all of the history
+pub stands_whole : (header : Header) (h : List Entry) (n : ℕ) (image : List ℕ) → length (bodies h) ≤ n → Stands header image (sealed_part n h) → Stands header image h
+stands_whole header h n image all stands = stands-same header image (sealed_part n h) h (bodies_part n h ∙ take_all n (bodies h) all) stands
+
+-- what the file was opened with is the first of what is sealed
+stands_opened : (header : Header) (opened h : List Entry) (image : List ℕ) → opened ≡ stored opened → IsPrefix opened h → Stands header image opened → Stands header image (sealed_part (length opened) h)
+stands_opened header opened h image is begins stands =
+    let count : length opened ≡ length (bodies opened) = ap (λ (g : List Entry). length g) is ∙ stored_count opened in
+    let part : sealed_part (length opened) (opened ++ begins.0) ≡ sealed_part (length opened) opened = part_grows (length opened) opened begins.0 (omega arith) in
+    let same : bodies opened ≡ bodies (sealed_part (length opened) h) =
+    sym (take_all (length opened) (bodies opened) (omega arith)) ∙ sym (bodies_part (length opened) opened) ∙ ap bodies (sym part) ∙ ap (λ g. bodies (sealed_part (length opened) g)) begins.1 in
+    stands-same header image opened (sealed_part (length opened) h) same stands
+
+file_stands : (header : Header) (k moment : ℕ) (h : List Entry) (n : ℕ) (read m : Meaning) → disks.IsSound m → IsTrue m.honest → IsAllSealed h n → is_down h ≡ false → Leaves header k moment h n read m → ForSome m.reads (λ bytes. Stands header bytes h)
+file_stands header k moment h n read m whole honest sealed up leaves bytes is =
     let here : Some m.state.reads ≡ Some bytes = sym (whole.reads honest) ∙ is in
     let same : m.state.reads ≡ bytes = cc in
-    subst (λ bytes. Stands header bytes h) same (keeps_up header n moment h read m up leaves m.state.reads (whole.image honest))
+    subst (λ bytes. Stands header bytes h) same (stands_whole header h n m.state.reads (sealed up) (keeps_up header k moment h n read m up leaves m.state.reads (whole.image honest)))
 
-file_left : (header : Header) (opened h : List Entry) (moment : ℕ) (first read m : Meaning) → Kept first read → IsPrefix opened h
+file_left : (header : Header) (opened h : List Entry) (n moment : ℕ) (first read m : Meaning) → Kept first read → opened ≡ stored opened → IsPrefix opened h → length opened ≤ n
     → (IsSettled first → LeavesOnly (λ image. Stands header image opened) first read)
-    → Leaves header (length opened) moment h read m → LeavesFile header opened h moment first m
-file_left header opened h moment first read m kept begins settled leaves = record {
-  left = leaves.left;
-  is_left = leaves.is_left;
-  could = leaves.could;
+    → Leaves header (length opened) moment h n read m → LeavesFile header opened h n moment first m
+file_left header opened h n moment first read m kept is begins few settled leaves = record {
   now = leaves.now;
   since = leaves.since;
   all = λ was. leaves_then first read m kept
-      (leaves_map first read (λ image stands. inl (opened, begins, omega arith, stands)) (settled was))
+      (leaves_map first read (λ image stands. inl (length opened, omega arith, few, stands_opened header opened h image is begins stands)) (settled was))
       leaves.only;
 }
 
-pub closes_file : (header : Header) (opened h : List Entry) (journal : JournalView) (first read m : Meaning) → disks.IsSound m
-    → Opens header opened journal first read → IsPrefix opened h → IsSound (opening_of header journal.opening read) h m
-    → ClosesFile header opened journal first h m
-closes_file header opened h journal first read m whole opens begins sound =
+pub closes_file : (header : Header) (opened h : List Entry) (n : ℕ) (journal : JournalView) (first read m : Meaning) → disks.IsSound m
+    → Opens header opened journal first read → IsPrefix opened h → IsAllSealed h n → IsSound (opening_of header journal.opening read) h n m
+    → ClosesFile header opened journal first h n m
+closes_file header opened h n journal first read m whole opens begins sealed sound =
     let kept = kept_then first read m opens.unharmed.kept sound.kept in
     let covers = covers_since (faults_in h) first.faults journal.opening.faults m.faults opens.during.1 sound.covers in
+    let few = subst (λ k. k ≤ n) opens.opened.length_is sound.begins in
     record {
       legal = sound.legal;
       begins = begins;
       calm = is_calm header h first read opens.unharmed.kept.quiet sound.calm;
       covers = covers;
       disk_fault = λ down. covered_rose (faults_in h) first.faults m.faults (down_has_fault h down) sound.most covers;
+      sealed_first = few;
       kept = kept;
-      stands = λ honest up. file_stands header journal.opening.length journal.opening.moment h read m whole honest up (sound.leaves honest);
-      leaves = λ honest. file_left header opened h journal.opening.moment first read m opens.unharmed.kept begins (λ settled. opens.settled (sym kept.honest ∙ honest) settled)
-          (subst (λ n. Leaves header n journal.opening.moment h read m) opens.opened.length_is (sound.leaves honest));
+      stands = λ honest up. file_stands header journal.opening.length journal.opening.moment h n read m whole honest sealed up (sound.leaves honest);
+      leaves = λ honest. file_left header opened h n journal.opening.moment first read m opens.unharmed.kept opens.stored_is begins few (λ settled. opens.settled (sym kept.honest ∙ honest) settled)
+          (subst (λ k. Leaves header k journal.opening.moment h n read m) opens.opened.length_is (sound.leaves honest));
     }
 
-pub serves_file : {D : Type 0} (meaning : D → Meaning) → ((disk : D) → disks.IsSound (meaning disk)) → (file : List ℕ) (shelf : Option (Shelf D)) (old new : Told) (ran : Came D) (header : Header) (opened : List Entry) (journal : JournalView) (disk : D)
+-- a repository that is served alone, from its opening to the end of its session
+pub session_serves : {D : Type 0} (meaning : D → Meaning) (tells : ℕ → Type 0) (header : Header) (opened : List Entry) (journal : JournalView) (read : Meaning) (old new : Told) (first seat after last : State) (end : Ended) (disk : D) (status : Status)
+    → first.header ≡ header → first.history ≡ opened → first.opening ≡ opening_of header journal.opening read → seat ≡ first
+    → Finished (Dated tells (Honestly seat.opening.honest RepliesAlone)) (record { header = seat.header; who = 0; history = seat.history; rest = old.rest; written = old.written }) after.history new.rest new.written end
+    → after.opening ≡ seat.opening → last ≡ after → (end ≡ ends.LinkFault → Rose old.faults new.faults)
+    → status ≡ session_status (is_down last.history) end → IsSealedAlone last.history last.sealed
+    → meaning disk ≡ last.disk → IsSound last.opening last.history last.sealed last.disk
+    → Serves meaning tells header opened journal read old new (record { status = status; disk = Some disk })
+session_serves meaning tells header opened journal read old new first seat after last end disk status header_is history_is opening_is seat_is finished home last_is link_fault status_is sealed disk_is sound =
+    let began = ap (λ (s : State). s.opening) seat_is ∙ opening_is in
+    let ended : last.opening ≡ opening_of header journal.opening read = ap (λ (s : State). s.opening) last_is ∙ home ∙ began in
+    let honest : seat.opening.honest ≡ read.honest = (λ i. (began i).honest) in
+    record {
+      disk = disk;
+      disk_is = refl;
+      history = last.history;
+      end = end;
+      session = subst (λ (h : List Entry). Finished (Dated tells (Honestly read.honest RepliesAlone)) (record { header = header; who = 0; history = opened; rest = old.rest; written = old.written }) h new.rest new.written end) (sym (ap (λ (s : State). s.history) last_is))
+          (subst (λ b. Finished (Dated tells (Honestly b RepliesAlone)) (record { header = header; who = 0; history = opened; rest = old.rest; written = old.written }) after.history new.rest new.written end) honest
+          (subst (λ (h : List Entry). Finished (Dated tells (Honestly seat.opening.honest RepliesAlone)) (record { header = header; who = 0; history = h; rest = old.rest; written = old.written }) after.history new.rest new.written end) (ap (λ (s : State). s.history) seat_is ∙ history_is)
+          (subst (λ (x : Header). Finished (Dated tells (Honestly seat.opening.honest RepliesAlone)) (record { header = x; who = 0; history = seat.history; rest = old.rest; written = old.written }) after.history new.rest new.written end) (ap (λ (s : State). s.header) seat_is ∙ header_is) finished)));
+      status_is = status_is;
+      link_fault = link_fault;
+      sealed = last.sealed;
+      all_sealed = sealed;
+      sound = subst (λ m. IsSound (opening_of header journal.opening read) last.history last.sealed m) (sym disk_is) (subst (λ o. IsSound o last.history last.sealed last.disk) ended sound);
+    }
+
+pub serves_file : {D : Type 0} (meaning : D → Meaning) (tells : ℕ → Type 0) → ((disk : D) → disks.IsSound (meaning disk)) → (file : List ℕ) (shelf : Option (Shelf D)) (old new : Told) (ran : Came D) (header : Header) (opened : List Entry) (journal : JournalView) (disk : D)
     → OpensIn meaning file shelf header opened journal disk
-    → Serves meaning header opened journal (meaning disk) old new ran
-    → ServesFile meaning file shelf old new ran
-serves_file meaning whole file shelf old new ran header opened journal disk opens serves =
-    let adds = session_adds (record { header = header; who = 0; history = opened; rest = old.rest; written = old.written }) serves.history new.rest new.written serves.end serves.session in
-    let closes = closes_file header opened serves.history journal (meaning opens.first) (meaning disk) (meaning serves.disk) (whole serves.disk) opens.opens (adds_prefix 0 opened serves.history adds) serves.sound in
+    → Serves meaning tells header opened journal (meaning disk) old new ran
+    → ServesFile meaning tells file shelf old new ran
+serves_file meaning tells whole file shelf old new ran header opened journal disk opens serves =
+    let adds = session_adds tells (meaning disk).honest (record { header = header; who = 0; history = opened; rest = old.rest; written = old.written }) serves.history new.rest new.written serves.end serves.session in
+    let closes = closes_file header opened serves.history serves.sealed journal (meaning opens.first) (meaning disk) (meaning serves.disk) (whole serves.disk) opens.opens (adds_prefix 0 opened serves.history adds) serves.all_sealed.0 serves.sound in
     record {
       disk = serves.disk;
       disk_is = serves.disk_is;
@@ -96,12 +147,15 @@ serves_file meaning whole file shelf old new ran header opened journal disk open
       opens = opens.opens;
       history = serves.history;
       end = serves.end;
-      session = serves.session;
+      session = subst (λ honest. Finished (Dated tells (Honestly honest RepliesAlone)) (record { header = header; who = 0; history = opened; rest = old.rest; written = old.written }) serves.history new.rest new.written serves.end) opens.opens.unharmed.kept.honest serves.session;
       status_is = serves.status_is;
       link_fault = serves.link_fault;
       legal = closes.legal;
       begins = closes.begins;
       alone = adds_own 0 opened serves.history adds (of_seat-stored opened opens.opens.stored_is);
+      sealed = serves.sealed;
+      all_sealed = serves.all_sealed;
+      sealed_first = closes.sealed_first;
       calm = closes.calm;
       covers = closes.covers;
       disk_fault = closes.disk_fault;

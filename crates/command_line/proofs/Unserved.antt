@@ -1,7 +1,6 @@
 -- What a command came to, by whether the file was opened.
 use Rattle.std.proofs.Common.{◌≡◌, ℕ, List, refl, ap, subst, sym, ◌∙◌}
 use Rattle.std.specs.Prelude.{Option, None, Some, IfSome, MatchOption}
-use mathlib.Core.Logic.{inl, inr}
 use Rattle.disk_model.specs.Meaning.{Meaning}
 use Rattle.blob_disk.specs.declared.mem_disk.MemDisk.{MemDisk}
 use Rattle.program_words.specs.Words.{Request, session}
@@ -9,8 +8,6 @@ use Rattle.command_line.specs.declared.report.Report.{Report}
 use Rattle.command_line.specs.declared.status.Status.{Status}
 use Rattle.command_line.specs.declared.status.Outcome.{Outcome}
 use Rattle.command_line.specs.Making.{Unopened}
-use Rattle.command_line.specs.Opening.{RefusesIn}
-use Rattle.command_line.specs.Reports.{status_of}
 use Rattle.command_line.specs.declared.came.Came.{Came}
 use Rattle.command_line.specs.Outside.{Links, Outside}
 use Rattle.command_line.specs.Running.{Runs, RunsOn, RunsSession, Writes}
@@ -28,28 +25,13 @@ runs_on {D} Of old new came ran same writes unopened opened = record {
       (by_disk came.disk (Unopened came.report old.unopened new.unopened) (λ disk. Of disk came.report) unopened opened);
 }
 
-pub unserved : {D : Type 0} (meaning : D → Meaning) (file : List ℕ) (old new : Outside D) (came : Outcome D) (ran : Came D) → ran.disk ≡ came.disk → ran.status ≡ status_of came.report → new.link ≡ old.link
-    → (came.disk ≡ None → Unopened came.report old.unopened new.unopened) → IfSome came.disk (λ disk. RefusesIn meaning file old.shelf disk came.report) → RunsSession meaning file old new ran
-unserved {D} meaning file old new came ran same status silent unopened refuses = by came.disk refl
-  where
-    by : (o : Option D) → came.disk ≡ o → RunsSession meaning file old new ran
-    by None is = (let none = unopened is in inl (record { none = same ∙ is; status_is = status ∙ ap status_of none.0; rose = none.1; silent = silent }))
-    by (Some disk) is = inr (inl (record {
-      disk = disk;
-      disk_is = same ∙ is;
-      report = came.report;
-      refuses = subst (λ (o : Option D). IfSome o (λ disk. RefusesIn meaning file old.shelf disk came.report)) is refuses;
-      status_is = status;
-      silent = silent;
-    }))
-
 abbrev came_as : {D : Type 0} → Status → Option D → Came D
 came_as status disk = record { status = status; disk = disk }
 
 same_came : {D : Type 0} (came ran : Came D) → ran.status ≡ came.status → ran.disk ≡ came.disk → came ≡ ran
 same_came {D} came ran status disk = sym (ap (λ (s : Status). came_as s ran.disk) status ∙ ap (λ (d : Option D). came_as came.status d) disk)
 
-pub runs_session : {D : Type 0} (meaning : D → Meaning) (request : Option Request) (file : List ℕ) (old new : Outside D) (links : Links) (came ran : Came D) (load : Option MemDisk) → request ≡ Some (session file)
-    → RunsSession meaning file old new came → ran.status ≡ came.status → ran.disk ≡ came.disk → Runs meaning request old new links ran load
-runs_session {D} meaning request file old new links came ran load is runs status disk = subst (λ (q : Option Request). Runs meaning q old new links ran load) (sym is)
-    (subst (λ (r : Came D). RunsSession meaning file old new r) (same_came came ran status disk) runs)
+pub runs_session : {D : Type 0} (meaning : D → Meaning) (tells : ℕ → Type 0) (request : Option Request) (file : List ℕ) (old new : Outside D) (links : Links) (came ran : Came D) (load : Option MemDisk) → request ≡ Some (session file)
+    → RunsSession meaning tells file old new came → ran.status ≡ came.status → ran.disk ≡ came.disk → Runs meaning tells request old new links ran load
+runs_session {D} meaning tells request file old new links came ran load is runs status disk = subst (λ (q : Option Request). Runs meaning tells q old new links ran load) (sym is)
+    (subst (λ (r : Came D). RunsSession meaning tells file old new r) (same_came came ran status disk) runs)

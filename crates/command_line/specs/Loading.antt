@@ -37,7 +37,7 @@ pub record HoldsAll (header : Header) (h : List Entry) (disk : MemDisk) : Type 0
 pub record IsClosed (s : State) (disk : MemDisk) : Type 0 where
   pub disk_is : told_of disk ≡ s.disk
   pub whole : IsWhole (told_of disk)
-  pub sound : IsSound s.opening s.history s.disk
+  pub sound : IsSound s.opening s.history s.sealed s.disk
 
 abbrev pub Closes : Option State → Option MemDisk → Type 0
 Closes None None = Unit {0}

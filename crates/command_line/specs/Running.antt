@@ -1,10 +1,10 @@
 -- What a run of the program does, by what its words ask for.
 --     RunsLine report ..      the report's line is written, and no file is opened
 --     RunsInit meaning file capacity .., RunsFsck meaning file ..      what is reported of the file of this name
---     RunsSession meaning file ..      one connection is served on the repository in it, or it wasn't opened and nothing is written
+--     RunsSession meaning tells file ..      one connection is served on the repository in it, by a clock that tells such moments, or it wasn't opened and nothing is written
 --     RunsServe meaning file lanes connections ..      connections are served on the repository in it
 --     RunsGen seed stacks clients ..      a load is made in memory, and no file is opened
---     LacksMemory request ..      there was no memory to read the words;  Runs meaning request ..      by what is asked for
+--     LacksMemory request ..      there was no memory to read the words;  Runs meaning tells request ..      by what is asked for
 --     takes_links request      the command takes links;  makes_load request      it makes a load
 use Rattle.std.specs.Prelude.{◌≡◌, ◌⊎◌, ℕ, Bool, true, false, List, Option, None, Some, MatchOption}
 use Rattle.ports.specs.Faults.{Rose}
@@ -77,8 +77,8 @@ pub record FindsNoRepository {D : Type 0} (meaning : D → Meaning) (file : List
   pub status_is : ran.status ≡ status_of report
   pub silent : new.link ≡ old.link
 
-abbrev pub RunsSession : {D : Type 0} → (D → Meaning) → List ℕ → Outside D → Outside D → Came D → Type 0
-RunsSession meaning file old new ran = FindsNoFile old new ran ⊎ FindsNoRepository meaning file old new ran ⊎ ServesFile meaning file old.shelf old.link new.link ran
+abbrev pub RunsSession : {D : Type 0} → (D → Meaning) → (ℕ → Type 0) → List ℕ → Outside D → Outside D → Came D → Type 0
+RunsSession meaning tells file old new ran = FindsNoFile old new ran ⊎ FindsNoRepository meaning file old new ran ⊎ ServesFile meaning tells file old.shelf old.link new.link ran
 
 -- ---- connections
 
@@ -145,12 +145,12 @@ pub record LacksMemory {D : Type 0} (request : Option Request) (old new : Outsid
   pub untaken : TakesNone links
   pub unloaded : load ≡ None
 
-abbrev pub Runs : {D : Type 0} → (D → Meaning) → Option Request → Outside D → Outside D → Links → Came D → Option MemDisk → Type 0
-Runs meaning (Some (init file capacity)) old new links ran load = RunsInit meaning file capacity old new ran
-Runs meaning (Some (session file)) old new links ran load = RunsSession meaning file old new ran
-Runs meaning (Some (serve file address lanes derivers connections)) old new links ran load = RunsServe meaning file lanes connections old new links ran
-Runs meaning (Some (fsck file)) old new links ran load = RunsFsck meaning file old new ran
-Runs meaning (Some (gen seed stacks clients)) old new links ran load = RunsGen seed stacks clients old new ran load
-Runs meaning (Some help) old new links ran load = RunsLine report.Help old new ran
-Runs meaning (Some version) old new links ran load = RunsLine report.Version old new ran
-Runs meaning None old new links ran load = RunsLine report.Usage old new ran
+abbrev pub Runs : {D : Type 0} → (D → Meaning) → (ℕ → Type 0) → Option Request → Outside D → Outside D → Links → Came D → Option MemDisk → Type 0
+Runs meaning tells (Some (init file capacity)) old new links ran load = RunsInit meaning file capacity old new ran
+Runs meaning tells (Some (session file)) old new links ran load = RunsSession meaning tells file old new ran
+Runs meaning tells (Some (serve file address lanes derivers connections)) old new links ran load = RunsServe meaning file lanes connections old new links ran
+Runs meaning tells (Some (fsck file)) old new links ran load = RunsFsck meaning file old new ran
+Runs meaning tells (Some (gen seed stacks clients)) old new links ran load = RunsGen seed stacks clients old new ran load
+Runs meaning tells (Some help) old new links ran load = RunsLine report.Help old new ran
+Runs meaning tells (Some version) old new links ran load = RunsLine report.Version old new ran
+Runs meaning tells None old new links ran load = RunsLine report.Usage old new ran

@@ -3,9 +3,9 @@
 --     TakesLinks connections faulted links      how many were taken, and why no more
 --     served_report down faulted served entries      what is reported of the end
 --     ServesOpened meaning header opened journal read lanes connections links report left      connections are served on an opened repository, whose disk was told so once all was read
---     ClosesFile header opened journal first history m      what is so of the history and the disk in the end, of a repository that was opened so on this disk
+--     ClosesFile header opened journal first history sealed m      what is so of the history and the disk in the end, of a repository that was opened so on this disk, and of which so many stored entries are sealed
 --     ServesRepository meaning file shelf lanes connections links report left      they are served on the repository in the file that an opener tells for the name
-use Rattle.std.specs.Prelude.{◌≡◌, ◌⊎◌, ℕ, ◌+◌, ◌-◌, ◌^◌, ◌≤◌, Bool, true, false, if◌then◌else◌, IsTrue, All, List, Option, Some}
+use Rattle.std.specs.Prelude.{◌≡◌, ◌⊎◌, ℕ, ◌+◌, ◌-◌, ◌^◌, ◌≤◌, Bool, true, false, if◌then◌else◌, IsTrue, All, List, length, Option, Some}
 use Rattle.std.specs.Option.{ForSome}
 use mathlib.Core.List.{IsPrefix}
 use Rattle.ports.specs.Faults.{Rose}
@@ -19,7 +19,7 @@ use Rattle.reply_model.specs.Legal.{IsLegal}
 use Rattle.repo_journal.specs.View.{JournalView}
 use Rattle.repo_machine.specs.Counting.{counts_of}
 use Rattle.repo_machine.specs.Seats.{cleared}
-use Rattle.repo_state.specs.State.{Covers, IsSound, faults_in, opening_of}
+use Rattle.repo_state.specs.State.{Covers, IsAllSealed, IsSound, faults_in, opening_of}
 use Rattle.command_line.specs.declared.report.Report.{Report}
 use Rattle.command_line.specs.declared.report.Report.TheVariants.{DiskFault, Served, StreamFault}
 use Rattle.command_line.specs.Opening.{IsGiven, Opens}
@@ -41,17 +41,19 @@ pub record TakesLinks (connections : ℕ) (faulted : Bool) (links : Links) : Typ
 abbrev pub served_report : (down faulted : Bool) (served entries : ℕ) → Report
 served_report down faulted served entries = if down then DiskFault else (if faulted then StreamFault else Served served entries)
 
-pub record ClosesFile (header : Header) (opened : List Entry) (journal : JournalView) (first : Meaning) (history : List Entry) (m : Meaning) : Type 0 where
+pub record ClosesFile (header : Header) (opened : List Entry) (journal : JournalView) (first : Meaning) (history : List Entry) (sealed : ℕ) (m : Meaning) : Type 0 where
   pub legal : IsLegal header history
   pub begins : IsPrefix opened history
   -- no fault comes but with the disk's
   pub calm : IsCalm header history first
   pub covers : Covers (faults_in history) first.faults m.faults
   pub disk_fault : is_down history ≡ true → Rose first.faults m.faults
+  -- what the file was opened with is sealed
+  pub sealed_first : length opened ≤ sealed
   -- the file at the end, and what a crash leaves of it
   pub kept : Kept first m
   pub stands : IsTrue m.honest → is_down history ≡ false → ForSome m.reads (λ bytes. Stands header bytes history)
-  pub leaves : IsTrue m.honest → LeavesFile header opened history journal.opening.moment first m
+  pub leaves : IsTrue m.honest → LeavesFile header opened history sealed journal.opening.moment first m
 
 -- from the opened repository to the end
 pub record ServesOpened {D : Type 0} (meaning : D → Meaning) (header : Header) (opened : List Entry) (journal : JournalView) (read : Meaning) (lanes connections : ℕ) (links : Links) (report : Report) (left : Option D) : Type 0 where
@@ -61,7 +63,10 @@ pub record ServesOpened {D : Type 0} (meaning : D → Meaning) (header : Header)
   pub history : List Entry
   pub begins : IsPrefix (cleared opened) history
   pub seats : All (λ (e : Entry). e.who ≤ lanes) history
-  pub sound : IsSound (opening_of header journal.opening read) history (meaning disk)
+  -- nothing waits to be sealed, unless the disk failed
+  pub sealed : ℕ
+  pub all_sealed : IsAllSealed history sealed
+  pub sound : IsSound (opening_of header journal.opening read) history sealed (meaning disk)
   pub faulted : Bool
   pub takes : TakesLinks connections faulted links
   pub report_is : report ≡ served_report (is_down history) faulted links.served (counts_of history).entries
@@ -79,7 +84,10 @@ pub record ServesRepository {D : Type 0} (meaning : D → Meaning) (file : List 
   pub opens : Opens header opened journal (meaning first) read
   -- the history at the end, each of whose entries is of a seat with a number up to that of the lanes
   pub history : List Entry
-  pub closes : ClosesFile header opened journal (meaning first) history (meaning disk)
+  -- nothing waits to be sealed, unless the disk failed: then what waited may be in the file or not
+  pub sealed : ℕ
+  pub all_sealed : IsAllSealed history sealed
+  pub closes : ClosesFile header opened journal (meaning first) history sealed (meaning disk)
   pub seats : All (λ (e : Entry). e.who ≤ lanes) history
   -- the links, of which the last call may have failed
   pub faulted : Bool

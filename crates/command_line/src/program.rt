@@ -15,7 +15,7 @@ use crate::serve::run_serve;
 use crate::session::run_session;
 use crate::{Outcome, Report, Status, end_run, fsck_file, init_file};
 use blob_disk::Disk;
-use ports::{Accept, Gate, Link, Opener};
+use ports::{Accept, Clock, Gate, Link, Opener};
 use program_words::{Command, WordsFault, asks_session, read_words};
 use std::alloc::Global;
 use std::hash::RandomState;
@@ -59,7 +59,7 @@ fn lack_memory<D: Drop, L: Link>(words: &[String], link: &mut L) -> Came<D>
 }
 
 // Runs a command, once its words are read.
-fn run_command<R, D, O, L, A, K, G>(
+fn run_command<R, D, O, L, A, K, G, C>(
     rt: &R,
     alloc: Global,
     keys: RandomState,
@@ -68,6 +68,7 @@ fn run_command<R, D, O, L, A, K, G>(
     opener: &mut O,
     accept: A,
     gate: &G,
+    clock: &C,
 ) -> Ran<D, A, K>
 where
     R: Threads + Wait + Sync,
@@ -77,8 +78,9 @@ where
     A: Accept<K> + Send,
     K: Link + Send,
     G: Gate + Sync,
+    C: Clock + Sync,
     requires { IsInRange command }
-    ensures runs { Runs D.meaning (Some (said_of command.entry)) (outside O.shelf O.faults L.rest L.written L.faults opener.old link.old) (outside O.shelf O.faults L.rest L.written L.faults opener.new link.new) (links A.given A.over A.faults accept result.accept result.served) (record { status = result.status; disk = result.disk }) result.load }
+    ensures runs { Runs D.meaning (C.tells clock.now) (Some (said_of command.entry)) (outside O.shelf O.faults L.rest L.written L.faults opener.old link.old) (outside O.shelf O.faults L.rest L.written L.faults opener.new link.new) (links A.given A.over A.faults accept result.accept result.served) (record { status = result.status; disk = result.disk }) result.load }
     ensures served { IsServed (links A.given A.over A.faults accept result.accept result.served) }
     ensures apart { takes_links (Some (said_of command.entry)) ≡ false → (result.served ≡ 0) × (result.accept ≡ accept) }
     ensures unloaded { makes_load (Some (said_of command.entry)) ≡ false → result.load ≡ None }
@@ -87,7 +89,10 @@ where
         Command::Init { file, capacity } => {
             apart(tell(init_file(opener, file, capacity), link), accept)
         }
-        Command::Session { file } => apart(run_session(alloc, keys, file, link, opener), accept),
+        Command::Session { file } => apart(
+            run_session(alloc, keys, file, link, opener, clock),
+            accept,
+        ),
         Command::Serve {
             file,
             lanes,
@@ -106,6 +111,7 @@ where
             opener,
             accept,
             gate,
+            clock,
         ),
         Command::Fsck { file } => apart(tell(fsck_file(alloc, keys, opener, file), link), accept),
         Command::Gen {
@@ -123,9 +129,10 @@ where
 
 /// Runs the program on its words, of which the first is its name. `init` and `fsck` report in one line what they found
 /// of a file. `session` serves one connection over the link. `serve` serves the connections that the accept gives, in lanes, and
-/// reports how many they were. `gen` makes a generated load in memory, and reports what it came to.
+/// reports how many they were. Landings are made at the moments that the clock tells. `gen` makes a generated load in memory,
+/// and reports what it came to.
 /// The tables by ids are hashed with these keys, so that whoever doesn't know them can't choose ids which make them slow.
-pub fn run<R, D, O, L, A, K, G>(
+pub fn run<R, D, O, L, A, K, G, C>(
     rt: &R,
     alloc: Global,
     keys: RandomState,
@@ -134,6 +141,7 @@ pub fn run<R, D, O, L, A, K, G>(
     opener: &mut O,
     accept: A,
     gate: &G,
+    clock: &C,
 ) -> Ran<D, A, K>
 where
     R: Threads + Wait + Sync,
@@ -143,14 +151,15 @@ where
     A: Accept<K> + Send,
     K: Link + Send,
     G: Gate + Sync,
-    ensures runs { Runs D.meaning (command_of (map string_bytes words.now)) (outside O.shelf O.faults L.rest L.written L.faults opener.old link.old) (outside O.shelf O.faults L.rest L.written L.faults opener.new link.new) (links A.given A.over A.faults accept result.accept result.served) (record { status = result.status; disk = result.disk }) result.load
+    C: Clock + Sync,
+    ensures runs { Runs D.meaning (C.tells clock.now) (command_of (map string_bytes words.now)) (outside O.shelf O.faults L.rest L.written L.faults opener.old link.old) (outside O.shelf O.faults L.rest L.written L.faults opener.new link.new) (links A.given A.over A.faults accept result.accept result.served) (record { status = result.status; disk = result.disk }) result.load
         ⊎ LacksMemory (command_of (map string_bytes words.now)) (outside O.shelf O.faults L.rest L.written L.faults opener.old link.old) (outside O.shelf O.faults L.rest L.written L.faults opener.new link.new) (links A.given A.over A.faults accept result.accept result.served) (record { status = result.status; disk = result.disk }) result.load }
     ensures served { IsServed (links A.given A.over A.faults accept result.accept result.served) }
     ensures apart { takes_links (command_of (map string_bytes words.now)) ≡ false → (result.served ≡ 0) × (result.accept ≡ accept) }
     ensures unloaded { makes_load (command_of (map string_bytes words.now)) ≡ false → result.load ≡ None }
 {
     match read_words(alloc, words) {
-        Ok(command) => run_command(rt, alloc, keys, command, link, opener, accept, gate),
+        Ok(command) => run_command(rt, alloc, keys, command, link, opener, accept, gate, clock),
         Err(WordsFault::Usage) => apart(say(Report::Usage, link), accept),
         Err(WordsFault::Memory) => apart(lack_memory(words, link), accept),
     }

@@ -2,7 +2,7 @@
 ghost use Rattle.std.specs.Prelude.{◌≡◌, ◌≤◌, All, IfNone, IfSome, None};
 ghost use mathlib.Core.List.{IsPrefix};
 ghost use Rattle.disk_model.specs.Meaning.{IsSound};
-ghost use Rattle.repo_state.specs.State.{IsSound as IsSoundState};
+ghost use Rattle.repo_state.specs.State.{IsAllSealed, IsSound as IsSoundState};
 ghost use Rattle.history_model.specs.History.{Entry, is_down, stored};
 ghost use Rattle.reply_model.specs.Legal.{IsLegal};
 ghost use Rattle.repo_journal.specs.Opened.{IsOpened};
@@ -18,7 +18,7 @@ use crate::watched::{Since, Watched};
 use crate::{OpenedFile, Report, end_run, open_file};
 use blob_disk::Disk;
 use http_front::connection::ServedLinks;
-use ports::{Accept, Gate, Link, Opener};
+use ports::{Accept, Clock, Gate, Link, Opener};
 use repo_state::RepoState;
 use server_lanes::{Closing, serve_all};
 use std::alloc::Global;
@@ -29,8 +29,8 @@ use std::thread::Threads;
 
 /// Serves the connections that the accept gives on the repository in the file of this name, so many at most and in so many lanes,
 /// while so many derivers derive ahead, and reports the end in one line. No connection is taken where the file or the repository
-/// in it isn't opened.
-pub(crate) fn run_serve<R, D, O, L, A, K, G>(
+/// in it isn't opened. The clock is read once for each landing.
+pub(crate) fn run_serve<R, D, O, L, A, K, G, C>(
     rt: &R,
     alloc: Global,
     keys: RandomState,
@@ -42,6 +42,7 @@ pub(crate) fn run_serve<R, D, O, L, A, K, G>(
     opener: &mut O,
     accept: A,
     gate: &G,
+    clock: &C,
 ) -> Ran<D, A, K>
 where
     R: Threads + Wait + Sync,
@@ -51,6 +52,7 @@ where
     A: Accept<K> + Send,
     K: Link + Send,
     G: Gate + Sync,
+    C: Clock + Sync,
     requires { (1 ≤ lanes) × (lanes ≤ 16) × (derivers ≤ 8) }
     ensures runs { RunsServe D.meaning file.now lanes connections (outside O.shelf O.faults L.rest L.written L.faults opener.old link.old) (outside O.shelf O.faults L.rest L.written L.faults opener.new link.new) (links A.given A.over A.faults accept result.accept result.served) (record { status = result.status; disk = result.disk }) }
     ensures served { IsServed (links A.given A.over A.faults accept result.accept result.served) }
@@ -67,13 +69,14 @@ where
             link,
             accept,
             gate,
+            clock,
         ),
         Err(outcome) => apart(tell(outcome, link), accept),
     }
 }
 
 // Where no state comes back, there was no memory to begin.
-fn serve_opened<R, D, L, A, K, G>(
+fn serve_opened<R, D, L, A, K, G, C>(
     rt: &R,
     alloc: Global,
     opened: OpenedFile<D>,
@@ -83,6 +86,7 @@ fn serve_opened<R, D, L, A, K, G>(
     link: &mut L,
     accept: A,
     gate: &G,
+    clock: &C,
 ) -> Ran<D, A, K>
 where
     R: Threads + Wait + Sync,
@@ -91,6 +95,7 @@ where
     A: Accept<K> + Send,
     K: Link + Send,
     G: Gate + Sync,
+    C: Clock + Sync,
     requires opened { IsOpened opened.machine.header opened.machine.history opened.journal (D.meaning opened.disk) }
     requires legal { IsLegal opened.machine.header opened.machine.history }
     requires stored { opened.machine.history ≡ stored opened.machine.history }
@@ -106,12 +111,13 @@ where
         disk,
     } = opened;
     let state = RepoState::new(alloc, machine, journal, disk);
-    let left = serve_watched::<R, D, A, K, G, Brand>(
+    let left = serve_watched::<R, D, A, K, G, C, Brand>(
         rt,
         alloc,
         state,
         accept,
         gate,
+        clock,
         lanes,
         derivers,
         connections,
@@ -150,12 +156,13 @@ struct Left<D: Disk, A, K: Drop> {
 }
 
 // Serves the connections of an accept that has failed so often as the last type parameter names.
-fn serve_watched<R, D, A, K, G, N>(
+fn serve_watched<R, D, A, K, G, C, N>(
     rt: &R,
     alloc: Global,
     state: RepoState<D>,
     accept: A,
     gate: &G,
+    clock: &C,
     lanes: u64,
     derivers: u64,
     connections: u64,
@@ -166,7 +173,9 @@ where
     A: Accept<K> + Send,
     K: Link + Send,
     G: Gate + Sync,
+    C: Clock + Sync,
     N: Since + Send,
+    requires sealed { IsAllSealed state.history state.sealed }
     requires since { A.faults accept ≡ N.faults }
     requires lanes { (1 ≤ lanes) × (lanes ≤ 16) }
     requires derivers { derivers ≤ 8 }
@@ -176,6 +185,7 @@ where
     ensures opening { IfSome result.state (λ s. s.opening ≡ state.opening) }
     ensures begins { IfSome result.state (λ s. IsPrefix (cleared state.history) s.history) }
     ensures seats { IfSome result.state (λ s. All (λ (e : Entry). e.who ≤ lanes) s.history) }
+    ensures sealed { IfSome result.state (λ s. IsAllSealed s.history s.sealed) }
 {
     let watched = Watched::<A, K, N>::new(accept);
     let closing = serve_all(
@@ -184,6 +194,7 @@ where
         state,
         watched,
         gate,
+        clock,
         lanes,
         derivers,
         connections,
@@ -206,7 +217,7 @@ where
 pub(crate) fn closed<D: Disk>(state: RepoState<D>) -> D
     ensures disk { D.meaning result ≡ state.disk }
     ensures whole { IsSound (D.meaning result) }
-    ensures state { IsSoundState state.opening state.history state.disk }
+    ensures state { IsSoundState state.opening state.history state.sealed state.disk }
 {
     state.into_disk()
 }

@@ -12,8 +12,8 @@ use crate::{OpenedFile, Outcome, Status, open_file};
 use blob_disk::Disk;
 use http_front::ended::Ended;
 use http_front::session::serve_session;
-use ports::{Link, Opener};
-use repo_state::RepoState;
+use ports::{Clock, Link, Opener};
+use repo_state::{Alone, RepoState};
 use std::alloc::Global;
 use std::hash::RandomState;
 
@@ -42,18 +42,19 @@ fn session_status(down: bool, end: Ended) -> Status
 }
 
 /// Serves one connection on the repository in the file of this name, and writes nothing where the file or the
-/// repository in it isn't opened.
-pub(crate) fn run_session<D: Disk, O: Opener<D>, L: Link>(
+/// repository in it isn't opened. The clock is read once for each landing.
+pub(crate) fn run_session<D: Disk, O: Opener<D>, L: Link, C: Clock>(
     alloc: Global,
     keys: RandomState,
     file: &str,
     link: &mut L,
     opener: &mut O,
+    clock: &C,
 ) -> Came<D>
-    ensures { RunsSession D.meaning file.now (outside O.shelf O.faults L.rest L.written L.faults opener.old link.old) (outside O.shelf O.faults L.rest L.written L.faults opener.new link.new) result }
+    ensures { RunsSession D.meaning (C.tells clock.now) file.now (outside O.shelf O.faults L.rest L.written L.faults opener.old link.old) (outside O.shelf O.faults L.rest L.written L.faults opener.new link.new) result }
 {
     match open_file(alloc, keys, opener, file) {
-        Ok(opened) => serve_file(alloc, opened, link),
+        Ok(opened) => serve_file(alloc, opened, link, clock),
         Err(Outcome { report, disk }) => Came {
             status: report.status(),
             disk,
@@ -61,19 +62,25 @@ pub(crate) fn run_session<D: Disk, O: Opener<D>, L: Link>(
     }
 }
 
-fn serve_file<D: Disk, L: Link>(alloc: Global, opened: OpenedFile<D>, link: &mut L) -> Came<D>
+fn serve_file<D: Disk, L: Link, C: Clock>(
+    alloc: Global,
+    opened: OpenedFile<D>,
+    link: &mut L,
+    clock: &C,
+) -> Came<D>
     requires opened { IsOpened opened.machine.header opened.machine.history opened.journal (D.meaning opened.disk) }
     requires legal { IsLegal opened.machine.header opened.machine.history }
     requires stored { opened.machine.history ≡ stored opened.machine.history }
-    ensures { Serves D.meaning opened.machine.header opened.machine.history opened.journal (D.meaning opened.disk) (told L.rest L.written L.faults link.old) (told L.rest L.written L.faults link.new) result }
+    ensures { Serves D.meaning (C.tells clock.now) opened.machine.header opened.machine.history opened.journal (D.meaning opened.disk) (told L.rest L.written L.faults link.old) (told L.rest L.written L.faults link.new) result }
 {
     let OpenedFile {
         machine,
         journal,
         disk,
     } = opened;
-    let mut state = RepoState::new(alloc, machine, journal, disk);
-    let end = serve_session(alloc, &mut state, link);
+    let mut alone = Alone::new(RepoState::new(alloc, machine, journal, disk));
+    let end = serve_session(alloc, &mut alone, link, clock);
+    let state = alone.into_state();
     let status = session_status(state.down(), end);
     Came {
         status,

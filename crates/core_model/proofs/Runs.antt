@@ -1,5 +1,6 @@
 -- Worked examples on whole histories, which hold by computing, digests included.
 use Rattle.std.specs.Prelude.{◌≡◌, ℕ, ◌+◌, true, false, List, [], ◌∷◌, ◌++◌, length, map, replicate, codes, Option, Some, None, Ok, Err, refl, option_map, take}
+use Rattle.std.proofs.Common.{inl, inr}
 use Rattle.std.specs.Str.{is_utf8, chars}
 use Rattle.sha2.specs.Sha256.{sha256, digest_bytes, hash_after, compress, rounds, schedule, first_words}
 use Rattle.byte_fields.specs.Bytes.{Id}
@@ -15,14 +16,15 @@ use Rattle.manifest_model.specs.Fsnode.{fsnode, fsnode_bytes}
 use Rattle.manifest_model.specs.Unode.{Unode, Manifest, FileUnode, UnodeFile, UnodeDir, unode, unode_id, unode_bytes}
 use Rattle.reply_model.specs.Reply.{ChangesetPut, NoBookmark, NoChangeset, NoRoot, Merge, BadEncoding, Down, ContentPut, PutContent, PutChangeset, SetBookmark, LandDraft, BookmarkSet, Landed, judge, NoParent, NoContent, WrongSize, Moved, AlreadyIn, Clash, Full, SeenIds, NoPath, seen_history}
 use Rattle.reply_model.specs.Legal.{IsLegal}
-use Rattle.reply_model.specs.Opening.{opens, NotARepository, Damaged}
+use Rattle.reply_model.specs.Opening.{nobody, opens, NotARepository, Damaged}
 use Rattle.manifest_model.specs.FileHistory.{file_history}
 use Rattle.manifest_model.specs.Manifests.{nodes_of}
 use Rattle.reply_model.proofs.Examples.{by_a, set_abc, set_nil, delete, on, B, C, X, S, main, after, starting, uploads}
 use Rattle.history_model.specs.Payload.{payload_body}
 use Rattle.manifest_model.specs.NodeReading.{fsnode_of, unode_of}
+use Rattle.changeset_model.specs.Version.{First}
 use Rattle.reply_model.specs.After.{After, Asks, Grants, DiskFault}
-use Rattle.core_model.specs.Core.{Step, Exchange, WriteRecord, SyncRecord, OpenGate, Seal, Acknowledge, TakeJob, Settle, Crash, nodes_among, opened, after_steps}
+use Rattle.core_model.specs.Core.{Step, Exchange, WriteGroup, SyncGroup, OpenGate, Seal, Acknowledge, TakeJob, Settle, Crash, nodes_among, opened, after_steps}
 
 -- ---- a content, and the same again
 
@@ -38,9 +40,9 @@ grows = refl
 
 -- of one changeset on `main`
 abbrev landing : Id → Id → Changeset → Landing
-landing old draft new = record { name = main; old = old; draft = draft; new = new ∷ [] }
+landing old draft new = record { name = main; old = old; draft = draft; new = new ∷ []; moment = None; caller = None }
 
-lands_unchanged : judge (record { capacity = 65536 }) (starting B (C ∷ [])) (LandDraft main (id_of C)) ≡ Ok (record { granted = Landed (id_of B) (id_of C ∷ []); made = Some (Land (landing (id_of B) (id_of C) C)) })
+lands_unchanged : judge (record { capacity = 65536; version = First }) (starting B (C ∷ [])) (LandDraft nobody main (id_of C) 0) ≡ Ok (record { granted = Landed (id_of B) (id_of C ∷ []); made = Some (Land (landing (id_of B) (id_of C) C)) })
 unfolding is_utf8 chars lib.Utf8.encode sha256 digest_bytes hash_after compress rounds schedule first_words
 lands_unchanged = refl
 
@@ -48,30 +50,30 @@ landing_len : (payload_len (Land (landing (id_of B) (id_of C) C)) ≡ 179) × (r
 unfolding is_utf8 chars lib.Utf8.encode sha256 digest_bytes hash_after compress rounds schedule first_words
 landing_len = (refl, refl)
 
-lands_once : judge (record { capacity = 65536 }) (after (starting B (C ∷ [])) (LandDraft main (id_of C) ∷ [])) (LandDraft main (id_of C)) ≡ Err AlreadyIn
+lands_once : judge (record { capacity = 65536; version = First }) (after (starting B (C ∷ [])) (LandDraft nobody main (id_of C) 0 ∷ [])) (LandDraft nobody main (id_of C) 0) ≡ Err AlreadyIn
 unfolding is_utf8 chars lib.Utf8.encode sha256 digest_bytes hash_after compress rounds schedule first_words
 lands_once = refl
 
 -- `main` at X, and S a draft beside X
 abbrev main_at_X : List Entry
-main_at_X = after (starting B (X ∷ S ∷ [])) (SetBookmark main (Some (id_of B)) (Some (id_of X)) ∷ [])
+main_at_X = after (starting B (X ∷ S ∷ [])) (SetBookmark nobody main (Some (id_of B)) (Some (id_of X)) ∷ [])
 
 abbrev S_on_X : Changeset
 S_on_X = on X (set_nil (codes "y") ∷ [])
 
-lands_behind : judge (record { capacity = 65536 }) main_at_X (LandDraft main (id_of S)) ≡ Ok (record { granted = Landed (id_of X) (id_of S_on_X ∷ []); made = Some (Land (landing (id_of X) (id_of S) S_on_X)) })
+lands_behind : judge (record { capacity = 65536; version = First }) main_at_X (LandDraft nobody main (id_of S) 0) ≡ Ok (record { granted = Landed (id_of X) (id_of S_on_X ∷ []); made = Some (Land (landing (id_of X) (id_of S) S_on_X)) })
 unfolding is_utf8 chars lib.Utf8.encode sha256 digest_bytes hash_after compress rounds schedule first_words
 lands_behind = refl
 
 -- once it has landed
 abbrev S_landed : List Entry
-S_landed = after main_at_X (LandDraft main (id_of S) ∷ [])
+S_landed = after main_at_X (LandDraft nobody main (id_of S) 0 ∷ [])
 
 both_files : map (λ f. text_of f.0) (files_of (known S_landed) (id_of S_on_X)) ≡ codes "x" ∷ codes "y" ∷ []
 unfolding is_utf8 chars lib.Utf8.encode sha256 digest_bytes hash_after compress rounds schedule first_words
 both_files = refl
 
-lands_with_clash : judge (record { capacity = 65536 }) S_landed (LandDraft main (id_of S)) ≡ Err (Clash (elements (codes "y")) (elements (codes "y")))
+lands_with_clash : judge (record { capacity = 65536; version = First }) S_landed (LandDraft nobody main (id_of S) 0) ≡ Err (Clash (elements (codes "y")) (elements (codes "y")))
 unfolding is_utf8 chars lib.Utf8.encode sha256 digest_bytes hash_after compress rounds schedule first_words
 lands_with_clash = refl
 
@@ -80,7 +82,7 @@ abbrev empty : Changeset
 empty = on B []
 
 abbrev twice_landed : List Entry
-twice_landed = after S_landed (PutChangeset (spelling empty) ∷ LandDraft main (id_of empty) ∷ LandDraft main (id_of empty) ∷ [])
+twice_landed = after S_landed (PutChangeset (spelling empty) ∷ LandDraft nobody main (id_of empty) 0 ∷ LandDraft nobody main (id_of empty) 0 ∷ [])
 
 lands_twice : (length twice_landed ≡ length S_landed + 3) × (head twice_landed main ≡ Some (id_of (on (on S_on_X []) [])))
 unfolding is_utf8 chars lib.Utf8.encode sha256 digest_bytes hash_after compress rounds schedule first_words
@@ -175,26 +177,26 @@ deleted_p = refl
 
 -- ---- room, and where a bookmark stands
 
-fits_exactly : (is_full (record { capacity = 4096 }) [] (1 + 4073) ≡ false) × (judge (record { capacity = 4096 }) [] (PutContent (replicate 4074 0)) ≡ Err (Full 17 4075))
+fits_exactly : (is_full (record { capacity = 4096; version = First }) [] (1 + 4073) ≡ false) × (judge (record { capacity = 4096; version = First }) [] (PutContent (replicate 4074 0)) ≡ Err (Full 17 4075))
 fits_exactly = (refl, refl)
 
-moved : judge (record { capacity = 65536 }) (starting B (X ∷ [])) (SetBookmark main None (Some (id_of X))) ≡ Err (Moved (Some (id_of B)))
+moved : judge (record { capacity = 65536; version = First }) (starting B (X ∷ [])) (SetBookmark nobody main None (Some (id_of X))) ≡ Err (Moved (Some (id_of B)))
 unfolding is_utf8 chars lib.Utf8.encode sha256 digest_bytes hash_after compress rounds schedule first_words
 moved = refl
 
-stays : judge (record { capacity = 65536 }) (starting B []) (SetBookmark main (Some (id_of B)) (Some (id_of B))) ≡ Ok (record { granted = BookmarkSet; made = None })
+stays : judge (record { capacity = 65536; version = First }) (starting B []) (SetBookmark nobody main (Some (id_of B)) (Some (id_of B))) ≡ Ok (record { granted = BookmarkSet; made = None })
 unfolding is_utf8 chars lib.Utf8.encode sha256 digest_bytes hash_after compress rounds schedule first_words
 stays = refl
 
-unknown_parent : judge (record { capacity = 65536 }) [] (PutChangeset (spelling X)) ≡ Err (NoParent (id_of B))
+unknown_parent : judge (record { capacity = 65536; version = First }) [] (PutChangeset (spelling X)) ≡ Err (NoParent (id_of B))
 unfolding is_utf8 chars lib.Utf8.encode sha256 digest_bytes hash_after compress rounds schedule first_words
 unknown_parent = refl
 
-unknown_content : judge (record { capacity = 65536 }) (after [] (uploads (B ∷ []))) (PutChangeset (spelling X)) ≡ Err (NoContent (elements (codes "x")) (sha256 (codes "abc")))
+unknown_content : judge (record { capacity = 65536; version = First }) (after [] (uploads (B ∷ []))) (PutChangeset (spelling X)) ≡ Err (NoContent (elements (codes "x")) (sha256 (codes "abc")))
 unfolding is_utf8 chars lib.Utf8.encode sha256 digest_bytes hash_after compress rounds schedule first_words
 unknown_content = refl
 
-wrong_size : judge (record { capacity = 65536 }) (after [] (PutContent (codes "abc") ∷ [])) (PutChangeset (spelling (by_a [] ((elements (codes "x"), Set (record { content = sha256 (codes "abc"); kind = Regular; size = 4 })) ∷ [])))) ≡ Err (WrongSize (elements (codes "x")) 4 3)
+wrong_size : judge (record { capacity = 65536; version = First }) (after [] (PutContent (codes "abc") ∷ [])) (PutChangeset (spelling (by_a [] ((elements (codes "x"), Set (record { content = sha256 (codes "abc"); kind = Regular; size = 4 }) None) ∷ [])))) ≡ Err (WrongSize (elements (codes "x")) 4 3)
 unfolding is_utf8 chars lib.Utf8.encode sha256 digest_bytes hash_after compress rounds schedule first_words
 wrong_size = refl
 
@@ -204,15 +206,15 @@ abbrev one : List Entry
 one = unnumbered (Content (sha256 (codes "abc")) 3) ∷ []
 
 -- a file of 26 bytes, and what follows its closing gate
-file_of_one : (after_it : List ℕ) → Stands (record { capacity = 65536 }) (0x42 ∷ 0x4F ∷ 0x4E ∷ 0x53 ∷ 0x41 ∷ 0x49 ∷ 0x00 ∷ 0x01 ∷ 0x00 ∷ 0x00 ∷ 0x00 ∷ 0x00 ∷ 0x00 ∷ 0x01 ∷ 0x00 ∷ 0x00 ∷ 0x01 ∷ 0x00 ∷ 0x00 ∷ 0x00 ∷ 0x04 ∷ 0x42 ∷ 0x61 ∷ 0x62 ∷ 0x63 ∷ 0x00 ∷ after_it) one
-file_of_one after_it = (refl, _, refl, (0x42 ∷ codes "abc", _, (codes "abc", (refl, refl), refl), refl, (0, after_it, refl, λ e. cc)))
+file_of_one : (after_it : List ℕ) → Stands (record { capacity = 65536; version = First }) (0x42 ∷ 0x4F ∷ 0x4E ∷ 0x53 ∷ 0x41 ∷ 0x49 ∷ 0x00 ∷ 0x01 ∷ 0x00 ∷ 0x00 ∷ 0x00 ∷ 0x00 ∷ 0x00 ∷ 0x01 ∷ 0x00 ∷ 0x00 ∷ 0x01 ∷ 0x00 ∷ 0x00 ∷ 0x00 ∷ 0x04 ∷ 0x42 ∷ 0x61 ∷ 0x62 ∷ 0x63 ∷ 0x00 ∷ after_it) one
+file_of_one after_it = (refl, _, refl, (0x42 ∷ codes "abc", _, (codes "abc", (refl, refl), refl), refl, (0, after_it, refl, λ e. cc)), (tt, tt))
 
 payload_read : payload_body (payload (Land (landing (id_of B) (id_of C) C)) []) ≡ Ok (Land (landing (id_of B) (id_of C) C))
 unfolding is_utf8 chars lib.Utf8.encode sha256 digest_bytes hash_after compress rounds schedule first_words
 payload_read = refl
 
 -- a field that is cut off, and a spelling that is wrong within its field
-payload_faults : map payload_body ([] ∷ (0x41 ∷ []) ∷ (0x43 ∷ 0x02 ∷ []) ∷ (0x4D ∷ 0x04 ∷ codes "mai") ∷ (0x4D ∷ 0x04 ∷ codes "ma/n" ++ 0 ∷ 0 ∷ []) ∷ (0x4D ∷ 0x04 ∷ codes "main" ++ 0 ∷ 2 ∷ []) ∷ []) ≡ Err 0 ∷ Err 0 ∷ Err 1 ∷ Err 2 ∷ Err 2 ∷ Err 7 ∷ []
+payload_faults : map payload_body ([] ∷ (0x40 ∷ []) ∷ (0x43 ∷ 0x02 ∷ []) ∷ (0x4D ∷ 0x04 ∷ codes "mai") ∷ (0x4D ∷ 0x04 ∷ codes "ma/n" ++ 0 ∷ 0 ∷ []) ∷ (0x4D ∷ 0x04 ∷ codes "main" ++ 0 ∷ 2 ∷ []) ∷ []) ≡ Err 0 ∷ Err 0 ∷ Err 1 ∷ Err 2 ∷ Err 2 ∷ Err 7 ∷ []
 unfolding is_utf8 chars lib.Utf8.encode sha256 digest_bytes hash_after compress rounds schedule first_words
 payload_faults = refl
 
@@ -248,51 +250,73 @@ unode_read = refl
 
 -- ---- a seat's front, and a crash
 
-front_after : After (record { capacity = 65536 }) [] 1 (Asks (PutContent (codes "abc"))) (Grants (ContentPut (sha256 (codes "abc")))) (record { who = 1; body = Content (sha256 (codes "abc")) 3 } ∷ [])
+-- what others made while the entry waited may stand behind it
+front_after : After (record { capacity = 65536; version = First }) [] 1 (Asks (PutContent (codes "abc"))) (Grants (ContentPut (sha256 (codes "abc")))) (record { who = 1; body = Content (sha256 (codes "abc")) 3 } ∷ record { who = 2; body = Content (sha256 []) 0 } ∷ [])
 front_after = record {
   before = [];
   made = record { entry = Some (Content (sha256 (codes "abc")) 3); fault = None };
-  grows = record { begins = ([], refl); own = refl; new_is = refl };
+  grows = record { begins = ([], refl); own = refl; stands = (_, refl); only = refl; last = λ no. absurd cc; failed = λ no. absurd cc };
   answers = (refl, refl);
 }
 
--- another seat's entry may lie between, and a change that meets a fault leaves no entry of its own
-front_after_fault : After (record { capacity = 65536 }) [] 1 (Asks (PutContent (codes "abc"))) DiskFault (record { who = 2; body = Content (sha256 []) 0 } ∷ record { who = 1; body = Fault true } ∷ [])
+-- another seat's entry may lie between, and a change that meets a fault before its entry is made leaves none
+front_after_fault : After (record { capacity = 65536; version = First }) [] 1 (Asks (PutContent (codes "abc"))) DiskFault (record { who = 2; body = Content (sha256 []) 0 } ∷ record { who = 1; body = Fault true } ∷ [])
 unfolding is_utf8 chars lib.Utf8.encode sha256 digest_bytes hash_after compress rounds schedule first_words
 front_after_fault = record {
   before = record { who = 2; body = Content (sha256 []) 0 } ∷ [];
   made = record { entry = None; fault = Some true };
-  grows = record { begins = (_, refl); own = refl; new_is = refl };
-  answers = (refl, ContentPut (sha256 (codes "abc")), Content (sha256 (codes "abc")) 3, refl);
+  grows = record { begins = (_, refl); own = refl; stands = (_, refl); only = refl; last = λ no. absurd cc; failed = λ is. refl };
+  answers = (refl, ContentPut (sha256 (codes "abc")), Some (Content (sha256 (codes "abc")) 3), refl, inl (refl, refl));
+}
+
+-- or its entry stands, and a seat that sealed it and others met the fault
+front_after_group : After (record { capacity = 65536; version = First }) [] 1 (Asks (PutContent (codes "abc"))) DiskFault (record { who = 1; body = Content (sha256 (codes "abc")) 3 } ∷ record { who = 2; body = Content (sha256 []) 0 } ∷ record { who = 2; body = Fault true } ∷ [])
+unfolding is_utf8 chars lib.Utf8.encode sha256 digest_bytes hash_after compress rounds schedule first_words
+front_after_group = record {
+  before = [];
+  made = record { entry = Some (Content (sha256 (codes "abc")) 3); fault = Some true };
+  grows = record { begins = ([], refl); own = refl; stands = (_, refl); only = refl; last = λ no. absurd cc; failed = λ is. refl };
+  answers = (refl, ContentPut (sha256 (codes "abc")), Some (Content (sha256 (codes "abc")) 3), refl, inr refl);
 }
 
 abbrev history_after : List Step → Option (List Entry)
-history_after steps = option_map (λ s. s.history) (after_steps (record { capacity = 65536 }) (opened []) steps)
+history_after steps = option_map (λ s. s.history) (after_steps (record { capacity = 65536; version = First }) (opened []) steps)
 
 abbrev put_abc : Step
 put_abc = Exchange 1 (PutContent (codes "abc"))
 
--- a crash may keep a record once its gate was to be opened, and not before
+-- a crash may keep a group once its gate was to be opened, and not before
 crashes : map history_after (
-    (put_abc ∷ WriteRecord true ∷ SyncRecord true ∷ Crash false ∷ [])
-    ∷ (put_abc ∷ WriteRecord true ∷ SyncRecord true ∷ Crash true ∷ [])
-    ∷ (put_abc ∷ WriteRecord true ∷ SyncRecord true ∷ OpenGate true ∷ Crash true ∷ [])
-    ∷ (put_abc ∷ WriteRecord true ∷ SyncRecord true ∷ OpenGate true ∷ Seal true ∷ Acknowledge 1 ∷ Crash false ∷ [])
-    ∷ (put_abc ∷ WriteRecord true ∷ SyncRecord false ∷ [])
+    (put_abc ∷ WriteGroup 1 true ∷ SyncGroup true ∷ Crash false ∷ [])
+    ∷ (put_abc ∷ WriteGroup 1 true ∷ SyncGroup true ∷ Crash true ∷ [])
+    ∷ (put_abc ∷ WriteGroup 1 true ∷ SyncGroup true ∷ OpenGate true ∷ Crash true ∷ [])
+    ∷ (put_abc ∷ WriteGroup 1 true ∷ SyncGroup true ∷ OpenGate true ∷ Seal true ∷ Acknowledge 1 ∷ Crash false ∷ [])
+    ∷ (put_abc ∷ WriteGroup 1 true ∷ SyncGroup false ∷ [])
+    ∷ (put_abc ∷ WriteGroup 1 true ∷ SyncGroup false ∷ Crash false ∷ [])
+    ∷ (put_abc ∷ Exchange 2 (PutContent []) ∷ WriteGroup 2 true ∷ SyncGroup true ∷ OpenGate true ∷ Seal true ∷ Acknowledge 1 ∷ Acknowledge 2 ∷ Crash false ∷ [])
+    ∷ (put_abc ∷ Acknowledge 1 ∷ [])
     ∷ [])
-    ≡ Some [] ∷ None ∷ Some one ∷ Some one ∷ Some (record { who = 1; body = Fault true } ∷ []) ∷ []
+    ≡ Some []
+    ∷ None
+    ∷ Some one
+    ∷ Some one
+    ∷ Some (record { who = 1; body = Content (sha256 (codes "abc")) 3 } ∷ record { who = 1; body = Fault true } ∷ [])
+    ∷ Some []
+    ∷ Some (unnumbered (Content (sha256 (codes "abc")) 3) ∷ unnumbered (Content (sha256 []) 0) ∷ [])
+    ∷ None
+    ∷ []
 unfolding is_utf8 chars lib.Utf8.encode sha256 digest_bytes hash_after compress rounds schedule first_words
 crashes = refl
 
 -- the table's changesets, and how many nodes it has
 abbrev table_after : List Step → Option (List Id × ℕ)
-table_after steps = option_map (λ s. (map (λ m. m.id) s.table, length (nodes_among s.table))) (after_steps (record { capacity = 65536 }) (opened (starting B (X ∷ []))) steps)
+table_after steps = option_map (λ s. (map (λ m. m.id) s.table, length (nodes_among s.table))) (after_steps (record { capacity = 65536; version = First }) (opened (starting B (X ∷ []))) steps)
 
 -- a job waits for its parent, a changeset is settled once, and a crash empties the table
 tables : map table_after (
     (TakeJob (id_of X) ∷ [])
     ∷ (TakeJob (id_of B) ∷ Settle (id_of B) ∷ TakeJob (id_of X) ∷ Settle (id_of X) ∷ Settle (id_of X) ∷ [])
-    ∷ (TakeJob (id_of B) ∷ Exchange 1 (PutChangeset (spelling C)) ∷ WriteRecord true ∷ SyncRecord true ∷ OpenGate true ∷ Seal true ∷ Settle (id_of B) ∷ [])
+    ∷ (TakeJob (id_of B) ∷ Exchange 1 (PutChangeset (spelling C)) ∷ WriteGroup 1 true ∷ SyncGroup true ∷ OpenGate true ∷ Seal true ∷ Settle (id_of B) ∷ [])
     ∷ (TakeJob (id_of B) ∷ Settle (id_of B) ∷ Crash false ∷ [])
     ∷ (TakeJob (id_of C) ∷ [])
     ∷ [])
@@ -302,11 +326,11 @@ tables = refl
 
 -- ---- other refusals
 
-refusals : map (judge (record { capacity = 65536 }) (starting B (X ∷ by_a [] (delete (codes "z") ∷ []) ∷ []))) (
-    LandDraft (codes "dev") (id_of X)
-    ∷ LandDraft main (sha256 [])
-    ∷ LandDraft main (id_of (by_a [] (delete (codes "z") ∷ [])))
-    ∷ SetBookmark main (Some (id_of B)) (Some (sha256 []))
+refusals : map (judge (record { capacity = 65536; version = First }) (starting B (X ∷ by_a [] (delete (codes "z") ∷ []) ∷ []))) (
+    LandDraft nobody (codes "dev") (id_of X) 0
+    ∷ LandDraft nobody main (sha256 []) 0
+    ∷ LandDraft nobody main (id_of (by_a [] (delete (codes "z") ∷ []))) 0
+    ∷ SetBookmark nobody main (Some (id_of B)) (Some (sha256 []))
     ∷ PutChangeset (spelling (by_a (id_of B ∷ id_of X ∷ []) []))
     ∷ PutChangeset (0x44 ∷ [])
     ∷ [])
@@ -314,17 +338,17 @@ refusals : map (judge (record { capacity = 65536 }) (starting B (X ∷ by_a [] (
 unfolding is_utf8 chars lib.Utf8.encode sha256 digest_bytes hash_after compress rounds schedule first_words
 refusals = refl
 
-down : judge (record { capacity = 65536 }) (starting B [] ++ record { who = 2; body = Fault true } ∷ []) (PutContent []) ≡ Err Down
+down : judge (record { capacity = 65536; version = First }) (starting B [] ++ record { who = 2; body = Fault true } ∷ []) (PutContent []) ≡ Err Down
 unfolding is_utf8 chars lib.Utf8.encode sha256 digest_bytes hash_after compress rounds schedule first_words
 down = refl
 
 -- a fault that isn't breaking stops nothing
-up : judge (record { capacity = 65536 }) (record { who = 2; body = Fault false } ∷ []) (PutContent (codes "abc")) ≡ Ok (record { granted = ContentPut (sha256 (codes "abc")); made = Some (Content (sha256 (codes "abc")) 3) })
+up : judge (record { capacity = 65536; version = First }) (record { who = 2; body = Fault false } ∷ []) (PutContent (codes "abc")) ≡ Ok (record { granted = ContentPut (sha256 (codes "abc")); made = Some (Content (sha256 (codes "abc")) 3) })
 unfolding is_utf8 chars lib.Utf8.encode sha256 digest_bytes hash_after compress rounds schedule first_words
 up = refl
 
 -- each entry of a landing's history may follow those before it
-legal : IsLegal (record { capacity = 65536 }) (after (starting B (C ∷ [])) (LandDraft main (id_of C) ∷ []))
+legal : IsLegal (record { capacity = 65536; version = First }) (after (starting B (C ∷ [])) (LandDraft nobody main (id_of C) 0 ∷ []))
 unfolding is_utf8 chars lib.Utf8.encode sha256 digest_bytes hash_after compress rounds schedule first_words
 legal = (
   (PutContent (codes "abc"), ContentPut (sha256 (codes "abc")), refl, refl),
@@ -335,8 +359,8 @@ legal = (
       (
         (PutChangeset (spelling C), ChangesetPut (id_of C), refl, refl),
         (
-          (SetBookmark main None (Some (id_of B)), BookmarkSet, refl, refl),
-          ((LandDraft main (id_of C), Landed (id_of B) (id_of C ∷ []), refl, refl), tt),
+          (SetBookmark nobody main None (Some (id_of B)), BookmarkSet, refl, refl),
+          ((LandDraft nobody main (id_of C) 0, Landed (id_of B) (id_of C ∷ []), refl, refl), tt),
         ),
       ),
     ),

@@ -15,12 +15,13 @@ reads_more replies header number before from [] between next answer after read o
 reads_more replies header number before from (first ∷ answers) between next answer after read one =
     (read.0, read.1, reads_more replies header number read.0 (next_after from first) answers between next answer after read.2 one)
 
--- the same where the seat has the header and the number that it had
-pub reads_on : (replies : Relation) (header now : Header) (number number_now : ℕ) (before : List Entry) (from : ℕ) (between : List Entry) (next : ℕ) (after : List Entry) (then : ℕ)
-    → now ≡ header → number_now ≡ number → (answers : List Answer) × ReadsPages replies header number before from answers between next
-    → (answer : Answer) × replies now between number_now (Looks (LogFrom next)) answer after × (then ≡ next_after next answer)
-    → (answers : List Answer) × ReadsPages replies header number before from answers after then
-reads_on replies header now number number_now before from between next after then same_header same_number read one =
-    let with_header = subst (λ (h : Header). replies h between number_now (Looks (LogFrom next)) one.0 after) same_header one.1 in
-    let with_number = subst (λ (k : ℕ). replies header between k (Looks (LogFrom next)) one.0 after) same_number with_header in
-    (read.0 ++ one.0 ∷ [], subst (λ (n : ℕ). ReadsPages replies header number before from (read.0 ++ one.0 ∷ []) after n) (sym one.2) (reads_more replies header number before from read.0 between next one.0 after read.1 with_number))
+-- the same where the seat belongs where it did, with the header and the number that it had
+pub reads_on : {Home : Type 0} (replies : Home → Relation) (home home_now : Home) (header now : Header) (number number_now : ℕ) (before : List Entry) (from : ℕ) (between : List Entry) (next : ℕ) (after : List Entry) (then : ℕ)
+    → home_now ≡ home → now ≡ header → number_now ≡ number → (answers : List Answer) × ReadsPages (replies home) header number before from answers between next
+    → (answer : Answer) × replies home_now now between number_now (Looks (LogFrom next)) answer after × (then ≡ next_after next answer)
+    → (answers : List Answer) × ReadsPages (replies home) header number before from answers after then
+reads_on {Home} replies home home_now header now number number_now before from between next after then same_home same_header same_number read one =
+    let at_home = subst (λ (p : Home). replies p now between number_now (Looks (LogFrom next)) one.0 after) same_home one.1 in
+    let with_header = subst (λ (h : Header). replies home h between number_now (Looks (LogFrom next)) one.0 after) same_header at_home in
+    let with_number = subst (λ (k : ℕ). replies home header between k (Looks (LogFrom next)) one.0 after) same_number with_header in
+    (read.0 ++ one.0 ∷ [], subst (λ (n : ℕ). ReadsPages (replies home) header number before from (read.0 ++ one.0 ∷ []) after n) (sym one.2) (reads_more (replies home) header number before from read.0 between next one.0 after read.1 with_number))

@@ -74,7 +74,7 @@ impl Feed {
     /// Reads the log at this seat from where it was left to its end, page by page, and sends its changesets to
     /// the derivers. A page that is refused ends it; it is read the next time.
     pub fn read_pages<R: Wait, S: Seat>(&mut self, rt: &R, alloc: Global, seat: &mut S)
-        ensures pages { (answers : List Answer) × ReadsPages S.replies (S.header seat.old) (S.number seat.old) (S.front seat.old) self.old answers (S.front seat.new) self.new }
+        ensures pages { (answers : List Answer) × ReadsPages (S.replies (S.home seat.old)) (S.header seat.old) (S.number seat.old) (S.front seat.old) self.old answers (S.front seat.new) self.new }
         ensures home { S.home seat.new ≡ S.home seat.old }
     {
         let mut next = self.next;
@@ -91,7 +91,7 @@ impl Feed {
 // The page of the log that begins with the entry of this number, which becomes that of the page after it. `None` where it is
 // refused or has no entry.
 fn read_page<S: Seat>(alloc: Global, seat: &mut S, next: &mut u64) -> Option<LogPage>
-    ensures page { (answer : Answer) × S.replies (S.header seat.old) (S.front seat.old) (S.number seat.old) (Looks (LogFrom next.old)) answer (S.front seat.new) × (next.new ≡ next_after next.old answer) }
+    ensures page { (answer : Answer) × S.replies (S.home seat.old) (S.header seat.old) (S.front seat.old) (S.number seat.old) (Looks (LogFrom next.old)) answer (S.front seat.new) × (next.new ≡ next_after next.old answer) }
     ensures header { S.header seat.new ≡ S.header seat.old }
     ensures number { S.number seat.new ≡ S.number seat.old }
     ensures home { S.home seat.new ≡ S.home seat.old }

@@ -7,7 +7,7 @@ use Rattle.std.specs.Option.{option_and_then}
 use Rattle.std.specs.FinMap.{is_sorted, find as find_key}
 use Rattle.std.proofs.lemmas.Bool.{or_left, or_right, or_parts}
 use Rattle.changeset_model.specs.Path.{Path, path_cmp, is_strict_prefix}
-use Rattle.changeset_model.specs.Changeset.{File, FileChange, Set, Delete, file_of, set_at}
+use Rattle.changeset_model.specs.Changeset.{CopySource, File, FileChange, Set, Delete, file_of, set_at}
 use Rattle.history_model.specs.History.{Known}
 use Rattle.history_model.specs.Chain.{changesets}
 use Rattle.history_model.specs.Tree.{decides, tree, files, is_dir}
@@ -120,32 +120,32 @@ old_file (k ∷ ks) p f e = has_file k ks p f e
 
 -- ---- files that are set in a directory
 
-pub set_in : (d p : Path) (f : File) (n : List ℕ) (es : List (Path × FileChange)) → name_in d p ≡ Some n → Has es (p, Set f) → Has (files_set_in d es) p
-set_in d p f n [] name h = absurd h
-set_in d p f n ((q, Delete) ∷ es) name (inl e) = absurd (let no = ap (λ x. x.1) e in no_set f no)
+pub set_in : (d p : Path) (f : File) (copied : Option CopySource) (n : List ℕ) (es : List (Path × FileChange)) → name_in d p ≡ Some n → Has es (p, Set f copied) → Has (files_set_in d es) p
+set_in d p f copied n [] name h = absurd h
+set_in d p f copied n ((q, Delete) ∷ es) name (inl e) = absurd (let no = ap (λ x. x.1) e in no_set f copied no)
   where
-    no_set : (f : File) → ◌≡◌ {A = FileChange} Delete (Set f) → ⊥
-    no_set f e = cc
-set_in d p f n ((q, Delete) ∷ es) name (inr h) = set_in d p f n es name h
-set_in d p f n ((q, Set g) ∷ es) name (inl e) = by (is_some (name_in d q)) (ap (λ x. is_some (name_in d x.0)) e ∙ ap is_some name)
+    no_set : (f : File) (copied : Option CopySource) → ◌≡◌ {A = FileChange} Delete (Set f copied) → ⊥
+    no_set f copied e = cc
+set_in d p f copied n ((q, Delete) ∷ es) name (inr h) = set_in d p f copied n es name h
+set_in d p f copied n ((q, Set g other) ∷ es) name (inl e) = by (is_some (name_in d q)) (ap (λ x. is_some (name_in d x.0)) e ∙ ap is_some name)
   where
     by : (b : Bool) → b ≡ true → Has (cond b (q ∷ files_set_in d es) (files_set_in d es)) p
     by true t = inl (ap (λ x. x.0) e)
     by false t = absurd (true≢false (sym t))
-set_in d p f n ((q, Set g) ∷ es) name (inr h) = by (set_in d p f n es name h) (is_some (name_in d q))
+set_in d p f copied n ((q, Set g other) ∷ es) name (inr h) = by (set_in d p f copied n es name h) (is_some (name_in d q))
   where
     by : Has (files_set_in d es) p → (b : Bool) → Has (cond b (q ∷ files_set_in d es) (files_set_in d es)) p
     by ih true = inr ih
     by ih false = ih
 
 -- each has its file
-pub all_set : (d : Path) (P : Path → Type 0) (es : List (Path × FileChange)) → ((p : Path) (f : File) → Has es (p, Set f) → P p) → AllByRecursion P (files_set_in d es)
+pub all_set : (d : Path) (P : Path → Type 0) (es : List (Path × FileChange)) → ((p : Path) (f : File) (copied : Option CopySource) → Has es (p, Set f copied) → P p) → AllByRecursion P (files_set_in d es)
 all_set d P [] h = tt
-all_set d P ((q, Delete) ∷ es) h = all_set d P es (λ p f g. h p f (inr g))
-all_set d P ((q, Set f) ∷ es) h = by (all_set d P es (λ p g has. h p g (inr has))) (is_some (name_in d q))
+all_set d P ((q, Delete) ∷ es) h = all_set d P es (λ p f copied g. h p f copied (inr g))
+all_set d P ((q, Set f copied) ∷ es) h = by (all_set d P es (λ p g other has. h p g other (inr has))) (is_some (name_in d q))
   where
     by : AllByRecursion P (files_set_in d es) → (b : Bool) → AllByRecursion P (cond b (q ∷ files_set_in d es) (files_set_in d es))
-    by ih true = (h q f (inl refl), ih)
+    by ih true = (h q f copied (inl refl), ih)
     by ih false = ih
 
 -- a path that isn't the root's, cut before its last element
@@ -171,8 +171,8 @@ module _ (c : Known) (older : List Known) (right : IsRight (c ∷ older)) (ds : 
   abbrev put : List (List ℕ)
   put = flat_map (dir_nodes c older) ds
 
-  file_put : (p : Path) (f : File) → Has es (p, Set f) → tree_at (c ∷ older) p ≡ Some f
-  file_put p f h = set_now c older right p f (ap (option_and_then file_of) (all_has (λ e. find_key path_cmp e.0 es ≡ Some e.1) es (p, Set f) (all_found es (rise c older right)) h))
+  file_put : (p : Path) (f : File) (copied : Option CopySource) → Has es (p, Set f copied) → tree_at (c ∷ older) p ≡ Some f
+  file_put p f copied h = set_now c older right p f (ap (option_and_then file_of) (all_has (λ e. find_key path_cmp e.0 es ≡ Some e.1) es (p, Set f copied) (all_found es (rise c older right)) h))
 
   each_dir : (d : Path) → AllByRecursion (Contains (all_nodes_on (c ∷ older))) (dir_nodes c older d)
   each_dir d = by (is_dir now d) refl
@@ -180,7 +180,7 @@ module _ (c : Known) (older : List Known) (right : IsRight (c ∷ older)) (ds : 
       by : (b : Bool) → is_dir now d ≡ b → AllByRecursion (Contains (all_nodes_on (c ∷ older))) (cond b (nodes_there c older d) [])
       by true dir =
           all_append (Contains (all_nodes_on (c ∷ older))) (map (λ p. unode_bytes (unode (c ∷ older) p)) (files_set_in d es)) (fsnode_bytes (fsnode now d) ∷ unode_bytes (unode (c ∷ older) d) ∷ [])
-          (all_map (Contains (all_nodes_on (c ∷ older))) (λ p. unode_bytes (unode (c ∷ older) p)) (files_set_in d es) (all_set d (λ p. Contains (all_nodes_on (c ∷ older)) (unode_bytes (unode (c ∷ older) p))) es (λ p f h. has_contains (all_nodes_on (c ∷ older)) (unode_bytes (unode (c ∷ older) p)) (has_file c older p f (file_put p f h)))))
+          (all_map (Contains (all_nodes_on (c ∷ older))) (λ p. unode_bytes (unode (c ∷ older) p)) (files_set_in d es) (all_set d (λ p. Contains (all_nodes_on (c ∷ older)) (unode_bytes (unode (c ∷ older) p))) es (λ p f copied h. has_contains (all_nodes_on (c ∷ older)) (unode_bytes (unode (c ∷ older) p)) (has_file c older p f (file_put p f copied h)))))
           (has_contains (all_nodes_on (c ∷ older)) (fsnode_bytes (fsnode now d)) (has_fsnode c older d dir), (has_contains (all_nodes_on (c ∷ older)) (unode_bytes (unode (c ∷ older) d)) (has_dir c older d dir), tt))
       by false dir = tt
 
@@ -224,16 +224,16 @@ module _ (c : Known) (older : List Known) (right : IsRight (c ∷ older)) (ds : 
   set_file : (n : List ℕ) (p : Path) (f : File) → tree_at (c ∷ older) p ≡ Some f → unode_bytes (unode (c ∷ older) p) ≡ n → (change : Option FileChange) → find_key path_cmp p es ≡ change → option_and_then file_of change ≡ Some f → 0 < length p → Found n
   set_file n p f there e None at sets some = none_some f sets
   set_file n p f there e (Some Delete) at sets some = none_some f sets
-  set_file n p f there e (Some (Set g)) at sets some =
+  set_file n p f there e (Some (Set g copied)) at sets some =
       let cut = last_cut p some in
       let d = cut.0 in
-      let has = found_has p (Set g) es at in
+      let has = found_has p (Set g copied) es at in
       let under : is_strict_prefix d p ≡ true = ap (is_strict_prefix d) cut.2 ∙ under_dir d cut.1 in
-      let renewed : is_renewed c.changeset d ≡ true = or_right (length d == 0) (list_any (λ e. is_strict_prefix d e.0) es) (any_under d (p, Set g) es under has) in
+      let renewed : is_renewed c.changeset d ≡ true = or_right (length d == 0) (list_any (λ e. is_strict_prefix d e.0) es) (any_under d (p, Set g copied) es under has) in
       let dir = dir_from (changesets (reverse (c ∷ older))) d p f under there in
       new_one n (unode_bytes (unode (c ∷ older) p)) e (there_nodes d (unode_bytes (unode (c ∷ older) p)) renewed dir (
       has_left (map (λ p. unode_bytes (unode (c ∷ older) p)) (files_set_in d es)) (fsnode_bytes (fsnode now d) ∷ unode_bytes (unode (c ∷ older) d) ∷ []) (unode_bytes (unode (c ∷ older) p))
-      (has_map (λ p. unode_bytes (unode (c ∷ older) p)) (files_set_in d es) p (set_in d p g cut.1 es (ap (name_in d) cut.2 ∙ name_here d cut.1) has))))
+      (has_map (λ p. unode_bytes (unode (c ∷ older) p)) (files_set_in d es) p (set_in d p g copied cut.1 es (ap (name_in d) cut.2 ∙ name_here d cut.1) has))))
 
   kept_before : (p : Path) (f : File) → tree_at (c ∷ older) p ≡ Some f → set_at c.changeset p ≡ None → tree_at older p ≡ Some f
   kept_before p f there unset = by (decides c.changeset p) refl (sym (ap (λ cs. tree cs p) (chain_more c older) ∙ one_more (changesets (reverse older)) c.changeset p) ∙ there)

@@ -33,12 +33,12 @@ Edits = List (Path × FileChange)
 -- ---- the paths that are set
 
 pub set_first : (e : Path × FileChange) (es : Edits) → paths_set (e ∷ es) ≡ paths_set (e ∷ []) ++ paths_set es
-set_first (p, Set f) es = refl
+set_first (p, Set f copied) es = refl
 set_first (p, Delete) es = refl
 
 covers_sets : (d : Path) (es : Edits) → list_any (λ e. covers e d) es ≡ list_any (λ p. is_prefix p d) (paths_set es)
 covers_sets d [] = refl
-covers_sets d ((p, Set f) ∷ es) = ap (λ b. is_prefix p d || b) (covers_sets d es)
+covers_sets d ((p, Set f copied) ∷ es) = ap (λ b. is_prefix p d || b) (covers_sets d es)
 covers_sets d ((p, Delete) ∷ es) = covers_sets d es
 
 -- each comes before all that follow it, and above none of them
@@ -49,7 +49,7 @@ AreOuter (p ∷ ps) = AllByRecursion (λ q. (path_lt p q ≡ true) × (is_strict
 firsts : (p : Path) (es : Edits) → below_all path_cmp p es ≡ true → AllByRecursion (λ (long : Path × File). is_strict_prefix p long.0 ≡ false) (sets_in es) → AllByRecursion (λ q. (path_lt p q ≡ true) × (is_strict_prefix p q ≡ false)) (paths_set es)
 firsts p [] below h = tt
 firsts p ((q, Delete) ∷ es) below h = firsts p es (and_parts (path_lt p q) (below_all path_cmp p es) below).1 h
-firsts p ((q, Set f) ∷ es) below h = let parts = and_parts (path_lt p q) (below_all path_cmp p es) below in ((parts.0, h.0), firsts p es parts.1 h.1)
+firsts p ((q, Set f copied) ∷ es) below h = let parts = and_parts (path_lt p q) (below_all path_cmp p es) below in ((parts.0, h.0), firsts p es parts.1 h.1)
 
 abbrev AreAlone : List (Path × File) → List (Path × File) → Type 0
 AreAlone sets longs = AllByRecursion (λ (long : Path × File). AllByRecursion (λ (short : Path × File). is_strict_prefix short.0 long.0 ≡ false) sets) longs
@@ -57,9 +57,9 @@ AreAlone sets longs = AllByRecursion (λ (long : Path × File). AllByRecursion (
 outer_sets : (es : Edits) → is_sorted path_cmp es ≡ true → AreAlone (sets_in es) (sets_in es) → AreOuter (paths_set es)
 outer_sets [] rise h = tt
 outer_sets ((p, Delete) ∷ es) rise h = outer_sets es (and_parts (below_all path_cmp p es) (is_sorted path_cmp es) rise).1 h
-outer_sets ((p, Set f) ∷ es) rise h =
+outer_sets ((p, Set f copied) ∷ es) rise h =
     let parts = and_parts (below_all path_cmp p es) (is_sorted path_cmp es) rise in
-    let all : (long : Path × File) → Type 0 = λ long. AllByRecursion (λ (short : Path × File). is_strict_prefix short.0 long.0 ≡ false) (sets_in ((p, Set f) ∷ es)) in
+    let all : (long : Path × File) → Type 0 = λ long. AllByRecursion (λ (short : Path × File). is_strict_prefix short.0 long.0 ≡ false) (sets_in ((p, Set f copied) ∷ es)) in
     let rest : (long : Path × File) → Type 0 = λ long. AllByRecursion (λ (short : Path × File). is_strict_prefix short.0 long.0 ≡ false) (sets_in es) in (
       firsts p es parts.0 (all_by all (λ (long : Path × File). is_strict_prefix p long.0 ≡ false) (λ long k. k.0) (sets_in es) h.1),
       outer_sets es parts.1 (all_by all rest (λ long k. k.1) (sets_in es) h.1),

@@ -177,13 +177,13 @@ name_under d m e r = by (is_strict_prefix d (d ++ m ∷ e ∷ r)) (ap sole (drop
 
 module _ {E : Type 0} (own : Path → Option E → File → List (List ℕ)) (d : Path) where
   pub here_nodes : (q : Path) (m : List ℕ) (change : FileChange) (o : List ℕ → Option E) (before : Option E) → q ≡ d ++ m ∷ [] → before ≡ o m → nodes_of own q before change ≡ nodes_by own d o (q, change)
-  here_nodes q m (Set f) o before e is =
+  here_nodes q m (Set f copied) o before e is =
       ap (λ b. own q b f) is
       ∙ ap (nodes_at own q f o) (sym (ap (name_in d) e ∙ name_here d m))
   here_nodes q m Delete o before e is = refl
 
   no_nodes : (q : Path) (m e : List ℕ) (r : Path) (change : FileChange) (o : List ℕ → Option E) → q ≡ d ++ m ∷ e ∷ r → [] ≡ nodes_by own d o (q, change)
-  no_nodes q m e r (Set f) o is = ap (nodes_at own q f o) (sym (ap (name_in d) is ∙ name_under d m e r))
+  no_nodes q m e r (Set f copied) o is = ap (nodes_at own q f o) (sym (ap (name_in d) is ∙ name_under d m e r))
   no_nodes q m e r Delete o is = refl
 
   pub under_nodes : (q : Path) (m : List ℕ) (t : Path) (change : FileChange) (o : List ℕ → Option E) (old : List (List ℕ)) → 0 < length t → q ≡ d ++ m ∷ t → old ≡ old ++ nodes_by own d o (q, change)
@@ -191,7 +191,7 @@ module _ {E : Type 0} (own : Path → Option E → File → List (List ℕ)) (d 
   under_nodes q m (e ∷ t) change o old some is = sym (append-nil old) ∙ ap (λ ns. old ++ ns) (no_nodes q m e t change o is)
 
   pub outside_nodes : (p : Path) (change : FileChange) (o : List ℕ → Option E) → is_strict_prefix d p ≡ false → [] ≡ nodes_by own d o (p, change)
-  outside_nodes p (Set f) o out = sym (ap (λ b. nodes_at own p f o (cond b (sole (drop (length d) p)) None)) out)
+  outside_nodes p (Set f copied) o out = sym (ap (λ b. nodes_at own p f o (cond b (sole (drop (length d) p)) None)) out)
   outside_nodes p Delete o out = refl
 
 -- ---- edits elsewhere put no nodes of files
@@ -237,7 +237,7 @@ module _ {E : Type 0} (set_at : Path → Option E → File → E) (made : Path �
 -- ---- where files have no nodes of their own
 
 none_by : {E : Type 0} (d p : Path) (change : FileChange) (o : List ℕ → Option E) → nodes_by (λ _ _ _. []) d o (p, change) ≡ []
-none_by d p (Set f) o = by (name_in d p)
+none_by d p (Set f copied) o = by (name_in d p)
   where
     by : (x : Option (List ℕ)) → nodes_at (λ _ _ _. []) p f o x ≡ []
     by None = refl

@@ -10,7 +10,7 @@ use Rattle.std.proofs.lemmas.List.{length-append, length-map}
 use Rattle.std.proofs.lemmas.Map.Keys.{IsDistinct-from_sorted, IsDistinct-cons, IsDistinct-head, IsDistinct-tail}
 use Rattle.std.proofs.lemmas.Map.Made.{length-le_from_is_member}
 use Rattle.changeset_model.specs.Path.{Path, path_cmp}
-use Rattle.changeset_model.specs.Changeset.{File, FileChange, Set, Delete, file_of, sets_of}
+use Rattle.changeset_model.specs.Changeset.{CopySource, File, FileChange, Set, Delete, file_of, sets_of}
 use Rattle.changeset_model.proofs.Paths.{path_cmp_total}
 use Rattle.history_model.specs.History.{Known}
 use Rattle.history_model.specs.Tree.{is_dir}
@@ -69,11 +69,11 @@ one_hit p (d ∷ ds) distinct = by (name_in d p) refl (one_hit p ds (IsDistinct-
     by None h rest = omega (arith, rest)
     by (Some n) h rest = let none = no_hit d p n ds h (IsDistinct-head (eq_by_cmp path_cmp) d ds distinct) in omega (arith, none)
 
-one_set : (p : Path) (f : File) (ds : List Path) (es : Edits) → in_dirs ds ((p, Set f) ∷ es) ≡ hits ds p + in_dirs ds es
-one_set p f [] es = refl
-one_set p f (d ∷ ds) es = by (is_some (name_in d p)) (one_set p f ds es)
+one_set : (p : Path) (f : File) (copied : Option CopySource) (ds : List Path) (es : Edits) → in_dirs ds ((p, Set f copied) ∷ es) ≡ hits ds p + in_dirs ds es
+one_set p f copied [] es = refl
+one_set p f copied (d ∷ ds) es = by (is_some (name_in d p)) (one_set p f copied ds es)
   where
-    by : (b : Bool) → in_dirs ds ((p, Set f) ∷ es) ≡ hits ds p + in_dirs ds es → length (cond b (p ∷ files_set_in d es) (files_set_in d es)) + in_dirs ds ((p, Set f) ∷ es) ≡ (one_if b + hits ds p) + (length (files_set_in d es) + in_dirs ds es)
+    by : (b : Bool) → in_dirs ds ((p, Set f copied) ∷ es) ≡ hits ds p + in_dirs ds es → length (cond b (p ∷ files_set_in d es) (files_set_in d es)) + in_dirs ds ((p, Set f copied) ∷ es) ≡ (one_if b + hits ds p) + (length (files_set_in d es) + in_dirs ds es)
     by true rest = omega (arith, rest)
     by false rest = omega (arith, rest)
 
@@ -90,10 +90,10 @@ sets es = filter_map (λ e. option_map (λ f. (e.0, f)) (file_of e.1)) es
 
 few_files : (ds : List Path) (es : Edits) → IsDistinct (eq_by_cmp path_cmp) ds → in_dirs ds es ≤ length (sets es)
 few_files ds [] distinct = let none = none_set ds in omega (arith, none)
-few_files ds ((p, Set f) ∷ es) distinct =
+few_files ds ((p, Set f copied) ∷ es) distinct =
     let rest = few_files ds es distinct in
     let one = one_hit p ds distinct in
-    let sum = one_set p f ds es in
+    let sum = one_set p f copied ds es in
     omega (arith, rest, one, sum)
 few_files ds ((p, Delete) ∷ es) distinct =
     let rest = few_files ds es distinct in

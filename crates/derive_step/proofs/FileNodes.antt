@@ -11,7 +11,7 @@ use Rattle.std.specs.FinMap.Entries.{below_all}
 use Rattle.std.proofs.lemmas.Bool.{and_parts, or_left, or_right, false_from_ne_true}
 use Rattle.sha2.specs.Sha256.{sha256}
 use Rattle.changeset_model.specs.Path.{Path, path_cmp, path_lt, text_of, is_strict_prefix}
-use Rattle.changeset_model.specs.Changeset.{File, FileChange, Set, Delete, file_of, set_at}
+use Rattle.changeset_model.specs.Changeset.{CopySource, File, FileChange, Set, Delete, file_of, set_at}
 use Rattle.changeset_model.proofs.Rising.{path_lt_irreflexive}
 use Rattle.history_model.specs.History.{Known}
 use Rattle.history_model.specs.Tree.{is_dir}
@@ -100,8 +100,8 @@ module _ (c : Known) (older : List Known) (right : IsRight (c ∷ older)) (d : P
       (λ i. cond (not_same e.0 p more i) (edited (unode_set c.id p) (unode_made_in made p) is_unode_file e.1 (o n)) (cond (not_over e.0 p more i) (renewed (unode_set c.id p) (unode_made_in made p) is_unode_file (o n)) (o n)))
       ∙ was n (or_right (eq_by_cmp path_cmp p e.0) (list_any (λ e. eq_by_cmp path_cmp p e.0) es) h)
 
-  set_is : (n : List ℕ) (f : File) → find_key path_cmp (d ++ n ∷ []) c.changeset.changes ≡ Some (Set f) → unode_bytes (set_unode c.id (d ++ n ∷ []) (unode_entry_on older d n) f) ≡ node (d ++ n ∷ [])
-  set_is n f e =
+  set_is : (n : List ℕ) (f : File) (copied : Option CopySource) → find_key path_cmp (d ++ n ∷ []) c.changeset.changes ≡ Some (Set f copied) → unode_bytes (set_unode c.id (d ++ n ∷ []) (unode_entry_on older d n) f) ≡ node (d ++ n ∷ [])
+  set_is n f copied e =
       let p = d ++ n ∷ [] in
       let sets : set_at c.changeset p ≡ Some f = ap (option_and_then file_of) e in
       let parents = ap file_parents (entry_on older d n right.clear.1 (alone_before c older right d)) ∙ parents_of_entry (tree_at older p) (is_dir (files_in older) p) (unode_id (unode older p)) in
@@ -114,17 +114,17 @@ module _ (c : Known) (older : List Known) (right : IsRight (c ∷ older)) (d : P
   file_nodes ((p, Delete) ∷ es) o rise found was =
       let parts = and_parts (below_all path_cmp p es) (is_sorted path_cmp es) rise in
       file_nodes es (after_one o (p, Delete)) parts.1 found.1 (still (p, Delete) es o parts.0 was)
-  file_nodes ((p, Set f) ∷ es) o rise found was =
+  file_nodes ((p, Set f copied) ∷ es) o rise found was =
       let parts = and_parts (below_all path_cmp p es) (is_sorted path_cmp es) rise in
-      by (file_nodes es (after_one o (p, Set f)) parts.1 found.1 (still (p, Set f) es o parts.0 was)) (name_in d p) refl
+      by (file_nodes es (after_one o (p, Set f copied)) parts.1 found.1 (still (p, Set f copied) es o parts.0 was)) (name_in d p) refl
     where
       here : (n : List ℕ) → p ≡ d ++ n ∷ [] → unode_bytes (set_unode c.id p (o n) f) ≡ node p
       here n is =
           ap (λ x. unode_bytes (set_unode c.id p x f)) (was n (or_left (eq_by_cmp path_cmp (d ++ n ∷ []) p) (list_any (λ e. eq_by_cmp path_cmp (d ++ n ∷ []) e.0) es) (ap (eq_by_cmp path_cmp (d ++ n ∷ [])) is ∙ tied_self (d ++ n ∷ []))))
           ∙ ap (λ q. unode_bytes (set_unode c.id q (unode_entry_on older d n) f)) is
-          ∙ set_is n f (ap (λ q. find_key path_cmp q c.changeset.changes) (sym is) ∙ found.0)
+          ∙ set_is n f copied (ap (λ q. find_key path_cmp q c.changeset.changes) (sym is) ∙ found.0)
           ∙ ap node (sym is)
 
-      by : set_nodes c.id made d es (after_one o (p, Set f)) ≡ map node (files_set_in d es) → (x : Option (List ℕ)) → name_in d p ≡ x → nodes_at (own_unode c.id) p f o x ++ set_nodes c.id made d es (after_one o (p, Set f)) ≡ map node (cond (is_some x) (p ∷ files_set_in d es) (files_set_in d es))
+      by : set_nodes c.id made d es (after_one o (p, Set f copied)) ≡ map node (files_set_in d es) → (x : Option (List ℕ)) → name_in d p ≡ x → nodes_at (own_unode c.id) p f o x ++ set_nodes c.id made d es (after_one o (p, Set f copied)) ≡ map node (cond (is_some x) (p ∷ files_set_in d es) (files_set_in d es))
       by rest None e = rest
       by rest (Some n) e = λ i. here n (named d p n e) i ∷ rest i

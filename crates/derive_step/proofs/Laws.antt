@@ -35,7 +35,7 @@ use Rattle.fsnode.specs.declared.node.Fsnode.{Fsnode as RustFsnode}
 use Rattle.fsnode.specs.Parts.{summary_seen, children_seen as fs_children_seen}
 use Rattle.fsnode.specs.Views.{fsnode_seen}
 use Rattle.unode.specs.declared.manifest.UnodeManifest.{UnodeManifest}
-use Rattle.unode.specs.Parts.{children_seen as unode_children_seen}
+use Rattle.unode.specs.Parts.{parents_seen, children_seen as unode_children_seen}
 use Rattle.unode.specs.Views.{manifest_seen}
 use Rattle.derive_step.specs.declared.made.Made.{Made}
 use Rattle.derive_step.specs.Views.{Before}
@@ -181,7 +181,7 @@ module _ (c : Known) (older : List Known) (right : IsRight (c ∷ older)) where
       ∙ unode_told c older d n right.clear rise out (unode_made_in made (d ++ n ∷ [])) dir (alone d dir) (alone_before d) (λ u. (under n u).1)
 
   pub same_unode : (d : Path) (node : UnodeManifest) → is_renewed c.changeset d ≡ true → is_dir now d ≡ true → are_entries (unode_children_seen node.entries.items) ≡ true → ((n : List ℕ) → unode_entry_at (manifest_seen node) n ≡ unode_entry_at (unode (c ∷ older) d) n)
-      → option_to_list node.parent ≡ parents_on older d → node.linknode ≡ c.id → manifest_seen node ≡ unode (c ∷ older) d
+      → parents_seen node.parents ≡ parents_on older d → node.linknode ≡ c.id → manifest_seen node ≡ unode (c ∷ older) d
   same_unode d node renewed dir rule found parent link =
       let is = renewed_is c older d (alone d dir) renewed in
       let e = unode_entries_found (c ∷ older) d (unode_children_seen node.entries.items) right.clear dir (alone d dir) (entries_rise (unode_children_seen node.entries.items) rule) found ∙ ap entries_of is in

@@ -28,7 +28,7 @@ use Rattle.fsnode.specs.declared.node.Fsnode.{Fsnode as RustFsnode}
 use Rattle.fsnode.specs.Parts.{summary_seen, entry_seen as fs_entry_seen, children_seen as fs_children_seen}
 use Rattle.fsnode.specs.Views.{fsnode_seen}
 use Rattle.unode.specs.declared.manifest.UnodeManifest.{UnodeManifest}
-use Rattle.unode.specs.Parts.{entry_seen as unode_entry_seen, children_seen as unode_children_seen}
+use Rattle.unode.specs.Parts.{parents_seen, entry_seen as unode_entry_seen, children_seen as unode_children_seen}
 use Rattle.unode.specs.Views.{manifest_seen}
 use Rattle.derive_step.specs.declared.made.Made.{Made}
 use Rattle.derive_step.specs.Views.{Before}
@@ -48,7 +48,7 @@ ok_with (Err x) a b h e p f = tt
 module _ (c : Known) (older : List Known) (commit : Changeset) (d : Path) (made : BTreeMap Path Made) (b : Option Before) (step : IsStep c older commit d made b) (dir : is_dir (files_in (c ∷ older)) d ≡ true)
     (link : Id) (es : List (Path × FileChange)) (is_link : link ≡ c.id) (are_edits : edits_in d es ≡ edits_in d c.changeset.changes) where
   pub unode_is : (m : UnodeManifest) → ((n : List ℕ) → unode_entry_at (manifest_seen m) n ≡ unode_after link made d es (unode_before (unode_part b)) n) → are_entries (unode_children_seen m.entries.items) ≡ true
-      → option_to_list m.parent ≡ parent_part b → m.linknode ≡ link → manifest_seen m ≡ unode (c ∷ older) d
+      → parents_seen m.parents ≡ parent_part b → m.linknode ≡ link → manifest_seen m ≡ unode (c ∷ older) d
   unode_is m found rule parent linked =
       same_unode c older step.due.right d m step.renewed dir rule
       (λ n.

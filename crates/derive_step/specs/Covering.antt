@@ -11,5 +11,5 @@ paths_seen ps = map (λ p. p.now) ps
 
 abbrev pub paths_set : List (Path × FileChange) → List Path
 paths_set [] = []
-paths_set ((p, Set f) ∷ es) = p ∷ paths_set es
+paths_set ((p, Set f copied) ∷ es) = p ∷ paths_set es
 paths_set ((p, Delete) ∷ es) = paths_set es

@@ -80,7 +80,7 @@ pub record IsStep (c : Known) (older : List Known) (commit : Changeset) (d : Pat
 
 abbrev pub files_set_in : Path → List (Path × FileChange) → List Path
 files_set_in d [] = []
-files_set_in d ((p, Set f) ∷ es) = if is_some (name_in d p) then p ∷ files_set_in d es else files_set_in d es
+files_set_in d ((p, Set f copied) ∷ es) = if is_some (name_in d p) then p ∷ files_set_in d es else files_set_in d es
 files_set_in d ((p, Delete) ∷ es) = files_set_in d es
 
 abbrev pub nodes_there : Known → List Known → Path → List (List ℕ)

@@ -39,7 +39,7 @@ abbrev pub name_in : Path → Path → Option (List ℕ)
 name_in d p = if is_strict_prefix d p then sole (drop (length d) p) else None
 
 abbrev pub nodes_of : {E : Type 0} → (Path → Option E → File → List (List ℕ)) → Path → Option E → FileChange → List (List ℕ)
-nodes_of own p o (Set f) = own p o f
+nodes_of own p o (Set f copied) = own p o f
 nodes_of own p o Delete = []
 
 abbrev pub nodes_at : {E : Type 0} → (Path → Option E → File → List (List ℕ)) → Path → File → (List ℕ → Option E) → Option (List ℕ) → List (List ℕ)
@@ -47,7 +47,7 @@ nodes_at own p f o None = []
 nodes_at own p f o (Some n) = own p (o n) f
 
 abbrev pub nodes_by : {E : Type 0} → (Path → Option E → File → List (List ℕ)) → Path → (List ℕ → Option E) → Path × FileChange → List (List ℕ)
-nodes_by own d o (p, Set f) = nodes_at own p f o (name_in d p)
+nodes_by own d o (p, Set f copied) = nodes_at own p f o (name_in d p)
 nodes_by own d o (p, Delete) = []
 
 abbrev pub all_nodes : {E : Type 0} → (Path → Option E → File → E) → (Path → Option E) → (E → Bool) → (Path → Option E → File → List (List ℕ)) → Path → List (Path × FileChange) → (List ℕ → Option E) → List (List ℕ)

@@ -13,7 +13,7 @@ ghost use Rattle.manifest_model.specs.Unode.{UnodeEntry as ModelEntry, is_unode_
 ghost use Rattle.manifest_laws.specs.Entries.{unode_entry_at};
 ghost use Rattle.manifest_laws.specs.EntryEdits.{unode_set, is_unode_file, file_parents};
 ghost use Rattle.node_fields.specs.Children.{children_seen as seen_by};
-ghost use Rattle.unode.specs.Parts.{entry_seen, children_seen};
+ghost use Rattle.unode.specs.Parts.{parents_seen, entry_seen, children_seen};
 ghost use Rattle.unode.specs.Views.{manifest_seen};
 ghost use Rattle.tree_fold.specs.View.{file_view};
 ghost use Rattle.derive_step.specs.Places.{dir_of};
@@ -30,7 +30,7 @@ use object_id::Id;
 use repo_path::RepoPath;
 use std::alloc::{AllocError, Global};
 use tree_fold::File;
-use unode::{FileUnode, Unode, UnodeChild, UnodeEntry, UnodeManifest, encode};
+use unode::{FileUnode, Parents, Unode, UnodeChild, UnodeEntry, UnodeManifest, encode};
 
 /// The unodes that a changeset makes. Each file that it sets has one of its own.
 #[derive(Clone, Copy)]
@@ -68,7 +68,7 @@ impl Kind for Unodes {
         ensures nodes { OnOk result (nodes.new.items ≡ nodes.old.items ++ own_unode self.now.link path.now (option_map entry_seen before) (file_view file)) }
     {
         let file = FileUnode {
-            parent: file_id(before),
+            parents: Parents::of(file_id(before)),
             content: file.content,
             kind: file.kind,
             path_hash: Id::of(path.as_str().as_bytes()),
@@ -119,7 +119,7 @@ pub(crate) fn manifest_in(
     requires { is_sorted path_cmp (edits_view edits.now) ≡ true }
     ensures entries { IfOk result (λ node. (n : List ℕ) → unode_entry_at (manifest_seen node) n ≡ unode_after link made.now (dir_of dir.entry) (edits_view edits.now) (unode_before (option_map (λ b. manifest_seen b.node) before)) n) }
     ensures rising { IfOk result (λ node. are_entries (children_seen node.entries.items) ≡ true) }
-    ensures parent { IfOk result (λ node. option_to_list node.parent ≡ option_to_list (option_map (λ b. b.id) before)) }
+    ensures parent { IfOk result (λ node. parents_seen node.parents ≡ option_to_list (option_map (λ b. b.id) before)) }
     ensures link { IfOk result (λ node. node.linknode ≡ link) }
     ensures nodes { OnOk result (nodes.new.items ≡ nodes.old.items ++ set_nodes link made.now (dir_of dir.entry) (edits_view edits.now) (unode_before (option_map (λ b. manifest_seen b.node) before))) }
 {
@@ -144,25 +144,25 @@ fn parent_of(before: &Option<UnodeBefore>) -> Option<Id>
 fn manifest_of(parent: Option<Id>, link: Id, entries: Vec<UnodeChild>) -> UnodeManifest
     requires rising { are_entries (children_seen entries.items) ≡ true }
     requires fields { list_all (λ e. is_unode_entry e.1) (children_seen entries.items) ≡ true }
-    ensures { (result.parent ≡ parent) × (result.linknode ≡ link) × (result.entries ≡ entries) }
+    ensures { (parents_seen result.parents ≡ option_to_list parent) × (result.linknode ≡ link) × (result.entries ≡ entries) }
 {
-    let parent = whole_parent(parent);
+    let parents = whole_parents(parent);
     let linknode = whole_id(link);
     UnodeManifest {
-        parent,
+        parents,
         linknode,
         entries,
     }
 }
 
-// None, or an id of 32 bytes.
-fn whole_parent(parent: Option<Id>) -> Option<Id>
-    ensures same { result ≡ parent }
-    ensures rule { list_all (is_bytes 32) (option_to_list result) ≡ true }
+// No parent, or one whose id has 32 bytes.
+fn whole_parents(parent: Option<Id>) -> Parents
+    ensures same { parents_seen result ≡ option_to_list parent }
+    ensures rule { list_all (is_bytes 32) (parents_seen result) ≡ true }
 {
     match parent {
-        Some(id) => Some(whole_id(id)),
-        None => None,
+        Some(id) => Parents::One(whole_id(id)),
+        None => Parents::Absent,
     }
 }
 

@@ -124,16 +124,17 @@ fn edited<K: Kind>(
     ensures entry { (made : Option K.Seen) → IfOk result (λ entry. option_map K.seen entry ≡ edited_to (K.set kind.now edit.now.path) made K.is_file (change_view edit.now.change) (option_map K.seen before)) }
     ensures nodes { OnOk result (nodes.new.items ≡ nodes.old.items ++ nodes_of (K.own kind.now) edit.now.path (option_map K.seen before) (change_view edit.now.change)) }
 {
-    match edit.change {
+    match &edit.change {
         Change::Set {
             content,
             kind: file_kind,
             size,
+            copied: _,
         } => {
             let file = File {
-                content,
-                kind: file_kind,
-                size,
+                content: *content,
+                kind: *file_kind,
+                size: *size,
             };
             let entry = kind.set(alloc, &edit.path, file, before, nodes)?;
             Ok(Some(entry))

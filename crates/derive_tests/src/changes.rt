@@ -1,5 +1,5 @@
 //! Changesets of a few edits. An edit is told as `a/b=22`, which sets the file `a/b` to `22`, or as `a/b`, which deletes it.
-use bonsai::{Change, Changeset, Commit, Edit, Fields, FileKind};
+use bonsai::{Change, Changeset, Commit, Edit, Fields, FileKind, Version};
 use object_id::Id;
 use repo_path::RepoPath;
 use std::alloc::{AllocError, Global};
@@ -29,6 +29,7 @@ pub(crate) fn set(content: &[u8]) -> Change {
         content: Id::of(content),
         kind: FileKind::Regular,
         size: content.len().min(1_000) as u64,
+        copied: None,
     }
 }
 
@@ -44,6 +45,7 @@ fn fields(alloc: Global, parent: Option<Id>, edits: Vec<Edit>) -> Result<Fields,
     let parents = parents(alloc, parent)?;
     let author = String::from_str(alloc, "a")?;
     Ok(Fields {
+        version: Version::First,
         parents,
         author,
         seconds: 0,

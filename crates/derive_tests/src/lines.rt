@@ -92,6 +92,7 @@ fn set_of(file: &File) -> Change {
         content: file.content,
         kind: file.kind,
         size: file.size,
+        copied: None,
     }
 }
 

@@ -5,7 +5,7 @@ use object_id::Id;
 use std::alloc::Global;
 use std::process::Abort;
 use std::test::Fail;
-use unode::{FileUnode, decode_file};
+use unode::{FileUnode, Parents, decode_file};
 
 // Derives a changeset of edits that are told on another.
 fn derived(
@@ -84,7 +84,7 @@ fn a_file_that_was_away_has_no_parent(rt: HostRuntime) -> Result<(), Fail> {
     let id = store.file_in(last.roots, "p")?;
     assert_eq!(rt; length(&store, &id)?, 100);
     let file = file_unode(&store, &id)?;
-    assert_eq!(rt; file.parent, None);
+    assert_eq!(rt; file.parents, Parents::Absent);
     assert_eq!(rt; file.linknode, last.id);
     Ok(())
 }

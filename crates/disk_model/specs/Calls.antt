@@ -1,8 +1,10 @@
 -- What the calls of a disk do to its meaning.
 --     Kept old new      what each call keeps;  Looked old new      a call that changes nothing
 --     Did call old new      a write or a sync by the model, done or failed
+--     next_moment m      the number of the moment after this one
+--     SameMoment old new, NextMoment old new      it is still this moment, or the next one, and no more calls have failed
 --     LeavesOnly P old new      a crash at a moment after old left what has P
-use Rattle.std.specs.Prelude.{◌≡◌, ◌⊎◌, ℕ, ◌≤◌, if◌then◌else◌, is_some, IsTrue, List}
+use Rattle.std.specs.Prelude.{◌≡◌, ◌⊎◌, ℕ, ◌+◌, ◌≤◌, if◌then◌else◌, is_some, IsTrue, List}
 use Rattle.disk_model.specs.Images.{Disk, DiskCall, Writes, Syncs, holding, after_write, after_call, IsImage}
 use Rattle.disk_model.specs.Meaning.{Meaning, IsLong, LeftSince}
 
@@ -16,6 +18,17 @@ pub record Kept (old new : Meaning) : Type 0 where
   pub later : old.moment ≤ new.moment
   pub told : is_some new.past ≡ is_some old.past
   pub remembers : (t : ℕ) (image : List ℕ) → LeftSince old t image → LeftSince new t image
+
+abbrev pub next_moment : Meaning → ℕ
+next_moment m = if is_some m.past then m.moment + 1 else m.moment
+
+pub record SameMoment (old new : Meaning) : Type 0 where
+  pub moment_is : new.moment ≡ old.moment
+  pub faults_is : new.faults ≡ old.faults
+
+pub record NextMoment (old new : Meaning) : Type 0 where
+  pub moment_is : new.moment ≡ next_moment old
+  pub faults_is : new.faults ≡ old.faults
 
 -- Since old, a crash left nothing but what has P.
 pub record LeavesOnly (P : List ℕ → Type 0) (old new : Meaning) : Type 0 where

@@ -1,6 +1,7 @@
 //! The bytes of a journal, an append that a crash stops, and disks that fail.
 ghost use Rattle.std.specs.Prelude.{◌≡◌, ◌+◌, ◌≤◌, ◌<◌, ◌^◌, false, length, IfOk, IsTrue, OnOk};
 ghost use Rattle.disk_model.specs.Meaning.{IsLong};
+ghost use Rattle.changeset_model.specs.Version.{First};
 ghost use Rattle.history_model.specs.Journal.{is_header};
 ghost use Rattle.repo_journal.specs.Groups.{IsGroup, grown};
 ghost use Rattle.repo_journal.specs.Sealing.{IsFramed};
@@ -77,7 +78,7 @@ fn empty_disk(alloc: Global, room: u64) -> Result<MemDisk, AllocError> {
 }
 
 fn make_file<D: Disk>(disk: &mut D, capacity: u64) -> Result<(), Fail>
-    requires { IsTrue (is_header (record { capacity = capacity })) }
+    requires { IsTrue (is_header (record { capacity = capacity; version = First })) }
 {
     Ok(init(disk, capacity)?)
 }

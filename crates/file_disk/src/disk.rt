@@ -1,5 +1,5 @@
 //! A disk over an open file.
-ghost use Rattle.std.specs.Prelude.{◌≡◌, Ok, IfOk, is_err};
+ghost use Rattle.std.specs.Prelude.{◌≡◌, Ok, IfOk, OnOk, is_err};
 ghost use Rattle.ports.specs.Faults.{Counts};
 ghost use Rattle.file_disk.specs.Apart.{IsApart};
 ghost use Rattle.file_disk.specs.Untold.{untold, untold_sound};
@@ -48,6 +48,7 @@ impl<R: Eprint + Drop> FileDisk<R> {
     fn count<T>(&mut self, answer: io::Result<T>) -> Result<T, Failed>
         ensures given { IfOk result (λ x. answer ≡ Ok x) }
         ensures faults { Counts self.old.calls.faults self.new.calls.faults (is_err result) }
+        ensures done { OnOk result (self.new.calls.faults ≡ self.old.calls.faults) }
     {
         match answer {
             Ok(given) => Ok(given),
@@ -61,7 +62,8 @@ impl<R: Eprint + Drop> FileDisk<R> {
 
     // The same of a call that stores.
     fn count_stored(&mut self, answer: io::Result<()>) -> Result<(), Failed>
-        ensures { Counts self.old.calls.faults self.new.calls.faults (is_err result) }
+        ensures faults { Counts self.old.calls.faults self.new.calls.faults (is_err result) }
+        ensures done { OnOk result (self.new.calls.faults ≡ self.old.calls.faults) }
     {
         match answer {
             Ok(()) => Ok(()),

@@ -2,13 +2,17 @@
 ghost use Rattle.std.specs.Prelude.{◌≤◌, ◌<◌, ◌^◌, length};
 ghost use Rattle.history_model.specs.History.{changesets_in};
 ghost use Rattle.history_model.specs.Journal.{IsPayload};
-ghost use Rattle.repo_events.specs.Entries.{body_of};
+ghost use Rattle.repo_events.specs.Entries.{body_of, parts_in};
 
 use crate::bytes::{id_of_hex, of_hex};
-use crate::samples::{ABC, CHANGESET, CONTENT, DELETED, LANDING, MADE, MOVED, NEW, NO_HEADS, OLD};
+use crate::samples::{
+    ABC, CALLED, CHANGESET, CONTENT, COPY, COPY_ID, DATED, DATED_LANDING, DELETED, LANDING, MADE,
+    MOVED, NEW, NO_HEADS, OLD, POLICY, WHOLE,
+};
 use bonsai::Commit;
 use object_id::Id;
 use repo_events::{Body, FRAME, Landing, Move, decode_payload, encode_entry};
+use repo_path::BookName;
 use std::alloc::Global;
 
 // The entry that a payload stands for.
@@ -36,6 +40,42 @@ fn moves(book: &Move, from: Option<Id>, to: Option<Id>) -> bool {
     book.name.as_str() == "main" && book.from == from && book.to == to
 }
 
+fn is_by_alice(caller: Option<&BookName>) -> bool {
+    match caller {
+        Some(name) => name.as_str() == "alice",
+        None => false,
+    }
+}
+
+// Whether `alice` moves `main`, where no head was and none is.
+fn is_called_move(alloc: Global, payload: &str) -> bool {
+    let body = read(alloc, payload);
+    match &body {
+        Some(Body::Book(book)) => moves(book, None, None) && is_by_alice(book.caller.as_ref()),
+        Some(_) | None => false,
+    }
+}
+
+fn is_whole(alloc: Global, payload: &str, wanted: Id, wanted_parts: &[Id]) -> bool {
+    let body = read(alloc, payload);
+    match &body {
+        Some(Body::Whole { id, length, parts }) => {
+            *id == wanted && *length == 6 && parts.as_slice() == wanted_parts
+        }
+        Some(_) | None => false,
+    }
+}
+
+fn is_policy(alloc: Global, payload: &str, wanted: &[u8]) -> bool {
+    let body = read(alloc, payload);
+    match &body {
+        Some(Body::Policy { caller, text }) => {
+            caller.as_str() == "alice" && text.as_slice() == wanted
+        }
+        Some(_) | None => false,
+    }
+}
+
 // Whether it moves `main` between heads, of which an empty text is none.
 fn is_move(alloc: Global, payload: &str, from: &str, to: &str) -> bool {
     let body = read(alloc, payload);
@@ -56,17 +96,19 @@ fn is_one(commits: &[Commit], wanted: Id) -> bool {
     }
 }
 
-fn lands(landing: &Landing, old: Id, new: Id) -> bool {
+fn lands(landing: &Landing, old: Id, new: Id, moment: Option<u64>) -> bool {
     landing.name.as_str() == "main"
         && landing.old == old
         && landing.draft == new
         && is_one(&landing.new, new)
+        && landing.moment == moment
+        && landing.caller.is_none()
 }
 
-fn is_landing(alloc: Global, payload: &str, old: Id, new: Id) -> bool {
+fn is_landing(alloc: Global, payload: &str, old: Id, new: Id, moment: Option<u64>) -> bool {
     let body = read(alloc, payload);
     match &body {
-        Some(Body::Land(landing)) => lands(landing, old, new),
+        Some(Body::Land(landing)) => lands(landing, old, new, moment),
         Some(_) | None => false,
     }
 }
@@ -76,10 +118,15 @@ fn frame_of(alloc: Global, body: &Body, bytes: &[u8]) -> Option<Vec<u8>>
     requires short { length bytes.now ≤ 1_000_000 }
     requires spelled { IsPayload (body_of body.now) bytes.now }
     requires counted { length (changesets_in (body_of body.now)) < 2 ^ 16 }
+    requires parted { length (parts_in (body_of body.now)) < 2 ^ 16 }
 {
     let content = match body {
         Body::Content { id: _, length: _ } => bytes.get(1..)?,
-        Body::Change(_) | Body::Book(_) | Body::Land(_) => b"",
+        Body::Whole { .. }
+        | Body::Change(_)
+        | Body::Book(_)
+        | Body::Land(_)
+        | Body::Policy { .. } => b"",
     };
     encode_entry(alloc, body, content).ok()
 }
@@ -112,6 +159,7 @@ fn contents_and_changesets_are_read(rt: HostRuntime) {
     assert!(rt; is_content(alloc, CONTENT, id_of_hex(ABC), 3));
     assert!(rt; is_content(alloc, "42", Id::of(b""), 0));
     assert!(rt; is_changeset(alloc, CHANGESET, OLD));
+    assert!(rt; is_changeset(alloc, COPY, COPY_ID));
 }
 
 #[test]
@@ -128,7 +176,26 @@ fn moves_are_read(rt: HostRuntime) {
 
 #[test]
 fn landings_are_read(rt: HostRuntime) {
-    assert!(rt; is_landing(rt.alloc(), LANDING, id_of_hex(OLD), id_of_hex(NEW)));
+    let (alloc, old) = (rt.alloc(), id_of_hex(OLD));
+    assert!(rt; is_landing(alloc, LANDING, old, id_of_hex(NEW), None));
+    assert!(rt;
+        is_landing(
+            alloc,
+            DATED_LANDING,
+            old,
+            id_of_hex(DATED),
+            Some(1_700_000_000)
+        )
+    );
+}
+
+#[test]
+fn wholes_callers_and_policies_are_read(rt: HostRuntime) {
+    let alloc = rt.alloc();
+    let parts = [Id::of(b"abc"), Id::of(b"def")];
+    assert!(rt; is_whole(alloc, WHOLE, Id::of(b"abcdef"), parts.as_slice()));
+    assert!(rt; is_called_move(alloc, CALLED));
+    assert!(rt; is_policy(alloc, POLICY, b"main alice\n"));
 }
 
 #[test]
@@ -142,6 +209,11 @@ fn entries_are_written_as_they_were_read(rt: HostRuntime) {
         (DELETED, 40),
         (MOVED, 72),
         (LANDING, 179),
+        (COPY, 108),
+        (DATED_LANDING, 188),
+        (WHOLE, 107),
+        (CALLED, 15),
+        (POLICY, 19),
     ] {
         assert!(rt; is_framed(rt.alloc(), payload, length), "{payload}");
     }

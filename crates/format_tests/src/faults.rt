@@ -1,23 +1,31 @@
 //! Where the faults of payloads of entries are.
 use crate::bytes::{changed, last_start, letters, of_hex};
-use crate::samples::{CHANGESET, CONFLICT, CONTENT, DELETED, LANDING, MADE, MOVED, NO_HEADS};
+use crate::samples::{
+    CALLED, CHANGESET, CONFLICT, CONTENT, COPY, DATED_LANDING, DELETED, LANDING, MADE, MOVED,
+    NO_HEADS, POLICY, WHOLE,
+};
 use repo_events::{PayloadFault, decode_payload};
 use std::alloc::{AllocError, Global};
 
 // Where the fields of entries begin.
-const FIELDS: [(&str, &[usize]); 6] = [
+const FIELDS: [(&str, &[usize]); 10] = [
     (CHANGESET, &[0, 1]),
     (NO_HEADS, &[0, 1, 2, 6, 7]),
     (MADE, &[0, 1, 2, 6, 7]),
     (DELETED, &[0, 1, 2, 6, 39]),
     (MOVED, &[0, 1, 2, 6, 39]),
     (LANDING, &[0, 1, 2, 6, 38, 70, 72, 76]),
+    (COPY, &[0, 1]),
+    (DATED_LANDING, &[0, 1, 2, 6, 38, 70, 78, 80, 84]),
+    (WHOLE, &[0, 1, 33, 41, 43, 75]),
+    (CALLED, &[0, 1, 2, 7, 8, 9, 13, 14]),
 ];
 
 // A payload, a place, the byte that is put there, and where the fault is.
-const BAD_FIELDS: [(&str, usize, u8, u64); 16] = [
+const BAD_FIELDS: [(&str, usize, u8, u64); 23] = [
     (CONTENT, 0, 0x44, 0),
-    (CHANGESET, 1, 2, 1),
+    (CHANGESET, 1, 3, 1),
+    (CHANGESET, 1, 0, 1),
     (CONFLICT, 0, 0x43, 1),
     (NO_HEADS, 1, 0, 2),
     (NO_HEADS, 2, b' ', 2),
@@ -32,6 +40,12 @@ const BAD_FIELDS: [(&str, usize, u8, u64); 16] = [
     (LANDING, 75, 0x66, 76),
     (LANDING, 75, 0x68, 76),
     (LANDING, 76, 0x44, 76),
+    (DATED_LANDING, 79, 0, 80),
+    (DATED_LANDING, 79, 2, 188),
+    (WHOLE, 41, 1, 107),
+    (CALLED, 1, 0, 2),
+    (CALLED, 7, 0x42, 7),
+    (POLICY, 7, 0x41, 7),
 ];
 
 // The place of the fault.
@@ -95,7 +109,14 @@ fn fields_that_break_their_rule(rt: HostRuntime) {
 
 #[test]
 fn bytes_that_follow(rt: HostRuntime) {
-    for (text, length) in [(NO_HEADS, 8), (MOVED, 72), (LANDING, 179)] {
+    for (text, length) in [
+        (NO_HEADS, 8),
+        (MOVED, 72),
+        (LANDING, 179),
+        (DATED_LANDING, 188),
+        (WHOLE, 107),
+        (CALLED, 15),
+    ] {
         assert_eq!(rt;
             place_with_one_more(rt.alloc(), text),
             Some(length),

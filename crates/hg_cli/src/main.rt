@@ -7,7 +7,7 @@ mod streams;
 
 use command_line::{Status, refuse_words, run};
 use file_disk::FileOpener;
-use net_ports::{ReaderSource, TcpAccept, WriterSink};
+use net_ports::{ReaderSource, SystemClock, TcpAccept, WriterSink};
 use ports::{NoGate, Pair};
 use program_words::{Command, number_fault, read_words};
 use std::alloc::Global;
@@ -99,6 +99,7 @@ fn main(rt: HostRuntime) -> ExitCode {
                     &mut opener,
                     accept,
                     &NoGate,
+                    &SystemClock::new(&rt),
                 );
                 if ran.status == Status::Usage {
                     explain(&rt, words);

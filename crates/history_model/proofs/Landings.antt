@@ -1,5 +1,5 @@
 -- Where a landing's tree agrees with the draft's and where with the old head's; and stacks that may land in either order.
-use Rattle.std.proofs.Common.{◌≡◌, Bool, true, false, cond, ◌||◌, ◌&&◌, List, [], ◌∷◌, ◌++◌, map, refl, sym, ap, subst, ◌∙◌}
+use Rattle.std.proofs.Common.{◌≡◌, ℕ, Bool, true, false, cond, ◌||◌, ◌&&◌, List, [], ◌∷◌, ◌++◌, map, refl, sym, ap, subst, ◌∙◌}
 use Rattle.std.specs.Prelude.{Option, Some, None, Contains, flat_map}
 use mathlib.Core.Bool.{true≢false}
 use Rattle.std.specs.List.{AllByRecursion, list_any}
@@ -31,7 +31,7 @@ prefix_self [] = refl
 prefix_self (e ∷ p) = (λ i. (lists_equiv nat_eq_equiv).refl e i && prefix_self p i)
 
 self_decides : (c : FileChange) (p : Path) → decides_at c p p ≡ true
-self_decides (Set f) p = (λ i. prefix_self p i || is_prefix p p)
+self_decides (Set f copied) p = (λ i. prefix_self p i || is_prefix p p)
 self_decides Delete p = (lists_equiv (lists_equiv nat_eq_equiv)).refl p
 
 pub or_true : (a b : Bool) → b ≡ true → (a || b) ≡ true
@@ -63,18 +63,18 @@ touched_decided : (cs : List Changeset) (p : Path) → Contains (touched_paths c
 touched_decided cs p touched = each_of (λ p. list_any (λ c. decides c p) cs ≡ true) (touched_paths cs) p (each_rising (λ p. list_any (λ c. decides c p) cs ≡ true) (paths cs) (members_decide cs)) touched
 
 -- at a touched path the landing has what the draft has
-pub landed_as_drafted : (root of_head stack : List Changeset) (head : Id) (p : Path) → Contains (touched_paths stack) p → tree (of_head ++ rewrite stack head) p ≡ tree (root ++ stack) p
-landed_as_drafted root of_head stack head p touched =
+pub landed_as_drafted : (root of_head stack : List Changeset) (head : Id) (moment : ℕ) (p : Path) → Contains (touched_paths stack) p → tree (of_head ++ rewrite stack head moment) p ≡ tree (root ++ stack) p
+landed_as_drafted root of_head stack head moment p touched =
     let decided = touched_decided stack p touched in
-    tree-landed of_head stack head p
+    tree-landed of_head stack head moment p
     ∙ ap (λ b. cond b (tree stack p) (tree of_head p)) decided
     ∙ sym (tree-append root stack p ∙ ap (λ b. cond b (tree stack p) (tree root p)) decided)
 
 -- at a path that is comparable to no touched one it has what the old head had
-pub landed_as_head : (of_head stack : List Changeset) (head : Id) (p : Path) → ((q : Path) → Contains (touched_paths stack) q → comparable p q ≡ false) → tree (of_head ++ rewrite stack head) p ≡ tree of_head p
-landed_as_head of_head stack head p apart =
+pub landed_as_head : (of_head stack : List Changeset) (head : Id) (moment : ℕ) (p : Path) → ((q : Path) → Contains (touched_paths stack) q → comparable p q ≡ false) → tree (of_head ++ rewrite stack head moment) p ≡ tree of_head p
+landed_as_head of_head stack head moment p apart =
     let all = from_rising (λ q. comparable p q ≡ false) (paths stack) (weaker (Contains (touched_paths stack)) (λ q. comparable p q ≡ false) apart (touched_paths stack) (members (touched_paths stack))) in
-    tree-landed of_head stack head p ∙ ap (λ b. cond b (tree stack p) (tree of_head p)) (nothing_decides p stack all)
+    tree-landed of_head stack head moment p ∙ ap (λ b. cond b (tree stack p) (tree of_head p)) (nothing_decides p stack all)
 
 -- ---- two stacks that are apart
 

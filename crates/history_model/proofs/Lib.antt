@@ -3,3 +3,6 @@ pub mod Trees
 pub mod Touched
 pub mod Chains
 pub mod Landings
+pub mod Pasts
+pub mod Merges
+pub mod Places

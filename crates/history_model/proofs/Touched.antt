@@ -26,7 +26,7 @@ path_eq_prefix (e ∷ p) [] h = refl
 path_eq_prefix (e ∷ p) (f ∷ q) h = and_false (bytes_eq e f) (is_prefix p q) (path_eq p q) (path_eq_prefix p q) h
 
 undecided : (c : FileChange) (r p : Path) → comparable p r ≡ false → decides_at c r p ≡ false
-undecided (Set f) r p h = comparable-comm r p ∙ h
+undecided (Set f copied) r p h = comparable-comm r p ∙ h
 undecided Delete r p h = path_eq_prefix r p (either_false (is_prefix p r) (is_prefix r p) h).1
 
 none_of : (p : Path) (es : List (Path × FileChange)) → AllByRecursion (λ r. comparable p r ≡ false) (map (λ e. e.0) es) → list_any (λ e. decides_at e.1 e.0 p) es ≡ false

@@ -15,9 +15,9 @@ use Rattle.repo_calls.specs.declared.calls.Question.{Question}
 use Rattle.repo_calls.specs.declared.calls.Question.TheVariants as questions
 use Rattle.repo_calls.specs.declared.calls.Seen.{Seen}
 use Rattle.repo_calls.specs.declared.calls.Seen.TheVariants as seen
-use Rattle.repo_calls.specs.Asking.{fault_answer, question_seen, IsAnswer}
+use Rattle.repo_calls.specs.Asking.{fault_answer, question_seen, copies_seen, IsAnswer}
 use Rattle.repo_calls.specs.Replying as replying
-use Rattle.repo_calls.specs.Replying.{MakesNothing, SeenKind, HeadKind, BytesKind, PageKind, IdsKind, kind_of, IsReplying}
+use Rattle.repo_calls.specs.Replying.{MakesNothing, SeenKind, HeadKind, BytesKind, PageKind, IdsKind, CopiesKind, kind_of, IsReplying}
 use Rattle.session_model.specs.declared.status.Status.TheVariants.{Fine}
 use Rattle.session_model.specs.Responses.{Response, text_of}
 use Rattle.session_model.specs.Bodies.{json, octets, log_body, memory}
@@ -77,30 +77,42 @@ suits_head (seen.Head head) answer is shown = tt
 suits_head (seen.Bytes bytes) answer is shown = shown (reply.SeenBytes bytes.items) is
 suits_head (seen.Log page) answer is shown = shown (reply.SeenLog is.0 page.total) is.1
 suits_head (seen.Ids ids) answer is shown = shown (reply.SeenIds ids.items) is
+suits_head (seen.Copies copies) answer is shown = shown (reply.SeenCopies (copies_seen copies.items)) is
 
 suits_bytes : (s : Seen) (answer : Answer) → IsAnswer (Ok s) answer → ((x : reply.Seen) → answer ≡ Shows x → replying.AreBytes x) → reading.AreBytes s
 suits_bytes (seen.Head head) answer is shown = shown (reply.SeenHead head) is
 suits_bytes (seen.Bytes bytes) answer is shown = tt
 suits_bytes (seen.Log page) answer is shown = shown (reply.SeenLog is.0 page.total) is.1
 suits_bytes (seen.Ids ids) answer is shown = shown (reply.SeenIds ids.items) is
+suits_bytes (seen.Copies copies) answer is shown = shown (reply.SeenCopies (copies_seen copies.items)) is
 
 suits_page : (from : ℕ) (s : Seen) (answer : Answer) → IsAnswer (Ok s) answer → ((x : reply.Seen) → answer ≡ Shows x → replying.IsPageFrom from x) → reading.IsPageFrom from s
 suits_page from (seen.Head head) answer is shown = shown (reply.SeenHead head) is
 suits_page from (seen.Bytes bytes) answer is shown = shown (reply.SeenBytes bytes.items) is
 suits_page from (seen.Log page) answer is shown = page_suits page.entries.items is.0 (page.total - from) is.2 (shown (reply.SeenLog is.0 page.total) is.1)
 suits_page from (seen.Ids ids) answer is shown = shown (reply.SeenIds ids.items) is
+suits_page from (seen.Copies copies) answer is shown = shown (reply.SeenCopies (copies_seen copies.items)) is
 
 suits_ids : (s : Seen) (answer : Answer) → IsAnswer (Ok s) answer → ((x : reply.Seen) → answer ≡ Shows x → replying.AreIds x) → reading.AreIds s
 suits_ids (seen.Head head) answer is shown = shown (reply.SeenHead head) is
 suits_ids (seen.Bytes bytes) answer is shown = shown (reply.SeenBytes bytes.items) is
 suits_ids (seen.Log page) answer is shown = shown (reply.SeenLog is.0 page.total) is.1
 suits_ids (seen.Ids ids) answer is shown = tt
+suits_ids (seen.Copies copies) answer is shown = shown (reply.SeenCopies (copies_seen copies.items)) is
+
+suits_copies : (s : Seen) (answer : Answer) → IsAnswer (Ok s) answer → ((x : reply.Seen) → answer ≡ Shows x → replying.AreCopies x) → reading.AreCopies s
+suits_copies (seen.Head head) answer is shown = shown (reply.SeenHead head) is
+suits_copies (seen.Bytes bytes) answer is shown = shown (reply.SeenBytes bytes.items) is
+suits_copies (seen.Log page) answer is shown = shown (reply.SeenLog is.0 page.total) is.1
+suits_copies (seen.Ids ids) answer is shown = shown (reply.SeenIds ids.items) is
+suits_copies (seen.Copies copies) answer is shown = tt
 
 suits : (kind : SeenKind) (s : Seen) (answer : Answer) → IsAnswer (Ok s) answer → ((x : reply.Seen) → answer ≡ Shows x → replying.IsOfKind kind x) → SuitsKind kind s
 suits HeadKind s answer is shown = suits_head s answer is shown
 suits BytesKind s answer is shown = suits_bytes s answer is shown
 suits (PageKind from) s answer is shown = suits_page from s answer is shown
 suits IdsKind s answer is shown = suits_ids s answer is shown
+suits CopiesKind s answer is shown = suits_copies s answer is shown
 
 -- a read that is answered by bytes as they are
 answers_bytes : (question : Question) (s : Seen) (answer : Answer) → ((bytes : List ℕ) → read_response (question_seen question) (Shows (reply.SeenBytes bytes)) ≡ octets bytes)
@@ -109,30 +121,40 @@ answers_bytes question (seen.Head head) answer as_octets is suits = absurd suits
 answers_bytes question (seen.Bytes bytes) answer as_octets is suits = ap (read_response (question_seen question)) is ∙ as_octets bytes.items
 answers_bytes question (seen.Log page) answer as_octets is suits = absurd suits
 answers_bytes question (seen.Ids ids) answer as_octets is suits = absurd suits
+answers_bytes question (seen.Copies copies) answer as_octets is suits = absurd suits
 
 response_is : (question : Question) (s : Seen) (answer : Answer) → IsAnswer (Ok s) answer → Suits question s → read_response (question_seen question) answer ≡ seen_response question s
 response_is (questions.Head name) (seen.Head head) answer is suits = ap (read_response (question_seen (questions.Head name))) is
 response_is (questions.Head name) (seen.Bytes bytes) answer is suits = absurd suits
 response_is (questions.Head name) (seen.Log page) answer is suits = absurd suits
 response_is (questions.Head name) (seen.Ids ids) answer is suits = absurd suits
+response_is (questions.Head name) (seen.Copies copies) answer is suits = absurd suits
 response_is (questions.Content id) s answer is suits = answers_bytes (questions.Content id) s answer (λ bytes. refl) is suits
 response_is (questions.Changeset id) s answer is suits = answers_bytes (questions.Changeset id) s answer (λ bytes. refl) is suits
 response_is (questions.Log from) (seen.Head head) answer is suits = absurd suits
 response_is (questions.Log from) (seen.Bytes bytes) answer is suits = absurd suits
 response_is (questions.Log from) (seen.Log page) answer is suits = ap (read_response (question_seen (questions.Log from))) is.1 ∙ ap (λ lines. json Fine (log_body from lines page.total)) (sym is.2)
 response_is (questions.Log from) (seen.Ids ids) answer is suits = absurd suits
+response_is (questions.Log from) (seen.Copies copies) answer is suits = absurd suits
 response_is (questions.Fsnode id dir) s answer is suits = answers_bytes (questions.Fsnode id dir) s answer (λ bytes. refl) is suits
 response_is (questions.Unode id path) s answer is suits = answers_bytes (questions.Unode id path) s answer (λ bytes. refl) is suits
 response_is (questions.History id path) (seen.Head head) answer is suits = absurd suits
 response_is (questions.History id path) (seen.Bytes bytes) answer is suits = absurd suits
 response_is (questions.History id path) (seen.Log page) answer is suits = absurd suits
 response_is (questions.History id path) (seen.Ids ids) answer is suits = ap (read_response (question_seen (questions.History id path))) is
+response_is (questions.History id path) (seen.Copies copies) answer is suits = absurd suits
+response_is (questions.Copies id) (seen.Head head) answer is suits = absurd suits
+response_is (questions.Copies id) (seen.Bytes bytes) answer is suits = absurd suits
+response_is (questions.Copies id) (seen.Log page) answer is suits = absurd suits
+response_is (questions.Copies id) (seen.Ids ids) answer is suits = absurd suits
+response_is (questions.Copies id) (seen.Copies copies) answer is suits = ap (read_response (question_seen (questions.Copies id))) is
 
 shows_nothing : (s : Seen) (answer : Answer) → IsAnswer (Ok s) answer → MakesNothing answer
 shows_nothing (seen.Head head) answer is = subst MakesNothing (sym is) tt
 shows_nothing (seen.Bytes bytes) answer is = subst MakesNothing (sym is) tt
 shows_nothing (seen.Log page) answer is = subst MakesNothing (sym is.1) tt
 shows_nothing (seen.Ids ids) answer is = subst MakesNothing (sym is) tt
+shows_nothing (seen.Copies copies) answer is = subst MakesNothing (sym is) tt
 
 module _ (replies : Relation) (lawful : IsReplying replies) (header : Header) (h : List Entry) (who : ℕ) (after : List Entry) where
   -- a change that is refused is answered by its refusal, or by want of memory

@@ -1,3 +1,4 @@
 pub mod AnswerLemmas
 pub mod Steps
 pub mod Turning
+pub mod Dating

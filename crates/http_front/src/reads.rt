@@ -16,6 +16,7 @@ use object_id::Id;
 use repo_calls::{AskFault, Question, Seat, Seen};
 use repo_path::BookName;
 use repo_text::bodies::MOST_CODE;
+use repo_text::copies::copies_body;
 use repo_text::history::history_body;
 use repo_text::log::log_body;
 use repo_text::{Body, Media};
@@ -30,7 +31,7 @@ pub(crate) fn look<T: Seat>(
     question: &Question<'_>,
     form: ResponseForm,
 )
-    ensures answers { Replied T.replies (T.header seat.old) (T.number seat.old) (T.front seat.old) (Looks (question_seen question.now)) (read_response (question_seen question.now)) form.close form.head_only buffer.new (T.front seat.new) }
+    ensures answers { Replied (T.replies (T.home seat.old)) (T.header seat.old) (T.number seat.old) (T.front seat.old) (Looks (question_seen question.now)) (read_response (question_seen question.now)) form.close form.head_only buffer.new (T.front seat.new) }
     ensures header { T.header seat.new ≡ T.header seat.old }
     ensures number { T.number seat.new ≡ T.number seat.old }
     ensures home { T.home seat.new ≡ T.home seat.old }
@@ -88,6 +89,10 @@ fn try_put_seen(
         Seen::Ids(ids) => {
             let body = history_body(alloc, ids.as_slice())?;
             buffer.put_large(Status::Fine, Media::Json, body.as_slice(), form)
+        }
+        Seen::Copies(copies) => {
+            let body = copies_body(alloc, copies.as_slice())?;
+            buffer.put_large(Status::Fine, Media::Json, body.as_bytes(), form)
         }
     }
 }

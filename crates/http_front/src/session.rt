@@ -6,6 +6,7 @@ ghost use Rattle.ports.specs.Faults.{Rose};
 ghost use Rattle.session_model.specs.Responses.{text_of};
 ghost use Rattle.session_model.specs.Bodies.{memory};
 ghost use Rattle.session_model.specs.Session.{Answers, status_for, closing, closing_memory};
+ghost use Rattle.session_model.specs.Dating.{Dated};
 ghost use Rattle.http_wire.specs.Seen.{seen};
 ghost use Rattle.http_front.specs.Turns.{Sent, SentLast};
 ghost use Rattle.http_front.specs.Serving.{Start, Going, Finished, TurnGoes};
@@ -15,7 +16,7 @@ use crate::ended::Ended;
 use crate::link::{read_more, send};
 use crate::response_buffer::{ResponseBuffer, ResponseForm};
 use http_wire::{Cutter, HeadRefusal, MOST_PIECE, Next, Request};
-use ports::{Failed, Link};
+use ports::{Clock, Failed, Link};
 use repo_calls::Seat;
 use routes::Routes;
 use session_model::Status;
@@ -52,16 +53,17 @@ impl SessionState {
 }
 
 // Answers a request, and ends the session where the request asks for that.
-fn serve_request<T: Seat, L: Link>(
+fn serve_request<T: Seat, L: Link, C: Clock>(
     alloc: Global,
     routes: &Routes,
     seat: &mut T,
     buffer: &mut ResponseBuffer,
     link: &mut L,
+    clock: &C,
     request: &Request,
 ) -> Option<Ended>
     requires { request.now.head_only ≡ is_head_only (seen request.now) }
-    ensures answers { Answers T.replies (T.header seat.old) (T.number seat.old) (T.front seat.old) (seen request.now) buffer.new (T.front seat.new) }
+    ensures answers { Answers (Dated (C.tells clock.now) (T.replies (T.home seat.old))) (T.header seat.old) (T.number seat.old) (T.front seat.old) (seen request.now) buffer.new (T.front seat.new) }
     ensures header { T.header seat.new ≡ T.header seat.old }
     ensures number { T.number seat.new ≡ T.number seat.old }
     ensures home { T.home seat.new ≡ T.home seat.old }
@@ -70,7 +72,7 @@ fn serve_request<T: Seat, L: Link>(
     ensures faults { L.faults link.old ≤ L.faults link.new }
     ensures cause { result ≡ Some Ended.LinkFault → Rose (L.faults link.old) (L.faults link.new) }
 {
-    answer(alloc, routes, seat, buffer, request);
+    answer(alloc, routes, seat, clock, buffer, request);
     send(buffer, link, request.close)
 }
 
@@ -132,15 +134,16 @@ fn refuse<L: Link>(buffer: &mut ResponseBuffer, link: &mut L, refusal: HeadRefus
 }
 
 // One turn: the next request is answered, or more bytes are read, or the session ends.
-fn turn<T: Seat, L: Link>(
+fn turn<T: Seat, L: Link, C: Clock>(
     alloc: Global,
     routes: &Routes,
     seat: &mut T,
     link: &mut L,
+    clock: &C,
     state: &mut SessionState,
 ) -> Option<Ended>
     requires { vec_len state.old.piece ≡ MOST_PIECE }
-    ensures goes { TurnGoes T.replies (T.header seat.old) (T.number seat.old) (T.front seat.old) (T.front seat.new) (L.rest link.old) (L.rest link.new) (L.written link.old) (L.written link.new) state.old.cutter state.old.budget state.new.cutter state.new.budget result }
+    ensures goes { TurnGoes (Dated (C.tells clock.now) (T.replies (T.home seat.old))) (T.header seat.old) (T.number seat.old) (T.front seat.old) (T.front seat.new) (L.rest link.old) (L.rest link.new) (L.written link.old) (L.written link.new) state.old.cutter state.old.budget state.new.cutter state.new.budget result }
     ensures nearer { IfNone result (2 * state.new.budget + length state.new.cutter < 2 * state.old.budget + length state.old.cutter) }
     ensures header { T.header seat.new ≡ T.header seat.old }
     ensures number { T.number seat.new ≡ T.number seat.old }
@@ -151,7 +154,15 @@ fn turn<T: Seat, L: Link>(
 {
     match state.cutter.next(alloc) {
         Next::Message(request) => {
-            serve_request(alloc, routes, seat, &mut state.buffer, link, &request)
+            serve_request(
+                alloc,
+                routes,
+                seat,
+                &mut state.buffer,
+                link,
+                clock,
+                &request,
+            )
         }
         Next::Memory { close, head_only } => {
             serve_unread(&mut state.buffer, link, ResponseForm { close, head_only })
@@ -175,15 +186,16 @@ fn end_without_memory<L: Link>(link: &mut L) -> Ended
 }
 
 // The turns of a session, to its end.
-fn serve<T: Seat, L: Link>(
+fn serve<T: Seat, L: Link, C: Clock>(
     alloc: Global,
     routes: &Routes,
     seat: &mut T,
     link: &mut L,
+    clock: &C,
     state: SessionState,
 ) -> Ended
     requires new { (state.cutter ≡ []) × (state.budget ≡ MOST_READ) × (vec_len state.piece ≡ MOST_PIECE) }
-    ensures session { Finished T.replies (record { header = T.header seat.old; who = T.number seat.old; history = T.front seat.old; rest = L.rest link.old; written = L.written link.old }) (T.front seat.new) (L.rest link.new) (L.written link.new) result }
+    ensures session { Finished (Dated (C.tells clock.now) (T.replies (T.home seat.old))) (record { header = T.header seat.old; who = T.number seat.old; history = T.front seat.old; rest = L.rest link.old; written = L.written link.old }) (T.front seat.new) (L.rest link.new) (L.written link.new) result }
     ensures header { T.header seat.new ≡ T.header seat.old }
     ensures number { T.number seat.new ≡ T.number seat.old }
     ensures home { T.home seat.new ≡ T.home seat.old }
@@ -192,16 +204,21 @@ fn serve<T: Seat, L: Link>(
 {
     let mut state = state;
     'turns: loop {
-        if let Some(end) = turn(alloc, routes, seat, link, &mut state) {
+        if let Some(end) = turn(alloc, routes, seat, link, clock, &mut state) {
             return end;
         }
     }
 }
 
 /// Serves one connection for a seat: takes requests from the link, has each answered in its order and writes its
-/// response before the next is taken, until the session ends.
-pub fn serve_session<T: Seat, L: Link>(alloc: Global, seat: &mut T, link: &mut L) -> Ended
-    ensures session { Finished T.replies (record { header = T.header seat.old; who = T.number seat.old; history = T.front seat.old; rest = L.rest link.old; written = L.written link.old }) (T.front seat.new) (L.rest link.new) (L.written link.new) result }
+/// response before the next is taken, until the session ends. The clock is read once for each landing that is asked for.
+pub fn serve_session<T: Seat, L: Link, C: Clock>(
+    alloc: Global,
+    seat: &mut T,
+    link: &mut L,
+    clock: &C,
+) -> Ended
+    ensures session { Finished (Dated (C.tells clock.now) (T.replies (T.home seat.old))) (record { header = T.header seat.old; who = T.number seat.old; history = T.front seat.old; rest = L.rest link.old; written = L.written link.old }) (T.front seat.new) (L.rest link.new) (L.written link.new) result }
     ensures header { T.header seat.new ≡ T.header seat.old }
     ensures number { T.number seat.new ≡ T.number seat.old }
     ensures home { T.home seat.new ≡ T.home seat.old }
@@ -209,19 +226,20 @@ pub fn serve_session<T: Seat, L: Link>(alloc: Global, seat: &mut T, link: &mut L
     ensures fault { result ≡ Ended.LinkFault → Rose (L.faults link.old) (L.faults link.new) }
 {
     match Routes::new(alloc) {
-        Ok(routes) => serve_routed(alloc, &routes, seat, link),
+        Ok(routes) => serve_routed(alloc, &routes, seat, link, clock),
         Err(AllocError) => end_without_memory(link),
     }
 }
 
 /// Serves one connection as `serve_session` does, by a table of routes that stands for many sessions.
-pub fn serve_routed<T: Seat, L: Link>(
+pub fn serve_routed<T: Seat, L: Link, C: Clock>(
     alloc: Global,
     routes: &Routes,
     seat: &mut T,
     link: &mut L,
+    clock: &C,
 ) -> Ended
-    ensures session { Finished T.replies (record { header = T.header seat.old; who = T.number seat.old; history = T.front seat.old; rest = L.rest link.old; written = L.written link.old }) (T.front seat.new) (L.rest link.new) (L.written link.new) result }
+    ensures session { Finished (Dated (C.tells clock.now) (T.replies (T.home seat.old))) (record { header = T.header seat.old; who = T.number seat.old; history = T.front seat.old; rest = L.rest link.old; written = L.written link.old }) (T.front seat.new) (L.rest link.new) (L.written link.new) result }
     ensures header { T.header seat.new ≡ T.header seat.old }
     ensures number { T.number seat.new ≡ T.number seat.old }
     ensures home { T.home seat.new ≡ T.home seat.old }
@@ -229,7 +247,7 @@ pub fn serve_routed<T: Seat, L: Link>(
     ensures fault { result ≡ Ended.LinkFault → Rose (L.faults link.old) (L.faults link.new) }
 {
     match SessionState::new(alloc) {
-        Ok(state) => serve(alloc, routes, seat, link, state),
+        Ok(state) => serve(alloc, routes, seat, link, clock, state),
         Err(AllocError) => end_without_memory(link),
     }
 }

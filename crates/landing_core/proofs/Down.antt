@@ -3,11 +3,13 @@ use Rattle.std.proofs.Common.{◌≡◌, ℕ, true, false, List, [], ◌∷◌, 
 use Rattle.std.specs.Prelude.{◌||◌}
 use mathlib.Core.Bool.{true≢false}
 use Rattle.std.proofs.lemmas.List.Folds.{list_any-append}
-use Rattle.history_model.specs.History.{Body, Content, Change, Book, Land, Fault, Entry, is_stored, is_breaking, is_down}
+use Rattle.history_model.specs.History.{Body, Content, Whole, Change, Book, Land, Policy, Fault, Entry, is_stored, is_breaking, is_down}
 use Rattle.byte_fields.proofs.Booleans.{or_false, or_true}
 
 pub stored_breaks_nothing : (body : Body) → is_stored body ≡ true → is_breaking body ≡ false
 stored_breaks_nothing (Content x n) s = refl
+stored_breaks_nothing (Whole x n parts) s = refl
+stored_breaks_nothing (Policy caller text) s = refl
 stored_breaks_nothing (Change c) s = refl
 stored_breaks_nothing (Book move) s = refl
 stored_breaks_nothing (Land landing) s = refl

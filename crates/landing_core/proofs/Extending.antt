@@ -1,6 +1,6 @@
 -- What each step leaves as it is at the front: what is acknowledged, and but for a crash the whole history, with seats and faults.
-use Rattle.std.proofs.Common.{◌≡◌, ℕ, Bool, true, false, cond, List, [], ◌∷◌, ◌++◌, refl, sym, ap, ◌∙◌}
-use Rattle.std.specs.Prelude.{◌&&◌, is_none, Option, None, Some, slice_get, find, bytes_eq, option_map, if◌then◌else◌}
+use Rattle.std.proofs.Common.{◌≡◌, ℕ, Bool, true, false, cond, List, [], ◌∷◌, ◌++◌, length, refl, sym, ap, ◌∙◌}
+use Rattle.std.specs.Prelude.{◌&&◌, is_none, nat_lt, Option, None, Some, slice_get, find, bytes_eq, option_map, if◌then◌else◌}
 use Rattle.std.specs.Option.{IfSome, option_and_then}
 use mathlib.Core.Bool.{true≢false}
 use mathlib.Core.List.{IsPrefix}
@@ -9,12 +9,11 @@ use Rattle.std.proofs.lemmas.List.{append-nil}
 use Rattle.history_model.specs.History.{Body, Fault, Entry, bodies}
 use Rattle.history_model.specs.Journal.{Header}
 use Rattle.manifest_model.specs.Manifests.{Job, derive}
-use Rattle.reply_model.specs.Reply.{is_ask}
-use Rattle.core_model.specs.Core.{State, Step, Sealing, Stage, Decided, Written, Flushed, Opened, PlanLanding, Exchange, Look, WriteRecord, SyncRecord, OpenGate, Seal, Acknowledge, TakeJob, Settle, Crash, is_sealed, is_as_planned, exchanged, added, device_call, acknowledged_with, kept_of, reopened, settled_with, job_of, when, after_step, after_steps}
+use Rattle.reply_model.specs.Reply.{is_ask, judge}
+use Rattle.core_model.specs.Core.{State, Step, Sealing, Stage, Written, Flushed, Opened, PlanLanding, Exchange, Look, WriteGroup, SyncGroup, OpenGate, Seal, Acknowledge, TakeJob, Settle, Crash, is_idle, is_as_planned, entry_of, entered, exchanged, added, broken, come_to, written, device_call, acknowledged_with, answer, kept_of, reopened, settled_with, job_of, when, after_step, after_steps}
 use Rattle.landing_core.specs.Gained.{is_crash}
 use Rattle.byte_fields.proofs.Booleans.{same_some}
-use Rattle.byte_fields.proofs.Lists.{prefix_trans as prefix_then}
-use Rattle.byte_fields.proofs.Lists.{prefix_self as same_front}
+use Rattle.byte_fields.proofs.Lists.{prefix_trans as prefix_then, prefix_self as same_front}
 
 -- of a step that is a crash or not
 record Extends (crashes : Bool) (s t : State) : Type 0 where
@@ -36,28 +35,37 @@ either : (s : State) (b : Bool) (t u : State) → Extends false s t → Extends 
 either s true t u x y = x
 either s false t u x y = y
 
-extends_call : (step : Step) (r : Sealing) (stage : Stage) (s : State) → IfSome (device_call step r stage s) (Extends false s)
-extends_call (WriteRecord true) r Decided s = unchanged s _ refl refl
-extends_call (WriteRecord false) r Decided s = one_entry s _ (record { who = r.who; body = Fault true }) refl refl
-extends_call (SyncRecord true) r Written s = unchanged s _ refl refl
-extends_call (SyncRecord false) r Written s = one_entry s _ (record { who = r.who; body = Fault true }) refl refl
-extends_call (OpenGate true) r Flushed s = unchanged s _ refl refl
-extends_call (OpenGate false) r Flushed s = one_entry s _ (record { who = r.who; body = Fault true }) refl refl
-extends_call (Seal true) r Opened s = one_entry s _ (record { who = r.who; body = r.body }) refl refl
-extends_call (Seal false) r Opened s = one_entry s _ (record { who = r.who; body = Fault true }) refl refl
-extends_call step r stage s = tt
+extends_entered : (s : State) (who : ℕ) (made : Option Body) → Extends false s (entered who made s)
+extends_entered s who None = unchanged s s refl refl
+extends_entered s who (Some body) = one_entry s (entered who (Some body) s) (record { who = who; body = body }) refl refl
 
-extends_append : (step : Step) (s : State) (o : Option Sealing) → IfSome (option_and_then (λ r. device_call step r r.stage s) o) (Extends false s)
+extends_broken : (s : State) (who : ℕ) (opening : Bool) → Extends false s (broken who opening s)
+extends_broken s who opening = one_entry s (broken who opening s) (record { who = who; body = Fault true }) refl refl
+
+extends_call : (step : Step) (who : ℕ) (stage : Stage) (s : State) → IfSome (device_call step who stage s) (Extends false s)
+extends_call (SyncGroup true) who Written s = unchanged s _ refl refl
+extends_call (SyncGroup false) who Written s = extends_broken s who false
+extends_call (OpenGate true) who Flushed s = unchanged s _ refl refl
+extends_call (OpenGate false) who Flushed s = extends_broken s who true
+extends_call (Seal true) who Opened s = unchanged s _ refl refl
+extends_call (Seal false) who Opened s = extends_broken s who true
+extends_call step who stage s = tt
+
+extends_append : (step : Step) (s : State) (o : Option Sealing) → IfSome (option_and_then (λ r. device_call step r.who r.stage s) o) (Extends false s)
 extends_append step s None = tt
-extends_append step s (Some r) = extends_call step r r.stage s
+extends_append step s (Some r) = extends_call step r.who r.stage s
 
 extends_answer_by : (s : State) (who number : ℕ) (o : Option Body) → IfSome (option_map (acknowledged_with s who number) o) (Extends false s)
 extends_answer_by s who number None = tt
 extends_answer_by s who number (Some body) = record { history = λ _. same_front s.history; acknowledged = ((number, body) ∷ [], refl) }
 
-extends_answer : (s : State) (who : ℕ) (o : Option ℕ) → IfSome (option_and_then (λ number. option_map (acknowledged_with s who number) (slice_get (bodies s.history) number)) o) (Extends false s)
+extends_answer_if : (s : State) (who number : ℕ) (b : Bool) → IfSome (if b then option_map (acknowledged_with s who number) (slice_get (bodies s.history) number) else None) (Extends false s)
+extends_answer_if s who number true = extends_answer_by s who number (slice_get (bodies s.history) number)
+extends_answer_if s who number false = tt
+
+extends_answer : (s : State) (who : ℕ) (o : Option ℕ) → IfSome (option_and_then (answer s who) o) (Extends false s)
 extends_answer s who None = tt
-extends_answer s who (Some number) = extends_answer_by s who number (slice_get (bodies s.history) number)
+extends_answer s who (Some number) = extends_answer_if s who number (nat_lt number s.sealed)
 
 extends_taken : (s : State) (o : Option Job) → IfSome (option_map (λ job. record s { jobs = s.jobs ++ job ∷ [] }) o) (Extends false s)
 extends_taken s None = tt
@@ -67,26 +75,27 @@ extends_settled : (s : State) (o : Option Job) → IfSome (option_map (λ job. r
 extends_settled s None = tt
 extends_settled s (Some job) = unchanged s _ refl refl
 
-extends_reopened : (s : State) (o : Option (List Entry)) → IfSome (option_map (reopened s) o) (Extends true s)
+extends_reopened : (s : State) (o : Option ℕ) → IfSome (option_map (reopened s) o) (Extends true s)
 extends_reopened s None = tt
 extends_reopened s (Some kept) = record { history = λ e. absurd (true≢false e); acknowledged = same_front s.acknowledged }
 
 extends_step : (header : Header) (s : State) (step : Step) → IfSome (after_step header s step) (Extends (is_crash step) s)
-extends_step header s (PlanLanding who name draft) = unchanged s _ refl refl
+extends_step header s (PlanLanding who name draft moment) = unchanged s _ refl refl
 extends_step header s (Exchange who ask) =
-    extends_when s (is_ask ask && is_sealed s.sealing && is_none (s.unanswered who)) (exchanged header s who ask)
-    (either s (is_as_planned s.history (s.plan who) ask) _ _ (unchanged s _ refl refl) (unchanged s _ refl refl))
+    extends_when s (is_ask s.history ask && is_idle s.sealing && is_none (s.waiting who)) (exchanged header s who ask)
+    (either s (is_as_planned s.history (s.plan who) ask) (entered who (entry_of (judge header s.history ask)) s) _ (extends_entered s who (entry_of (judge header s.history ask))) (unchanged s _ refl refl))
 extends_step header s (Look who done) =
-    extends_when s (is_sealed s.sealing) (if done then s else added who (Fault false) s)
+    extends_when s (is_idle s.sealing) (if done then s else added who (Fault false) s)
     (either s done s (added who (Fault false) s) (unchanged s s refl refl) (one_entry s (added who (Fault false) s) (record { who = who; body = Fault false }) refl refl))
-extends_step header s (WriteRecord done) = extends_append (WriteRecord done) s s.sealing
-extends_step header s (SyncRecord done) = extends_append (SyncRecord done) s s.sealing
+extends_step header s (WriteGroup who done) = extends_when s (is_none s.sealing && nat_lt s.sealed (length (bodies s.history))) (written s who done)
+    (either s done (come_to who Written s) (broken who false s) (unchanged s _ refl refl) (extends_broken s who false))
+extends_step header s (SyncGroup done) = extends_append (SyncGroup done) s s.sealing
 extends_step header s (OpenGate done) = extends_append (OpenGate done) s s.sealing
 extends_step header s (Seal done) = extends_append (Seal done) s s.sealing
-extends_step header s (Acknowledge who) = extends_answer s who (s.unanswered who)
+extends_step header s (Acknowledge who) = extends_answer s who (s.waiting who)
 extends_step header s (TakeJob x) = extends_taken s (job_of s x)
 extends_step header s (Settle x) = extends_settled s (find (λ job. bytes_eq job.changeset.id x) s.jobs)
-extends_step header s (Crash kept) = extends_reopened s (kept_of s.sealing kept)
+extends_step header s (Crash kept) = extends_reopened s (kept_of s kept)
 
 -- ---- whole runs
 

@@ -1,118 +1,129 @@
--- What each step puts into the log, and that nothing is ever taken out.
-use Rattle.std.proofs.Common.{◌≡◌, ℕ, Bool, true, false, cond, List, [], ◌∷◌, ◌++◌, refl, sym, ap, subst, ◌∙◌}
-use Rattle.std.specs.Prelude.{◌&&◌, is_none, Option, None, Some, slice_get, filter, find, bytes_eq, option_map, if◌then◌else◌}
+-- What each step seals, and how long what is sealed stays within what is stored.
+use Rattle.std.proofs.Common.{◌≡◌, ℕ, ◌≤◌, Bool, true, false, cond, List, [], ◌∷◌, ◌++◌, map, length, take, refl, sym, ap, subst, ◌∙◌, arith, length-append}
+use Rattle.std.specs.Prelude.{◌&&◌, is_none, nat_lt, Option, None, Some, slice_get, find, bytes_eq, option_map, if◌then◌else◌}
 use Rattle.std.specs.Option.{IfSome, option_and_then}
-use mathlib.Core.List.{IsPrefix}
-use Rattle.std.proofs.lemmas.List.{append-nil}
-use Rattle.history_model.specs.History.{Body, Fault, Entry, is_stored, unnumbered, bodies, stored}
+use Rattle.std.proofs.lemmas.List.{append-nil, take-append-le, take-append-drop}
+use Rattle.history_model.specs.History.{Body, Fault, Entry, unnumbered, bodies}
 use Rattle.history_model.specs.Journal.{Header}
 use Rattle.manifest_model.specs.Manifests.{Job, derive}
-use Rattle.reply_model.specs.Reply.{is_ask, Ask}
-use Rattle.core_model.specs.Core.{State, Step, Sealing, Stage, Decided, Written, Flushed, Opened, PlanLanding, Exchange, Look, WriteRecord, SyncRecord, OpenGate, Seal, Acknowledge, TakeJob, Settle, Crash, is_sealed, is_as_planned, exchanged, added, device_call, acknowledged_with, may_be_kept, kept_of, opened, reopened, settled_with, job_of, when, after_step, after_steps}
-use Rattle.landing_core.specs.Gained.{StandsAt, gain_of}
+use Rattle.reply_model.specs.Reply.{is_ask, Ask, judge}
+use Rattle.core_model.specs.Core.{set_for, State, Step, Sealing, Stage, Written, Flushed, Opened, PlanLanding, Exchange, Look, WriteGroup, SyncGroup, OpenGate, Seal, Acknowledge, TakeJob, Settle, Crash, is_idle, pending, plan_of, is_as_planned, entry_of, added, entered, exchanged, broken, come_to, all_sealed, written, device_call, acknowledged_with, answer, may_be_kept, kept_of, reopened, settled_with, job_of, when, after_step}
+use Rattle.landing_core.specs.Gained.{sealed_log, gain_of}
 use Rattle.reply_model.proofs.Histories.{bodies-append}
-use Rattle.reply_model.proofs.Stored.{bodies-stored}
-use Rattle.byte_fields.proofs.Booleans.{same_some}
-use Rattle.byte_fields.proofs.Lists.{prefix_trans as prefix_then}
-use Rattle.core_model.proofs.Cores.{get_front}
+use Rattle.core_model.proofs.Cores.{bodies_left}
+use Rattle.landing_core.proofs.Lists.{take_whole}
 
--- ---- what a step puts into the log
+-- no more is sealed than is stored
+abbrev pub Most : State → Type 0
+Most s = s.sealed ≤ length (bodies s.history)
 
--- the log of the state that comes of it, if one does, has these at its end
-abbrev Gains : List Entry → List Body → Option State → Type 0
-Gains h more o = IfSome o (λ t. bodies t.history ≡ bodies h ++ filter is_stored more)
+-- the state that comes of a step, if one does, has sealed these too
+abbrev pub Seals : State → List Body → State → Type 0
+Seals s more t = (sealed_log t ≡ sealed_log s ++ more) × Most t
 
-gains_none : (h : List Entry) → bodies h ≡ bodies h ++ []
-gains_none h = sym (append-nil (bodies h))
+seals_none : (s t : State) → Most s → t.history ≡ s.history → t.sealed ≡ s.sealed → Seals s [] t
+seals_none s t most h n = (
+  (λ i. take (n i) (bodies (h i))) ∙ sym (append-nil (sealed_log s)),
+  subst (λ (x : ℕ × List Entry). x.0 ≤ length (bodies x.1)) (λ i. (sym n i, sym h i)) most,
+)
 
-gains_when : (h : List Entry) (b : Bool) (t : State) → bodies t.history ≡ bodies h ++ [] → Gains h [] (when b t)
-gains_when h true t e = e
-gains_when h false t e = tt
+seals_added : (s t : State) (e : Entry) → Most s → t.history ≡ s.history ++ e ∷ [] → t.sealed ≡ s.sealed → Seals s [] t
+seals_added s t e most h n =
+    let all : bodies t.history ≡ bodies s.history ++ bodies (e ∷ []) = ap bodies h ∙ bodies-append s.history (e ∷ []) in
+    let len = ap length all in
+    let sum = length-append (bodies s.history) (bodies (e ∷ [])) in (
+      (λ i. take (n i) (all i)) ∙ take-append-le s.sealed (bodies s.history) (bodies (e ∷ [])) most ∙ sym (append-nil (sealed_log s)),
+      omega arith,
+    )
 
-either : (h : List Entry) (b : Bool) (s t : State) → bodies s.history ≡ bodies h ++ [] → bodies t.history ≡ bodies h ++ [] → bodies (cond b s t).history ≡ bodies h ++ []
-either h true s t e f = e
-either h false s t e f = f
+either : (s : State) (more : List Body) (b : Bool) (t u : State) → Seals s more t → Seals s more u → Seals s more (cond b t u)
+either s more true t u x y = x
+either s more false t u x y = y
 
-gains_exchanged : (header : Header) (s : State) (who : ℕ) (ask : Ask) → bodies (exchanged header s who ask).history ≡ bodies s.history ++ []
-gains_exchanged header s who ask = either s.history (is_as_planned s.history (s.plan who) ask) _ _ (gains_none s.history) (gains_none s.history)
+seals_when : (s : State) (more : List Body) (b : Bool) (t : State) → Seals s more t → IfSome (when b t) (Seals s more)
+seals_when s more true t x = x
+seals_when s more false t x = tt
 
-pub gains_added : (h : List Entry) (who : ℕ) (body : Body) → bodies (h ++ record { who = who; body = body } ∷ []) ≡ bodies h ++ filter is_stored (body ∷ [])
-gains_added h who body = bodies-append h (record { who = who; body = body } ∷ [])
+seals_entered : (s : State) (who : ℕ) (made : Option Body) → Most s → Seals s [] (entered who made s)
+seals_entered s who None most = seals_none s s most refl refl
+seals_entered s who (Some body) most = seals_added s (entered who (Some body) s) (record { who = who; body = body }) most refl refl
 
-gains_call : (step : Step) (r : Sealing) (stage : Stage) (s : State) → Gains s.history (gain_of step (Some r)) (device_call step r stage s)
-gains_call (WriteRecord true) r Decided s = gains_none s.history
-gains_call (WriteRecord false) r Decided s = gains_added s.history r.who (Fault true)
-gains_call (SyncRecord true) r Written s = gains_none s.history
-gains_call (SyncRecord false) r Written s = gains_added s.history r.who (Fault true)
-gains_call (OpenGate true) r Flushed s = gains_none s.history
-gains_call (OpenGate false) r Flushed s = gains_added s.history r.who (Fault true)
-gains_call (Seal true) r Opened s = gains_added s.history r.who r.body
-gains_call (Seal false) r Opened s = gains_added s.history r.who (Fault true)
-gains_call step r stage s = tt
+seals_exchanged : (header : Header) (s : State) (who : ℕ) (ask : Ask) → Most s → Seals s [] (exchanged header s who ask)
+seals_exchanged header s who ask most =
+    either s [] (is_as_planned s.history (s.plan who) ask) (entered who (entry_of (judge header s.history ask)) s) (record s { plan = set_for who None s.plan })
+    (seals_entered s who (entry_of (judge header s.history ask)) most) (seals_none s (record s { plan = set_for who None s.plan }) most refl refl)
 
-gains_append : (step : Step) (s : State) (o : Option Sealing) → Gains s.history (gain_of step o) (option_and_then (λ r. device_call step r r.stage s) o)
-gains_append step s None = tt
-gains_append step s (Some r) = gains_call step r r.stage s
+seals_broken : (s : State) (who : ℕ) (opening : Bool) → Most s → Seals s [] (broken who opening s)
+seals_broken s who opening most = seals_added s (broken who opening s) (record { who = who; body = Fault true }) most refl refl
 
-gains_answer_by : (s : State) (who number : ℕ) (o : Option Body) → Gains s.history [] (option_map (acknowledged_with s who number) o)
-gains_answer_by s who number None = tt
-gains_answer_by s who number (Some body) = gains_none s.history
+seals_come : (s : State) (who : ℕ) (stage : Stage) → Most s → Seals s [] (come_to who stage s)
+seals_come s who stage most = seals_none s (come_to who stage s) most refl refl
 
-gains_answer : (s : State) (who : ℕ) (o : Option ℕ) → Gains s.history [] (option_and_then (λ number. option_map (acknowledged_with s who number) (slice_get (bodies s.history) number)) o)
-gains_answer s who None = tt
-gains_answer s who (Some number) = gains_answer_by s who number (slice_get (bodies s.history) number)
+seals_all : (s : State) → Seals s (pending s) (all_sealed s)
+seals_all s = (take_whole (bodies s.history) ∙ sym (take-append-drop s.sealed (bodies s.history)), omega arith)
 
-gains_taken : (s : State) (o : Option Job) → Gains s.history [] (option_map (λ job. record s { jobs = s.jobs ++ job ∷ [] }) o)
-gains_taken s None = tt
-gains_taken s (Some job) = gains_none s.history
+seals_written : (s : State) (who : ℕ) (done : Bool) → Most s → Seals s [] (written s who done)
+seals_written s who done most = either s [] done (come_to who Written s) (broken who false s) (seals_come s who Written most) (seals_broken s who false most)
 
-gains_settled : (s : State) (o : Option Job) → Gains s.history [] (option_map (λ job. record s { table = settled_with s.table (derive job) }) o)
-gains_settled s None = tt
-gains_settled s (Some job) = gains_none s.history
+seals_call : (step : Step) (who : ℕ) (stage : Stage) (s : State) → Most s → IfSome (device_call step who stage s) (Seals s (gain_of step s))
+seals_call (SyncGroup true) who Written s most = seals_come s who Flushed most
+seals_call (SyncGroup false) who Written s most = seals_broken s who false most
+seals_call (OpenGate true) who Flushed s most = seals_come s who Opened most
+seals_call (OpenGate false) who Flushed s most = seals_broken s who true most
+seals_call (Seal true) who Opened s most = seals_all s
+seals_call (Seal false) who Opened s most = seals_broken s who true most
+seals_call step who stage s most = tt
 
-gains_reopened : (s : State) (kept : List Entry) → bodies (stored s.history ++ kept) ≡ bodies s.history ++ bodies kept
-gains_reopened s kept = bodies-append (stored s.history) kept ∙ ap (λ (t : List Body). t ++ bodies kept) (bodies-stored s.history)
+seals_calls : (step : Step) (s : State) (o : Option Sealing) → Most s → IfSome (option_and_then (λ r. device_call step r.who r.stage s) o) (Seals s (gain_of step s))
+seals_calls step s None most = tt
+seals_calls step s (Some r) most = seals_call step r.who r.stage s most
 
-gains_kept : (s : State) (r : Sealing) (b : Bool) → Gains s.history (r.body ∷ []) (option_map (reopened s) (if b then Some (unnumbered r.body ∷ []) else None))
-gains_kept s r true = gains_reopened s (unnumbered r.body ∷ [])
-gains_kept s r false = tt
+seals_answer_by : (s : State) (who number : ℕ) (o : Option Body) → Most s → IfSome (option_map (acknowledged_with s who number) o) (Seals s [])
+seals_answer_by s who number None most = tt
+seals_answer_by s who number (Some body) most = seals_none s (acknowledged_with s who number body) most refl refl
 
-gains_crash : (s : State) (o : Option Sealing) (kept : Bool) → Gains s.history (gain_of (Crash kept) o) (option_map (reopened s) (kept_of o kept))
-gains_crash s o false = gains_reopened s []
-gains_crash s None true = tt
-gains_crash s (Some r) true = gains_kept s r (may_be_kept r.stage)
+seals_answer_if : (s : State) (who number : ℕ) (b : Bool) → Most s → IfSome (if b then option_map (acknowledged_with s who number) (slice_get (bodies s.history) number) else None) (Seals s [])
+seals_answer_if s who number true most = seals_answer_by s who number (slice_get (bodies s.history) number) most
+seals_answer_if s who number false most = tt
 
-gains_step : (header : Header) (s : State) (step : Step) → Gains s.history (gain_of step s.sealing) (after_step header s step)
-gains_step header s (PlanLanding who name draft) = gains_none s.history
-gains_step header s (Exchange who ask) = gains_when s.history (is_ask ask && is_sealed s.sealing && is_none (s.unanswered who)) (exchanged header s who ask) (gains_exchanged header s who ask)
-gains_step header s (Look who done) = gains_when s.history (is_sealed s.sealing) (if done then s else added who (Fault false) s) (either s.history done s (added who (Fault false) s) (gains_none s.history) (gains_added s.history who (Fault false)))
-gains_step header s (WriteRecord done) = gains_append (WriteRecord done) s s.sealing
-gains_step header s (SyncRecord done) = gains_append (SyncRecord done) s s.sealing
-gains_step header s (OpenGate done) = gains_append (OpenGate done) s s.sealing
-gains_step header s (Seal done) = gains_append (Seal done) s s.sealing
-gains_step header s (Acknowledge who) = gains_answer s who (s.unanswered who)
-gains_step header s (TakeJob x) = gains_taken s (job_of s x)
-gains_step header s (Settle x) = gains_settled s (find (λ job. bytes_eq job.changeset.id x) s.jobs)
-gains_step header s (Crash kept) = gains_crash s s.sealing kept
+seals_answer : (s : State) (who : ℕ) (o : Option ℕ) → Most s → IfSome (option_and_then (answer s who) o) (Seals s [])
+seals_answer s who None most = tt
+seals_answer s who (Some number) most = seals_answer_if s who number (nat_lt number s.sealed) most
 
-pub grows_by : (header : Header) (s t : State) (step : Step) → after_step header s step ≡ Some t → bodies t.history ≡ bodies s.history ++ filter is_stored (gain_of step s.sealing)
-grows_by header s t step e = subst (Gains s.history (gain_of step s.sealing)) e (gains_step header s step)
+seals_taken : (s : State) (o : Option Job) → Most s → IfSome (option_map (λ job. record s { jobs = s.jobs ++ job ∷ [] }) o) (Seals s [])
+seals_taken s None most = tt
+seals_taken s (Some job) most = seals_none s (record s { jobs = s.jobs ++ job ∷ [] }) most refl refl
 
--- ---- whole runs
+seals_settled : (s : State) (o : Option Job) → Most s → IfSome (option_map (λ job. record s { table = settled_with s.table (derive job) }) o) (Seals s [])
+seals_settled s None most = tt
+seals_settled s (Some job) most = seals_none s (record s { table = settled_with s.table (derive job) }) most refl refl
 
-stay_by : (header : Header) (s t : State) (step : Step) (steps : List Step) → ((next : State) → after_steps header next steps ≡ Some t → IsPrefix (bodies next.history) (bodies t.history)) → (o : Option State) → after_step header s step ≡ o → option_and_then (λ next. after_steps header next steps) o ≡ Some t → IsPrefix (bodies s.history) (bodies t.history)
-stay_by header s t step steps later None was e = absurd cc
-stay_by header s t step steps later (Some next) was e =
-    prefix_then (bodies s.history) (bodies next.history) (bodies t.history) (filter is_stored (gain_of step s.sealing), sym (grows_by header s next step was)) (later next e)
+-- ---- a crash
 
-pub stay : (header : Header) (s t : State) (steps : List Step) → after_steps header s steps ≡ Some t → IsPrefix (bodies s.history) (bodies t.history)
-stay header s t [] e = ([], append-nil (bodies s.history) ∙ ap (λ (s : State). bodies s.history) (same_some s t e))
-stay header s t (step ∷ steps) e = stay_by header s t step steps (λ next. stay header next t steps) (after_step header s step) refl e
+pub reopened_log : (s : State) (n : ℕ) → sealed_log (reopened s n) ≡ take n (bodies s.history)
+reopened_log s n = take_whole (bodies (map unnumbered (take n (bodies s.history)))) ∙ bodies_left s.history n
 
-pub keep_numbers : (header : Header) (s t : State) (steps : List Step) (number : ℕ) (body : Body) → StandsAt s.history number body → after_steps header s steps ≡ Some t → StandsAt t.history number body
-keep_numbers header s t steps number body stands e =
-    let p = stay header s t steps e in
-    subst (λ bs. slice_get bs number ≡ Some body) p.1 (get_front (bodies s.history) p.0 number body stands)
+seals_reopened : (s : State) (n : ℕ) (more : List Body) → take n (bodies s.history) ≡ sealed_log s ++ more → Seals s more (reopened s n)
+seals_reopened s n more is = (reopened_log s n ∙ is, omega arith)
 
-pub first_stands : (header : Header) (h : List Entry) (steps : List Step) (s : State) (number : ℕ) (body : Body) → after_steps header (opened h) steps ≡ Some s → StandsAt h number body → StandsAt s.history number body
-first_stands header h steps s number body e stands = keep_numbers header (opened h) s steps number body stands e
+seals_kept : (s : State) (b : Bool) → IfSome (option_map (reopened s) (if b then Some (length (bodies s.history)) else None)) (Seals s (pending s))
+seals_kept s true = seals_reopened s (length (bodies s.history)) (pending s) (take_whole (bodies s.history) ∙ sym (take-append-drop s.sealed (bodies s.history)))
+seals_kept s false = tt
+
+seals_crash : (s : State) (kept : Bool) → IfSome (option_map (reopened s) (kept_of s kept)) (Seals s (gain_of (Crash kept) s))
+seals_crash s false = seals_reopened s s.sealed [] (sym (append-nil (sealed_log s)))
+seals_crash s true = seals_kept s (may_be_kept s.sealing)
+
+pub seals_step : (header : Header) (s : State) (step : Step) → Most s → IfSome (after_step header s step) (Seals s (gain_of step s))
+seals_step header s (PlanLanding who name draft moment) most = seals_none s (record s { plan = set_for who (plan_of s.history name draft moment) s.plan }) most refl refl
+seals_step header s (Exchange who ask) most = seals_when s [] (is_ask s.history ask && is_idle s.sealing && is_none (s.waiting who)) (exchanged header s who ask) (seals_exchanged header s who ask most)
+seals_step header s (Look who done) most = seals_when s [] (is_idle s.sealing) (if done then s else added who (Fault false) s)
+    (either s [] done s (added who (Fault false) s) (seals_none s s most refl refl) (seals_added s (added who (Fault false) s) (record { who = who; body = Fault false }) most refl refl))
+seals_step header s (WriteGroup who done) most = seals_when s [] (is_none s.sealing && nat_lt s.sealed (length (bodies s.history))) (written s who done) (seals_written s who done most)
+seals_step header s (SyncGroup done) most = seals_calls (SyncGroup done) s s.sealing most
+seals_step header s (OpenGate done) most = seals_calls (OpenGate done) s s.sealing most
+seals_step header s (Seal done) most = seals_calls (Seal done) s s.sealing most
+seals_step header s (Acknowledge who) most = seals_answer s who (s.waiting who) most
+seals_step header s (TakeJob x) most = seals_taken s (job_of s x) most
+seals_step header s (Settle x) most = seals_settled s (find (λ job. bytes_eq job.changeset.id x) s.jobs) most
+seals_step header s (Crash kept) most = seals_crash s kept

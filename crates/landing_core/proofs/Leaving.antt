@@ -1,6 +1,6 @@
 -- What a step that is no step of manifests leaves: the manifests, the jobs, and the history but for more entries.
-use Rattle.std.proofs.Common.{◌≡◌, ℕ, Bool, true, false, cond, List, [], ◌∷◌, ◌++◌, refl, sym, ap, subst, ◌∙◌, append_assoc}
-use Rattle.std.specs.Prelude.{Option, None, Some, is_some, is_none, ◌&&◌, slice_get, option_map, if◌then◌else◌, find, bytes_eq}
+use Rattle.std.proofs.Common.{◌≡◌, ℕ, Bool, true, false, cond, List, [], ◌∷◌, ◌++◌, length, refl, sym, ap, subst, ◌∙◌, append_assoc}
+use Rattle.std.specs.Prelude.{Option, None, Some, is_some, is_none, ◌&&◌, nat_lt, slice_get, option_map, if◌then◌else◌, find, bytes_eq}
 use Rattle.std.specs.List.{AllByRecursion}
 use Rattle.std.specs.Option.{option_and_then}
 use mathlib.Core.Bool.{true≢false}
@@ -9,13 +9,13 @@ use Rattle.byte_fields.specs.Bytes.{Id}
 use Rattle.byte_fields.proofs.Lists.{weaker}
 use Rattle.history_model.specs.History.{Body, Fault, Entry, Known, bodies, known}
 use Rattle.history_model.specs.Journal.{Header}
-use Rattle.manifest_model.specs.Manifests.{Manifests, manifests_on, Job}
+use Rattle.manifest_model.specs.Manifests.{Manifests, manifests_in, Job}
 use Rattle.reply_model.specs.Reply.{Ask, is_ask, judge}
-use Rattle.reply_model.proofs.Lines.{known_grows, line_grows}
-use Rattle.core_model.specs.Core.{State, Step, Sealing, Stage, Decided, Written, Flushed, Opened, PlanLanding, Exchange, Look, WriteRecord, SyncRecord, OpenGate, Seal, Acknowledge, TakeJob, Settle, Crash, set_for, is_sealed, sealing_of, is_as_planned, exchanged, added, broken, come_to, sealed, device_call, acknowledged_with, settled_in, after_step, after_steps}
+use Rattle.reply_model.proofs.Lines.{known_grows, past_grows}
+use Rattle.core_model.specs.Core.{State, Step, Sealing, Stage, Written, Flushed, Opened, PlanLanding, Exchange, Look, WriteGroup, SyncGroup, OpenGate, Seal, Acknowledge, TakeJob, Settle, Crash, set_for, is_idle, is_as_planned, entry_of, entered, exchanged, added, broken, come_to, all_sealed, written, device_call, acknowledged_with, answer, settled_in, after_step, after_steps}
 use Rattle.core_model.proofs.Cores.{some_is, when_ok}
 use Rattle.landing_core.specs.Settled.{IsRow, IsTaken, ShowsSettled, HasJob, leaves_manifests}
-use Rattle.landing_core.proofs.Rows.{line_known}
+use Rattle.landing_core.proofs.Rows.{past_known}
 
 pub record Leaves (s t : State) : Type 0 where
   pub more : List Entry
@@ -44,48 +44,57 @@ through s t u l r = record {
   jobs_is = r.jobs_is ∙ l.jobs_is;
 }
 
-fails : (r : Sealing) (opening : Bool) (s : State) → Leaves s (broken r opening s)
-fails r opening s = record { more = record { who = r.who; body = Fault true } ∷ []; history_is = refl; table_is = refl; jobs_is = refl }
+fails : (who : ℕ) (opening : Bool) (s : State) → Leaves s (broken who opening s)
+fails who opening s = record { more = record { who = who; body = Fault true } ∷ []; history_is = refl; table_is = refl; jobs_is = refl }
 
 -- ---- a step
 
+entered_leaves : (s : State) (who : ℕ) (entry : Option Body) → Leaves s (entered who entry s)
+entered_leaves s who None = itself s
+entered_leaves s who (Some body) = record { more = record { who = who; body = body } ∷ []; history_is = refl; table_is = refl; jobs_is = refl }
+
 exchanged_leaves : (header : Header) (s : State) (who : ℕ) (ask : Ask) → Leaves s (exchanged header s who ask)
 exchanged_leaves header s who ask =
-    choose (is_as_planned s.history (s.plan who) ask) s (record s { sealing = sealing_of who (judge header s.history ask) s.sealing }) (record s { plan = set_for who None s.plan })
-    (alike s _ refl refl refl) (alike s _ refl refl refl)
+    choose (is_as_planned s.history (s.plan who) ask) s (entered who (entry_of (judge header s.history ask)) s) (record s { plan = set_for who None s.plan })
+    (entered_leaves s who (entry_of (judge header s.history ask))) (alike s _ refl refl refl)
 
-call_leaves : (step : Step) (r : Sealing) (stage : Stage) (s t : State) → device_call step r stage s ≡ Some t → Leaves s t
-call_leaves (WriteRecord done) r Decided s t e = subst (Leaves s) (some_is _ t e) (choose done s (come_to r Written s) (broken r false s) (alike s _ refl refl refl) (fails r false s))
-call_leaves (SyncRecord done) r Written s t e = subst (Leaves s) (some_is _ t e) (choose done s (come_to r Flushed s) (broken r false s) (alike s _ refl refl refl) (fails r false s))
-call_leaves (OpenGate done) r Flushed s t e = subst (Leaves s) (some_is _ t e) (choose done s (come_to r Opened s) (broken r true s) (alike s _ refl refl refl) (fails r true s))
-call_leaves (Seal done) r Opened s t e = subst (Leaves s) (some_is _ t e) (choose done s (sealed r s) (broken r true s) (record { more = record { who = r.who; body = r.body } ∷ []; history_is = refl; table_is = refl; jobs_is = refl }) (fails r true s))
-call_leaves step r stage s t e = absurd cc
+call_leaves : (step : Step) (who : ℕ) (stage : Stage) (s t : State) → device_call step who stage s ≡ Some t → Leaves s t
+call_leaves (SyncGroup done) who Written s t e = subst (Leaves s) (some_is _ t e) (choose done s (come_to who Flushed s) (broken who false s) (alike s _ refl refl refl) (fails who false s))
+call_leaves (OpenGate done) who Flushed s t e = subst (Leaves s) (some_is _ t e) (choose done s (come_to who Opened s) (broken who true s) (alike s _ refl refl refl) (fails who true s))
+call_leaves (Seal done) who Opened s t e = subst (Leaves s) (some_is _ t e) (choose done s (all_sealed s) (broken who true s) (alike s _ refl refl refl) (fails who true s))
+call_leaves step who stage s t e = absurd cc
 
-append_leaves : (step : Step) (s t : State) (o : Option Sealing) → option_and_then (λ r. device_call step r r.stage s) o ≡ Some t → Leaves s t
-append_leaves step s t None e = absurd cc
-append_leaves step s t (Some r) e = call_leaves step r r.stage s t e
+seal_leaves : (step : Step) (s t : State) (o : Option Sealing) → option_and_then (λ r. device_call step r.who r.stage s) o ≡ Some t → Leaves s t
+seal_leaves step s t None e = absurd cc
+seal_leaves step s t (Some r) e = call_leaves step r.who r.stage s t e
 
 answer_by : (s t : State) (who number : ℕ) (o : Option Body) → option_map (acknowledged_with s who number) o ≡ Some t → Leaves s t
 answer_by s t who number None e = absurd cc
 answer_by s t who number (Some body) e = subst (Leaves s) (some_is _ t e) (alike s (acknowledged_with s who number body) refl refl refl)
 
-answer_leaves : (s t : State) (who : ℕ) (o : Option ℕ) → option_and_then (λ number. option_map (acknowledged_with s who number) (slice_get (bodies s.history) number)) o ≡ Some t → Leaves s t
+answer_if : (s t : State) (who number : ℕ) (b : Bool) → (if b then option_map (acknowledged_with s who number) (slice_get (bodies s.history) number) else None) ≡ Some t → Leaves s t
+answer_if s t who number true e = answer_by s t who number (slice_get (bodies s.history) number) e
+answer_if s t who number false e = absurd cc
+
+answer_leaves : (s t : State) (who : ℕ) (o : Option ℕ) → option_and_then (answer s who) o ≡ Some t → Leaves s t
 answer_leaves s t who None e = absurd cc
-answer_leaves s t who (Some number) e = answer_by s t who number (slice_get (bodies s.history) number) e
+answer_leaves s t who (Some number) e = answer_if s t who number (nat_lt number s.sealed) e
 
 pub step_leaves : (header : Header) (s t : State) (step : Step) → leaves_manifests step ≡ true → after_step header s step ≡ Some t → Leaves s t
-step_leaves header s t (PlanLanding who name draft) l e = subst (Leaves s) (some_is _ t e) (alike s _ refl refl refl)
+step_leaves header s t (PlanLanding who name draft moment) l e = subst (Leaves s) (some_is _ t e) (alike s _ refl refl refl)
 step_leaves header s t (Exchange who ask) l e =
-    let w = when_ok (is_ask ask && is_sealed s.sealing && is_none (s.unanswered who)) (exchanged header s who ask) t e in
+    let w = when_ok (is_ask s.history ask && is_idle s.sealing && is_none (s.waiting who)) (exchanged header s who ask) t e in
     subst (Leaves s) w.1 (exchanged_leaves header s who ask)
 step_leaves header s t (Look who done) l e =
-    let w = when_ok (is_sealed s.sealing) (if done then s else added who (Fault false) s) t e in
+    let w = when_ok (is_idle s.sealing) (if done then s else added who (Fault false) s) t e in
     subst (Leaves s) w.1 (choose done s s (added who (Fault false) s) (itself s) (adds who (Fault false) s))
-step_leaves header s t (WriteRecord done) l e = append_leaves (WriteRecord done) s t s.sealing e
-step_leaves header s t (SyncRecord done) l e = append_leaves (SyncRecord done) s t s.sealing e
-step_leaves header s t (OpenGate done) l e = append_leaves (OpenGate done) s t s.sealing e
-step_leaves header s t (Seal done) l e = append_leaves (Seal done) s t s.sealing e
-step_leaves header s t (Acknowledge who) l e = answer_leaves s t who (s.unanswered who) e
+step_leaves header s t (WriteGroup who done) l e =
+    let w = when_ok (is_none s.sealing && nat_lt s.sealed (length (bodies s.history))) (written s who done) t e in
+    subst (Leaves s) w.1 (choose done s (come_to who Written s) (broken who false s) (alike s _ refl refl refl) (fails who false s))
+step_leaves header s t (SyncGroup done) l e = seal_leaves (SyncGroup done) s t s.sealing e
+step_leaves header s t (OpenGate done) l e = seal_leaves (OpenGate done) s t s.sealing e
+step_leaves header s t (Seal done) l e = seal_leaves (Seal done) s t s.sealing e
+step_leaves header s t (Acknowledge who) l e = answer_leaves s t who (s.waiting who) e
 step_leaves header s t (TakeJob x) l e = absurd (true≢false (sym l))
 step_leaves header s t (Settle x) l e = absurd (true≢false (sym l))
 step_leaves header s t (Crash kept) l e = absurd (true≢false (sym l))
@@ -106,16 +115,18 @@ steps_leave header (step ∷ steps) s t all e =
 -- ---- where more is known
 
 row_grows : (h g : List Entry) (m : Manifests) → IsRow (known h) m → IsRow (known (h ++ g)) m
-row_grows h g m row = (known_grows h g m.id row.0, row.1 ∙ ap (manifests_on m.id) (sym (line_grows h g m.id row.0)))
+row_grows h g m row = (known_grows h g m.id row.0, row.1 ∙ ap (manifests_in m.id) (sym (past_grows h g m.id row.0)))
 
 taken_grows : (h g : List Entry) (table : List Manifests) (job : Job) → IsTaken (known h) table job → IsTaken (known (h ++ g)) table job
 taken_grows h g table job taken =
-    let same = line_grows h g job.changeset.id (line_known (known h) job.changeset.id job.changeset taken.older taken.line_is) in
+    let same = past_grows h g job.changeset.id (past_known (known h) job.changeset.id job.changeset taken.first taken.second taken.past_is) in
     record {
-      older = taken.older;
-      line_is = same ∙ taken.line_is;
-      parent = taken.parent;
-      derives = taken.derives ∙ ap (manifests_on job.changeset.id) (sym same);
+      first = taken.first;
+      second = taken.second;
+      past_is = same ∙ taken.past_is;
+      first_there = taken.first_there;
+      second_there = taken.second_there;
+      derives = taken.derives ∙ ap (manifests_in job.changeset.id) (sym same);
     }
 
 -- manifests and jobs that are right

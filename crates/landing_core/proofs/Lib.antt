@@ -3,10 +3,12 @@ pub mod Growing
 pub mod Extending
 pub mod Reached
 pub mod Whole
-pub mod Makes
 pub mod Planned
 pub mod Down
 pub mod Asked
+pub mod Sealed
+pub mod Serving
+pub mod Crashing
 pub mod Exchanged
 pub mod Others
 pub mod Rows

@@ -1,11 +1,15 @@
 -- Lists and options of any kind.
-use Rattle.std.proofs.Common.{◌≡◌, Bool, true, false, cond, List, map, filter, [], ◌∷◌, refl, ap, ◌∙◌}
+use Rattle.std.proofs.Common.{◌≡◌, Bool, true, false, cond, List, map, filter, take, length, [], ◌∷◌, refl, ap, ◌∙◌, arith}
 use Rattle.std.specs.Prelude.{Option, None, Some}
+use Rattle.std.proofs.lemmas.List.{take_all}
 
 pub none_some : {X : Type 0} (x : X) → ◌≡◌ {A = Option X} None (Some x) → ⊥
 none_some x e = absurd cc
 
--- ---- elements by number
+-- ---- a front that is all
+
+pub take_whole : {X : Type 0} (xs : List X) → take (length xs) xs ≡ xs
+take_whole xs = take_all (length xs) xs (omega arith)
 
 -- ---- filtering what is told of each element
 

@@ -9,11 +9,13 @@ use Rattle.std.proofs.lemmas.Slice.Eq.{bytes_eq-Decides}
 use Rattle.byte_fields.specs.Bytes.{Id}
 use Rattle.byte_fields.proofs.Lists.{each_of}
 use Rattle.history_model.specs.History.{Known, is_known}
-use Rattle.history_model.specs.Chain.{first_parent, line}
+use Rattle.std.specs.Option.{option_map_or}
+use Rattle.history_model.specs.Chain.{first_parent}
+use Rattle.history_model.specs.Past.{Past, Begin, At, past, past_among, second_of}
 use Rattle.manifest_model.specs.Manifests.{Manifests, manifests_of, nodes_in, nodes_of, Job}
 use Rattle.reply_model.proofs.Parents.{known_reverse}
-use Rattle.reply_model.proofs.Lines.{no_line}
-use Rattle.core_model.specs.Core.{nodes_among, settled_in, parent_in}
+use Rattle.reply_model.proofs.Lines.{no_past}
+use Rattle.core_model.specs.Core.{nodes_among, settled_in, parent_in, both_of}
 use Rattle.landing_core.specs.Settled.{IsRow, IsTaken}
 use Rattle.byte_fields.proofs.Booleans.{is_some_cond as some_by}
 use Rattle.changeset_model.proofs.Paths.{||-comm as or_none}
@@ -21,16 +23,32 @@ use Rattle.reply_model.proofs.Parents.{same_id}
 
 -- ---- what is known
 
--- a changeset that has a line is known
-pub line_known : (ks : List Known) (x : Id) (first : Known) (older : List Known) → line ks x ≡ first ∷ older → is_known ks x ≡ true
-line_known ks x first older e = by (is_known ks x) refl
+-- a changeset that has a past is known
+pub past_known : (ks : List Known) (x : Id) (here : Known) (first second : Past) → past ks x ≡ At here first second → is_known ks x ≡ true
+past_known ks x here first second e = by (is_known ks x) refl
   where
-    none : {c : Known} {cs : List Known} → [] ≡ c ∷ cs → ⊥
+    none : {c : Known} {l r : Past} → Begin ≡ At c l r → ⊥
     none e = absurd cc
 
     by : (b : Bool) → is_known ks x ≡ b → b ≡ true
     by true there = refl
-    by false there = absurd (none (sym (no_line (reverse ks) x (known_reverse ks x ∙ there)) ∙ e))
+    by false there = absurd (none (sym (no_past (reverse ks) x (known_reverse ks x ∙ there)) ∙ e))
+
+abbrev head_id : Id → Past → Id
+head_id x Begin = x
+head_id x (At k first second) = k.id
+
+among_id : (ks : List Known) (x : Id) → head_id x (past_among ks x) ≡ x
+among_id [] x = refl
+among_id (k ∷ older) x = by (among_id older x) (bytes_eq k.id x) refl
+  where
+    by : head_id x (past_among older x) ≡ x → (b : Bool) → bytes_eq k.id x ≡ b → head_id x (cond b (At k (option_map_or (past_among older) (first_parent k.changeset) Begin) (option_map_or (past_among older) (second_of k.changeset.parents) Begin)) (past_among older x)) ≡ x
+    by later true e = (bytes_eq-Decides k.id x).0 e
+    by later false e = later
+
+-- and it is that of the changeset itself
+pub past_id : (ks : List Known) (x : Id) (here : Known) (first second : Past) → past ks x ≡ At here first second → here.id ≡ x
+past_id ks x here first second e = ap (head_id x) (sym e) ∙ among_id (reverse ks) x
 
 -- ---- what is found
 
@@ -67,22 +85,35 @@ last_push t xs x h = found_push t xs x ∙ ap (λ b. is_some (find t xs) || b) h
 
 -- ---- a table with one row more
 
-pub some_parent : (o : Option Manifests) → is_some (option_map Some o) ≡ is_some o
+pub some_parent : (o : Option Manifests) → is_some (option_map (λ m. m ∷ []) o) ≡ is_some o
 some_parent None = refl
 some_parent (Some m) = refl
 
-parent_push : (table : List Manifests) (m : Manifests) (o : Option Id) → is_some (parent_in table o) ≡ true → is_some (parent_in (table ++ m ∷ []) o) ≡ true
-parent_push table m None h = refl
-parent_push table m (Some p) h =
-    some_parent (settled_in (table ++ m ∷ []) p) ∙ kept_push (λ m. bytes_eq m.id p) table m (sym (some_parent (settled_in table p)) ∙ h)
+parent_push : (table : List Manifests) (m : Manifests) (p : Past) → is_some (parent_in table p) ≡ true → is_some (parent_in (table ++ m ∷ []) p) ≡ true
+parent_push table m Begin h = refl
+parent_push table m (At p first second) h =
+    some_parent (settled_in (table ++ m ∷ []) p.id) ∙ kept_push (λ m. bytes_eq m.id p.id) table m (sym (some_parent (settled_in table p.id)) ∙ h)
 
 pub taken_push : (ks : List Known) (table : List Manifests) (m : Manifests) (job : Job) → IsTaken ks table job → IsTaken ks (table ++ m ∷ []) job
 taken_push ks table m job taken = record {
-  older = taken.older;
-  line_is = taken.line_is;
-  parent = parent_push table m (first_parent job.changeset.changeset) taken.parent;
+  first = taken.first;
+  second = taken.second;
+  past_is = taken.past_is;
+  first_there = parent_push table m taken.first taken.first_there;
+  second_there = parent_push table m taken.second taken.second_there;
   derives = taken.derives;
 }
+
+-- both parents are there
+pub both_there : (a b : Option (List Manifests)) → is_some a ≡ true → is_some b ≡ true → (ms : List Manifests) × (both_of a b ≡ Some ms)
+both_there None b first second = absurd (true≢false (sym first))
+both_there (Some x) None first second = absurd (true≢false (sym second))
+both_there (Some x) (Some y) first second = (x ++ y, refl)
+
+pub each_there : (a b : Option (List Manifests)) → is_some (both_of a b) ≡ true → (is_some a ≡ true) × (is_some b ≡ true)
+each_there None b h = absurd (true≢false (sym h))
+each_there (Some x) None h = absurd (true≢false (sym h))
+each_there (Some x) (Some y) h = (refl, refl)
 
 -- ---- nodes
 

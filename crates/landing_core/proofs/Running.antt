@@ -1,5 +1,5 @@
 -- What every list of steps keeps: the manifests and the jobs are the definitions'.
-use Rattle.std.proofs.Common.{◌≡◌, Bool, true, false, cond, not, ◌||◌, List, [], ◌∷◌, ◌++◌, refl, sym, ap, subst, ◌∙◌}
+use Rattle.std.proofs.Common.{◌≡◌, ℕ, Bool, true, false, cond, not, ◌||◌, List, [], ◌∷◌, ◌++◌, refl, sym, ap, subst, ◌∙◌}
 use Rattle.std.specs.Prelude.{Option, None, Some, is_some, find, bytes_eq, option_map, if◌then◌else◌}
 use Rattle.std.specs.List.{AllByRecursion}
 use Rattle.std.specs.Option.{option_and_then}
@@ -7,15 +7,15 @@ use Rattle.std.proofs.lemmas.Option.{same_Some}
 use Rattle.byte_fields.specs.Bytes.{Id}
 use Rattle.byte_fields.proofs.Lists.{weaker, all_push}
 use Rattle.history_model.specs.History.{Entry, Known, known}
-use Rattle.history_model.specs.Chain.{first_parent, line}
+use Rattle.history_model.specs.Past.{Past, Begin, At, past}
 use Rattle.history_model.specs.Journal.{Header}
 use Rattle.manifest_model.specs.Manifests.{Manifests, nodes_in, Job, derive}
-use Rattle.manifest_model.proofs.Derivations.{job_of_parent}
+use Rattle.manifest_model.proofs.Derivations.{job_of_past}
 use Rattle.reply_model.specs.Legal.{IsLegal}
-use Rattle.core_model.specs.Core.{State, Step, PlanLanding, Exchange, Look, WriteRecord, SyncRecord, OpenGate, Seal, Acknowledge, TakeJob, Settle, Crash, are_apart, nodes_among, settled_in, parent_in, job_on, settled_with, kept_of, opened, reopened, after_step, after_steps}
+use Rattle.core_model.specs.Core.{State, Step, PlanLanding, Exchange, Look, WriteGroup, SyncGroup, OpenGate, Seal, Acknowledge, TakeJob, Settle, Crash, are_apart, nodes_among, settled_in, parent_in, both_of, job_on, settled_with, kept_of, opened, reopened, after_step, after_steps}
 use Rattle.core_model.proofs.Cores.{Kept, step_kept, started_kept, some_is}
 use Rattle.landing_core.specs.Settled.{IsRow, IsTaken, ShowsSettled}
-use Rattle.landing_core.proofs.Rows.{line_known, taken_push}
+use Rattle.landing_core.proofs.Rows.{past_known, taken_push, each_there}
 use Rattle.landing_core.proofs.Taking.{takes}
 use Rattle.landing_core.proofs.Settling.{found}
 use Rattle.landing_core.proofs.Leaving.{AreTrue, step_leaves, true_left}
@@ -25,27 +25,28 @@ IsTrueState s = AreTrue (known s.history) s.table s.jobs
 
 -- ---- a job is taken
 
-parent_there : (c : Known) (l : List Known) (job : Job) (o : Option (Option Manifests)) → option_map (job_of_parent c l) o ≡ Some job → is_some o ≡ true
-parent_there c l job None e = absurd cc
-parent_there c l job (Some parent) e = refl
+parents_there : (c : Known) (first second : Past) (job : Job) (o : Option (List Manifests)) → option_map (job_of_past c first second) o ≡ Some job → is_some o ≡ true
+parents_there c first second job None e = absurd cc
+parents_there c first second job (Some ms) e = refl
 
 module _ (header : Header) (h : List Entry) (legal : IsLegal header h) (table : List Manifests) (rows : AllByRecursion (IsRow (known h)) table) where
-  taken_on : (x : Id) (job : Job) (l : List Known) → line (known h) x ≡ l → job_on table l ≡ Some job → IsTaken (known h) table job
-  taken_on x job [] at e = absurd cc
-  taken_on x job (c ∷ older) at e =
-      let t = takes header h legal table rows x c older at (parent_there c older job (parent_in table (first_parent c.changeset)) e) in
+  taken_on : (x : Id) (job : Job) (p : Past) → past (known h) x ≡ p → job_on table p ≡ Some job → IsTaken (known h) table job
+  taken_on x job Begin at e = absurd cc
+  taken_on x job (At c first second) at e =
+      let each = each_there (parent_in table first) (parent_in table second) (parents_there c first second job (both_of (parent_in table first) (parent_in table second)) e) in
+      let t = takes header h legal table rows x c first second at each.0 each.1 in
       subst (IsTaken (known h) table) (same_Some t.job job (sym t.is ∙ ap (job_on table) at ∙ e)) t.taken
 
-take_by : (header : Header) (s t : State) (x : Id) → IsLegal header s.history → IsTrueState s → (o : Option Job) → job_on s.table (line (known s.history) x) ≡ o → option_map (λ job. record s { jobs = s.jobs ++ job ∷ [] }) o ≡ Some t → IsTrueState t
+take_by : (header : Header) (s t : State) (x : Id) → IsLegal header s.history → IsTrueState s → (o : Option Job) → job_on s.table (past (known s.history) x) ≡ o → option_map (λ job. record s { jobs = s.jobs ++ job ∷ [] }) o ≡ Some t → IsTrueState t
 take_by header s t x legal are None at e = absurd cc
 take_by header s t x legal are (Some job) at e = subst IsTrueState (some_is _ t e) (record {
   rows = are.rows;
-  taken = all_push (IsTaken (known s.history) s.table) s.jobs job are.taken (taken_on header s.history legal s.table are.rows x job (line (known s.history) x) refl at);
+  taken = all_push (IsTaken (known s.history) s.table) s.jobs job are.taken (taken_on header s.history legal s.table are.rows x job (past (known s.history) x) refl at);
 })
 
-take_true : (header : Header) (s t : State) (x : Id) → IsLegal header s.history → IsTrueState s → (b : Bool) → option_map (λ job. record s { jobs = s.jobs ++ job ∷ [] }) (if b then None else job_on s.table (line (known s.history) x)) ≡ Some t → IsTrueState t
+take_true : (header : Header) (s t : State) (x : Id) → IsLegal header s.history → IsTrueState s → (b : Bool) → option_map (λ job. record s { jobs = s.jobs ++ job ∷ [] }) (if b then None else job_on s.table (past (known s.history) x)) ≡ Some t → IsTrueState t
 take_true header s t x legal are true e = absurd cc
-take_true header s t x legal are false e = take_by header s t x legal are (job_on s.table (line (known s.history) x)) refl e
+take_true header s t x legal are false e = take_by header s t x legal are (job_on s.table (past (known s.history) x)) refl e
 
 -- ---- a job is settled
 
@@ -57,7 +58,7 @@ put_by ks table jobs m row are false = record {
 }
 
 row_of : (ks : List Known) (table : List Manifests) (job : Job) → IsTaken ks table job → IsRow ks (derive job)
-row_of ks table job taken = (line_known ks job.changeset.id job.changeset taken.older taken.line_is, taken.derives)
+row_of ks table job taken = (past_known ks job.changeset.id job.changeset taken.first taken.second taken.past_is, taken.derives)
 
 settle_true : (s t : State) (x : Id) → IsTrueState s → (o : Option Job) → find (λ job. bytes_eq job.changeset.id x) s.jobs ≡ o → option_map (λ job. record s { table = settled_with s.table (derive job) }) o ≡ Some t → IsTrueState t
 settle_true s t x are None at e = absurd cc
@@ -69,24 +70,24 @@ settle_true s t x are (Some job) at e =
 
 -- ---- a crash
 
-crash_true : (s t : State) (o : Option (List Entry)) → option_map (reopened s) o ≡ Some t → IsTrueState t
+crash_true : (s t : State) (o : Option ℕ) → option_map (reopened s) o ≡ Some t → IsTrueState t
 crash_true s t None e = absurd cc
 crash_true s t (Some kept) e = subst IsTrueState (some_is _ t e) (record { rows = tt; taken = tt })
 
 -- ---- each step, and each list of steps
 
 step_true : (header : Header) (s t : State) (step : Step) → after_step header s step ≡ Some t → IsLegal header s.history → IsTrueState s → IsTrueState t
-step_true header s t (PlanLanding who name draft) e legal are = true_left s t (step_leaves header s t (PlanLanding who name draft) refl e) are
+step_true header s t (PlanLanding who name draft moment) e legal are = true_left s t (step_leaves header s t (PlanLanding who name draft moment) refl e) are
 step_true header s t (Exchange who ask) e legal are = true_left s t (step_leaves header s t (Exchange who ask) refl e) are
 step_true header s t (Look who done) e legal are = true_left s t (step_leaves header s t (Look who done) refl e) are
-step_true header s t (WriteRecord done) e legal are = true_left s t (step_leaves header s t (WriteRecord done) refl e) are
-step_true header s t (SyncRecord done) e legal are = true_left s t (step_leaves header s t (SyncRecord done) refl e) are
+step_true header s t (WriteGroup who done) e legal are = true_left s t (step_leaves header s t (WriteGroup who done) refl e) are
+step_true header s t (SyncGroup done) e legal are = true_left s t (step_leaves header s t (SyncGroup done) refl e) are
 step_true header s t (OpenGate done) e legal are = true_left s t (step_leaves header s t (OpenGate done) refl e) are
 step_true header s t (Seal done) e legal are = true_left s t (step_leaves header s t (Seal done) refl e) are
 step_true header s t (Acknowledge who) e legal are = true_left s t (step_leaves header s t (Acknowledge who) refl e) are
 step_true header s t (TakeJob x) e legal are = take_true header s t x legal are (is_some (settled_in s.table x)) e
 step_true header s t (Settle x) e legal are = settle_true s t x are (find (λ job. bytes_eq job.changeset.id x) s.jobs) refl e
-step_true header s t (Crash kept) e legal are = crash_true s t (kept_of s.sealing kept) e
+step_true header s t (Crash kept) e legal are = crash_true s t (kept_of s kept) e
 
 record Both (header : Header) (s : State) : Type 0 where
   kept : Kept header s

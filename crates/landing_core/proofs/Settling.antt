@@ -1,8 +1,7 @@
 -- What is settled of a job that was taken.
 use Rattle.std.proofs.Common.{◌≡◌, ◌⊎◌, inl, inr, ℕ, Bool, true, false, cond, not, ◌||◌, List, [], ◌∷◌, ◌++◌, refl, sym, ap, subst, ◌∙◌}
-use Rattle.std.specs.Prelude.{Option, None, Some, Contains, is_some, bytes_eq, option_map, find}
+use Rattle.std.specs.Prelude.{Some, Contains, is_some, bytes_eq, option_map, find}
 use Rattle.std.specs.List.{AllByRecursion}
-use Rattle.std.specs.Option.{option_map_or}
 use mathlib.Core.Bool.{true≢false}
 use Rattle.std.proofs.lemmas.Bool.{or_left, or_right}
 use Rattle.std.proofs.lemmas.List.Elements.{Contains-append_left, Contains-append_right, Contains-append_cases}
@@ -10,15 +9,15 @@ use Rattle.std.proofs.lemmas.Slice.Eq.{bytes_eq-Decides}
 use Rattle.byte_fields.specs.Bytes.{Id}
 use Rattle.byte_fields.proofs.Lists.{weaker, all_push}
 use Rattle.history_model.specs.History.{Entry, Known, known}
-use Rattle.history_model.specs.Chain.{first_parent, line}
+use Rattle.history_model.specs.Past.{Past, Begin, At, past}
 use Rattle.history_model.specs.Journal.{Header}
 use Rattle.manifest_model.specs.Manifests.{Manifests, manifests_of, nodes_in, Job, derive}
 use Rattle.manifest_model.proofs.Derivations.{or_case}
 use Rattle.core_model.specs.Core.{State, Settle, are_apart, nodes_among, settled_in, parent_in, settled_with}
 use Rattle.landing_core.specs.Steps.{Shows, Goes}
 use Rattle.landing_core.proofs.Asked.{one_step}
-use Rattle.landing_core.specs.Settled.{IsRow, IsTaken, ShowsSettled, HasJob, IsReady, with_settled, IsNodeWith, AreApartWith, CollideWith}
-use Rattle.landing_core.proofs.Rows.{line_known, row_there, some_parent, found_push, taken_push, among_nodes, node_origin}
+use Rattle.landing_core.specs.Settled.{IsRow, IsTaken, ShowsSettled, HasJob, is_settled, IsReady, with_settled, IsNodeWith, AreApartWith, CollideWith}
+use Rattle.landing_core.proofs.Rows.{past_known, row_there, some_parent, found_push, taken_push, among_nodes, node_origin}
 use Rattle.changeset_model.proofs.Paths.{||-comm as or_none}
 use Rattle.reply_model.proofs.Parents.{same_id}
 use Rattle.landing_core.proofs.Apart.{apart_from, apart_gives}
@@ -112,7 +111,7 @@ module _ (ks : List Known) (settled : Id → Bool) (x : Id) (s : State) (rows : 
       by (inr two) = inr (collide two)
 
   row : IsRow ks m
-  row = (line_known ks job.job.changeset.id job.job.changeset job.right.older job.right.line_is, job.right.derives)
+  row = (past_known ks job.job.changeset.id job.job.changeset job.right.first job.right.second job.right.past_is, job.right.derives)
 
   here_too : (y : Id) → settled x ≡ true → with_settled settled x y ≡ settled y
   here_too y e = by (bytes_eq x y) refl
@@ -148,34 +147,36 @@ settle_here header settled x s P rows has f =
       meets = f job;
     }
 
-shows_still : (h : List Entry) (s : State) (table : List Manifests) → Shows h s → Shows h (record s { table = table })
-shows_still h s table shows = record { history_is = shows.history_is; left = shows.left }
+shows_still : (h : List Entry) (n : ℕ) (s : State) (table : List Manifests) → Shows h n s → Shows h n (record s { table = table })
+shows_still h n s table shows = record { history_is = shows.history_is; sealed_is = shows.sealed_is; left = shows.left }
 
-pub settles : (header : Header) (h : List Entry) (settled : Id → Bool) (x : Id) (s : State) → AreApartWith (known h) settled x → Shows h s → ShowsSettled (known h) settled s → HasJob s x → Goes header s (Settle x ∷ []) (λ t. Shows h t × ShowsSettled (known h) (with_settled settled x) t)
-settles header h settled x s apart shows =
-    subst (λ h. AreApartWith (known h) settled x → Shows h s → ShowsSettled (known h) settled s → HasJob s x → Goes header s (Settle x ∷ []) (λ t. Shows h t × ShowsSettled (known h) (with_settled settled x) t)) shows.history_is
-    (λ apart shows rows has. settle_here header settled x s (λ t. Shows s.history t × ShowsSettled (known s.history) (with_settled settled x) t) rows has (λ job. (shows_still s.history s _ shows, put (known s.history) settled x s rows job apart))) apart shows
+pub settles : (header : Header) (h : List Entry) (n : ℕ) (settled : Id → Bool) (x : Id) (s : State) → AreApartWith (known h) settled x → Shows h n s → ShowsSettled (known h) settled s → HasJob s x → Goes header s (Settle x ∷ []) (λ t. Shows h n t × ShowsSettled (known h) (with_settled settled x) t)
+settles header h n settled x s apart shows =
+    subst (λ h. AreApartWith (known h) settled x → Shows h n s → ShowsSettled (known h) settled s → HasJob s x → Goes header s (Settle x ∷ []) (λ t. Shows h n t × ShowsSettled (known h) (with_settled settled x) t)) shows.history_is
+    (λ apart shows rows has. settle_here header settled x s (λ t. Shows s.history n t × ShowsSettled (known s.history) (with_settled settled x) t) rows has (λ job. (shows_still s.history n s _ shows, put (known s.history) settled x s rows job apart))) apart shows
 
-pub settles_nothing : (header : Header) (h : List Entry) (settled : Id → Bool) (x : Id) (s : State) → (settled x ≡ true) ⊎ CollideWith (known h) settled x → Shows h s → ShowsSettled (known h) settled s → HasJob s x → Goes header s (Settle x ∷ []) (λ t. Shows h t × ShowsSettled (known h) settled t)
-settles_nothing header h settled x s why shows =
-    subst (λ h. (settled x ≡ true) ⊎ CollideWith (known h) settled x → Shows h s → ShowsSettled (known h) settled s → HasJob s x → Goes header s (Settle x ∷ []) (λ t. Shows h t × ShowsSettled (known h) settled t)) shows.history_is
-    (λ why shows rows has. settle_here header settled x s (λ t. Shows s.history t × ShowsSettled (known s.history) settled t) rows has (λ job. (shows_still s.history s _ shows, left (known s.history) settled x s rows job why))) why shows
+pub settles_nothing : (header : Header) (h : List Entry) (n : ℕ) (settled : Id → Bool) (x : Id) (s : State) → (settled x ≡ true) ⊎ CollideWith (known h) settled x → Shows h n s → ShowsSettled (known h) settled s → HasJob s x → Goes header s (Settle x ∷ []) (λ t. Shows h n t × ShowsSettled (known h) settled t)
+settles_nothing header h n settled x s why shows =
+    subst (λ h. (settled x ≡ true) ⊎ CollideWith (known h) settled x → Shows h n s → ShowsSettled (known h) settled s → HasJob s x → Goes header s (Settle x ∷ []) (λ t. Shows h n t × ShowsSettled (known h) settled t)) shows.history_is
+    (λ why shows rows has. settle_here header settled x s (λ t. Shows s.history n t × ShowsSettled (known s.history) settled t) rows has (λ job. (shows_still s.history n s _ shows, left (known s.history) settled x s rows job why))) why shows
 
--- ---- a job's parent
+-- ---- a job's parents
 
-settled_parent : (table : List Manifests) (settled : Id → Bool) → ((x : Id) → is_some (settled_in table x) ≡ settled x) → (o : Option Id) → is_some (parent_in table o) ≡ true → option_map_or settled o true ≡ true
-settled_parent table settled is None h = refl
-settled_parent table settled is (Some p) h = sym (is p) ∙ sym (some_parent (settled_in table p)) ∙ h
+settled_parent : (table : List Manifests) (settled : Id → Bool) → ((x : Id) → is_some (settled_in table x) ≡ settled x) → (p : Past) → is_some (parent_in table p) ≡ true → is_settled settled p ≡ true
+settled_parent table settled is Begin h = refl
+settled_parent table settled is (At p first second) h = sym (is p.id) ∙ sym (some_parent (settled_in table p.id)) ∙ h
 
 pub ready : (ks : List Known) (settled : Id → Bool) (x : Id) (s : State) → ShowsSettled ks settled s → HasJob s x → settled x ≡ false → IsReady ks settled x
 ready ks settled x s rows has unsettled =
     let job = found (IsTaken ks s.table) s.jobs x rows.jobs has in
     record {
       unsettled = unsettled;
-      first = job.job.changeset;
-      older = job.right.older;
-      line_is = ap (line ks) (sym job.id_is) ∙ job.right.line_is;
-      parent = settled_parent s.table settled rows.settled_is (first_parent job.job.changeset.changeset) job.right.parent;
+      here = job.job.changeset;
+      first = job.right.first;
+      second = job.right.second;
+      past_is = ap (past ks) (sym job.id_is) ∙ job.right.past_is;
+      first_settled = settled_parent s.table settled rows.settled_is job.right.first job.right.first_there;
+      second_settled = settled_parent s.table settled rows.settled_is job.right.second job.right.second_there;
     }
 
 -- ---- told in another way

@@ -1,5 +1,5 @@
 -- The core's law, whole.
-use Rattle.std.proofs.Common.{◌≡◌, ℕ, Bool, List, [], ◌∷◌, ◌++◌, refl, sym, ap, ◌∙◌}
+use Rattle.std.proofs.Common.{◌≡◌, ℕ, Bool, List, [], ◌∷◌, ◌++◌, refl, sym, ap, subst, ◌∙◌}
 use Rattle.std.specs.Prelude.{Option, None, Some}
 use Rattle.std.specs.Option.{option_and_then}
 use Rattle.history_model.specs.History.{Body, Entry}
@@ -7,12 +7,13 @@ use Rattle.history_model.specs.Journal.{Header}
 use Rattle.reply_model.specs.Legal.{IsLegal}
 use Rattle.byte_fields.proofs.Lists.{weaker}
 use Rattle.core_model.specs.Core.{State, Step, Crash, opened, after_step, after_steps}
-use Rattle.core_model.proofs.Cores.{core_keeps}
+use Rattle.core_model.proofs.Cores.{core_keeps, core_seals}
 use Rattle.core_model.proofs.Tables.{table_is_right, table_is_apart}
-use Rattle.landing_core.specs.Gained.{StandsAt}
+use mathlib.Core.List.{IsPrefix}
+use Rattle.landing_core.specs.Gained.{StandsAt, IsSealedAt, sealed_log}
+use Rattle.landing_core.proofs.Asked.{after_then}
 use Rattle.landing_core.specs.Whole.{LeavesAll, Crashed, Keeps}
-use Rattle.landing_core.proofs.Growing.{stay, keep_numbers}
-use Rattle.landing_core.proofs.Reached.{log_is, crash_leaves, crash_numbers, crash_acknowledged, unanswered_stands}
+use Rattle.landing_core.proofs.Reached.{log_is, stay, keep_numbers, crash_leaves, crash_reopens, waiting_stands, acknowledged_sealed}
 
 -- ---- a list of steps, and then another
 
@@ -40,13 +41,17 @@ only_step header t (Some next) e = e
 module _ (header : Header) (h : List Entry) (legal : IsLegal header h) where
   leaves_all : (before : List Step) (at after : State) (kept : Bool) → after_steps header (opened h) before ≡ Some at → after_step header at (Crash kept) ≡ Some after → after_steps header at (Crash kept ∷ []) ≡ Some after → LeavesAll at after
   leaves_all before at after kept reached crashes taken = record {
-    log = crash_leaves header h before at after kept reached crashes;
-    acknowledged = crash_acknowledged header at after kept crashes;
-    stand = weaker (λ (a : ℕ × Body). StandsAt at.history a.0 a.1) (λ (a : ℕ × Body). StandsAt after.history a.0 a.1) (λ a stands. keep_numbers header at after (Crash kept ∷ []) a.0 a.1 stands taken) at.acknowledged
-        (core_keeps header h before at legal reached).1;
-    unanswered = λ who number unanswered. unanswered_stands header h before (Crash kept ∷ []) at after who number reached unanswered taken;
-    unseated = crash_numbers header h before at after kept reached crashes;
+    log = crash_leaves header at after kept crashes;
+    sealed = (crash_reopens header at after kept crashes).1;
+    acknowledged = (crash_reopens header at after kept crashes).2;
+    stand = weaker (λ (a : ℕ × Body). IsSealedAt at a.0 a.1) (λ (a : ℕ × Body). StandsAt after.history a.0 a.1) (λ a is. (keep_numbers header h before (Crash kept ∷ []) at after a.0 a.1 is reached taken).1) at.acknowledged
+        (acknowledged_sealed at at.acknowledged (core_keeps header h before at legal reached).1 (core_seals header h before at legal reached));
+    waiting = λ who number waits less. waiting_stands header h before (Crash kept ∷ []) at after who number reached waits less taken;
+    unseated = (crash_reopens header at after kept crashes).0;
   }
+
+  then_reached : (before : List Step) (at after : State) (kept : Bool) → after_steps header (opened h) before ≡ Some at → after_steps header at (Crash kept ∷ []) ≡ Some after → after_steps header (opened h) (before ++ Crash kept ∷ []) ≡ Some after
+  then_reached before at after kept reached taken = after_then header (opened h) at before (Crash kept ∷ []) reached ∙ taken
 
   crashed : (before later : List Step) (kept : Bool) (s : State) → after_steps header (opened h) (before ++ Crash kept ∷ later) ≡ Some s → Crashed header h before kept s
   crashed before later kept s e =
@@ -60,7 +65,8 @@ module _ (header : Header) (h : List Entry) (legal : IsLegal header h) where
         crashes = crashes;
         log = log_is header h before first.at first.reached;
         leaves = leaves_all before first.at then_it.at kept first.reached crashes then_it.reached;
-        stays = stay header then_it.at s later then_it.later;
+        stays = subst (λ bs. IsPrefix bs (sealed_log s)) (crash_reopens header first.at then_it.at kept crashes).1
+            (stay header h (before ++ Crash kept ∷ []) later then_it.at s (then_reached before first.at then_it.at kept first.reached then_it.reached) then_it.later);
       }
 
   pub keeps : (steps : List Step) (s : State) → after_steps header (opened h) steps ≡ Some s → Keeps header h steps s
@@ -70,6 +76,7 @@ module _ (header : Header) (h : List Entry) (legal : IsLegal header h) where
         legal = kept.0;
         log = log_is header h steps s e;
         acknowledged = kept.1;
+        first = core_seals header h steps s legal e;
         once = kept.2;
         crashed = λ before later kept same. crashed before later kept s (ap (after_steps header (opened h)) (sym same) ∙ e);
         manifests = table_is_right header h steps s legal e;

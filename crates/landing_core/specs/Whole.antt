@@ -1,48 +1,52 @@
 -- What the core keeps, whole.
---     LeavesAll at kept after      what a crash leaves: all that is stored, each entry at its number, and at most one entry more
---     Crashes header h steps s      so did each crash among the steps
+--     LeavesAll at after      what a crash leaves: all that is sealed, each entry at its number, and the whole group or nothing of it
+--     Crashed header h before kept s      so did a crash among the steps
 --     Keeps header h steps s      what is so after any steps from an opened history
-use Rattle.std.specs.Prelude.{◌≡◌, ◌⊎◌, ℕ, Bool, true, IsTrue, List, [], ◌∷◌, ◌++◌, Some}
+use Rattle.std.specs.Prelude.{◌≡◌, ◌⊎◌, ◌<◌, ℕ, Bool, true, IsTrue, List, ◌∷◌, ◌++◌, Some}
 use Rattle.std.specs.List.{AllByRecursion}
 use mathlib.Core.List.{IsPrefix}
 use Rattle.history_model.specs.History.{Body, Entry, bodies, stored, known, is_known}
 use Rattle.history_model.specs.Journal.{Header}
 use Rattle.manifest_model.specs.Manifests.{manifests_of}
 use Rattle.reply_model.specs.Legal.{IsLegal}
-use Rattle.core_model.specs.Core.{State, Sealing, Step, Crash, Once, may_be_kept, are_apart, nodes_among, opened, after_step, after_steps}
-use Rattle.landing_core.specs.Gained.{StandsAt, MadeAt, gains_of}
+use Rattle.core_model.specs.Core.{State, Step, Crash, Once, may_be_kept, are_apart, nodes_among, opened, after_step, after_steps}
+use Rattle.landing_core.specs.Gained.{StandsAt, MadeAt, sealed_log, gains_of}
 
 abbrev pub AllStand : List Entry → List (ℕ × Body) → Type 0
 AllStand h acknowledged = AllByRecursion (λ a. StandsAt h a.0 a.1) acknowledged
 
--- one record more, whose gate was to be opened
-abbrev pub HasOneMore : State → State → Type 0
-HasOneMore at after = (r : Sealing) × (at.sealing ≡ Some r) × IsTrue (may_be_kept r.stage) × (bodies after.history ≡ bodies at.history ++ r.body ∷ [])
+-- all that was pending is left too, whose gate was to be opened
+abbrev pub HasGroup : State → State → Type 0
+HasGroup at after = IsTrue (may_be_kept at.sealing) × (bodies after.history ≡ bodies at.history)
 
 pub record LeavesAll (at after : State) : Type 0 where
-  pub log : (bodies after.history ≡ bodies at.history) ⊎ HasOneMore at after
+  pub log : (bodies after.history ≡ sealed_log at) ⊎ HasGroup at after
+  -- all of it is sealed
+  pub sealed : sealed_log after ≡ bodies after.history
   -- what was acknowledged is so still, and stands
   pub acknowledged : after.acknowledged ≡ at.acknowledged
   pub stand : AllStand after.history at.acknowledged
   -- so does what a seat made and was sealed, and wasn't answered yet
-  pub unanswered : (who number : ℕ) → at.unanswered who ≡ Some number → (body : Body) × MadeAt at.history number who body × StandsAt after.history number body
+  pub waiting : (who number : ℕ) → at.waiting who ≡ Some number → number < at.sealed → (body : Body) × MadeAt at.history number who body × StandsAt after.history number body
   -- no entry has a seat's number
   pub unseated : after.history ≡ stored after.history
 
--- The log at a crash is that of the first history, and then what was sealed since and what earlier crashes left, in their order. It is a prefix of the log at the end.
+-- What was sealed at a crash is the log of the first history, and then what was sealed since and what earlier crashes left, in their order. What the crash leaves is a prefix of what is sealed at the end.
 pub record Crashed (header : Header) (h : List Entry) (before : List Step) (kept : Bool) (s : State) : Type 0 where
   pub at : State
   pub after : State
   pub reached : after_steps header (opened h) before ≡ Some at
   pub crashes : after_step header at (Crash kept) ≡ Some after
-  pub log : bodies at.history ≡ bodies h ++ gains_of header (opened h) before
+  pub log : sealed_log at ≡ bodies h ++ gains_of header (opened h) before
   pub leaves : LeavesAll at after
-  pub stays : IsPrefix (bodies after.history) (bodies s.history)
+  pub stays : IsPrefix (bodies after.history) (sealed_log s)
 
 pub record Keeps (header : Header) (h : List Entry) (steps : List Step) (s : State) : Type 0 where
   pub legal : IsLegal header s.history
-  pub log : bodies s.history ≡ bodies h ++ gains_of header (opened h) steps
+  pub log : sealed_log s ≡ bodies h ++ gains_of header (opened h) steps
   pub acknowledged : AllStand s.history s.acknowledged
+  -- what is acknowledged is sealed
+  pub first : AllByRecursion (λ (a : ℕ × Body). a.0 < s.sealed) s.acknowledged
   pub once : Once s.acknowledged
   pub crashed : (before later : List Step) (kept : Bool) → steps ≡ before ++ Crash kept ∷ later → Crashed header h before kept s
   -- what is in the table are the manifests from scratch, of known changesets, and no two different nodes have one digest

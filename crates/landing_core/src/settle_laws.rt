@@ -1,5 +1,5 @@
 //! Laws of jobs and of what is settled, each the contract of a function that does nothing.
-ghost use Rattle.std.specs.Prelude.{◌≡◌, ◌⊎◌, Bool, true, false, [], ◌∷◌, List, Some, is_some};
+ghost use Rattle.std.specs.Prelude.{◌≡◌, ◌⊎◌, ℕ, Bool, true, false, [], ◌∷◌, List, Some, is_some};
 ghost use Rattle.std.specs.List.{AllByRecursion};
 ghost use Rattle.byte_fields.specs.Bytes.{Id};
 ghost use Rattle.core_model.specs.Core.{State, Step, TakeJob, Settle, opened, after_steps, settled_in};
@@ -11,8 +11,8 @@ ghost use Rattle.landing_core.specs.Steps.{Goes, Shows};
 
 /// A job can be taken of a known changeset that isn't settled and whose parent is, if it has one. It is there then, and nothing else is settled.
 pub fn a_job_is_taken()
-    ensures { (header : Header) (h : List Entry) (settled : Id → Bool) (x : Id) (s : State) → IsLegal header h → IsReady (known h) settled x → Shows h s → ShowsSettled (known h) settled s →
-        Goes header s (TakeJob x ∷ []) (λ t. Shows h t × ShowsSettled (known h) settled t × HasJob t x) }
+    ensures { (header : Header) (h : List Entry) (n : ℕ) (settled : Id → Bool) (x : Id) (s : State) → IsLegal header h → IsReady (known h) settled x → Shows h n s → ShowsSettled (known h) settled s →
+        Goes header s (TakeJob x ∷ []) (λ t. Shows h n t × ShowsSettled (known h) settled t × HasJob t x) }
 {}
 
 /// A changeset of which a job was taken is ready, unless it is settled by now.
@@ -22,14 +22,14 @@ pub fn what_has_a_job_is_ready()
 
 /// What a job derives is settled, and nothing else, where no two different nodes of the settled changesets and of this one have one digest.
 pub fn what_is_derived_is_settled()
-    ensures { (header : Header) (h : List Entry) (settled : Id → Bool) (x : Id) (s : State) → AreApartWith (known h) settled x → Shows h s → ShowsSettled (known h) settled s → HasJob s x →
-        Goes header s (Settle x ∷ []) (λ t. Shows h t × ShowsSettled (known h) (with_settled settled x) t) }
+    ensures { (header : Header) (h : List Entry) (n : ℕ) (settled : Id → Bool) (x : Id) (s : State) → AreApartWith (known h) settled x → Shows h n s → ShowsSettled (known h) settled s → HasJob s x →
+        Goes header s (Settle x ∷ []) (λ t. Shows h n t × ShowsSettled (known h) (with_settled settled x) t) }
 {}
 
 /// Nothing is settled where the changeset is settled already, or where two different nodes of the settled changesets and of this one have one digest.
 pub fn nothing_is_settled()
-    ensures { (header : Header) (h : List Entry) (settled : Id → Bool) (x : Id) (s : State) → (settled x ≡ true) ⊎ CollideWith (known h) settled x → Shows h s → ShowsSettled (known h) settled s → HasJob s x →
-        Goes header s (Settle x ∷ []) (λ t. Shows h t × ShowsSettled (known h) settled t) }
+    ensures { (header : Header) (h : List Entry) (n : ℕ) (settled : Id → Bool) (x : Id) (s : State) → (settled x ≡ true) ⊎ CollideWith (known h) settled x → Shows h n s → ShowsSettled (known h) settled s → HasJob s x →
+        Goes header s (Settle x ∷ []) (λ t. Shows h n t × ShowsSettled (known h) settled t) }
 {}
 
 /// Whatever steps are taken, crashes among them: the state's manifests and jobs are the definitions', and no job was taken before its parent was settled.

@@ -87,7 +87,7 @@ fn land_between(
     let Ok(plan) = state.plan(alloc, main, draft) else {
         return Err(Fail::from("a plan"));
     };
-    let rebased = plan.rebased(alloc)?;
+    let rebased = plan.rebased(alloc, 0)?;
     enter_after_moves(alloc, state, main, last, rebased)
 }
 
@@ -96,7 +96,7 @@ fn told(alloc: Global, entries: u64, exchanged: &Exchanged) -> Result<String, Fa
     let (word, id) = match exchanged {
         Exchanged::Landed(landed) => ("landed", landed.ids.last().copied()),
         Exchanged::HeadMoved { found } => ("moved", *found),
-        Exchanged::Refused(_) | Exchanged::DiskFault => ("refused", None),
+        Exchanged::Refused(_) => ("refused", None),
     };
     let id = id.ok_or("an id")?.to_hex(alloc)?;
     Ok(format!(in alloc; "{entries} {word} {id}")?)
@@ -134,4 +134,27 @@ fn check(rt: &(impl Abort + Alloc<A = Global>), last: &str, wanted: &str) -> Res
 fn a_plan_is_entered_where_main_has_its_head_again(rt: HostRuntime) -> Result<(), Fail> {
     check(&rt, HEAD, LANDED)?;
     check(&rt, ROOT, MOVED)
+}
+
+// How many entries are sealed before and after all of them are to be, and whether that was done.
+fn seal_all(alloc: Global, state: &mut RepoState<MemDisk>) -> Result<String, Fail> {
+    let before = state.sealed();
+    let stored = state.stored_length();
+    let done = state.seal(2, stored).is_ok();
+    let after = state.sealed();
+    Ok(format!(in alloc; "{before} {done} {after}")?)
+}
+
+fn changes_sealed(alloc: Global) -> Result<String, Fail> {
+    let main = main_name(alloc)?;
+    let mut state = new_repository(alloc)?;
+    make_changes(alloc, &mut state, &main, CHANGES)?;
+    seal_all(alloc, &mut state)
+}
+
+#[test]
+fn changes_wait_until_they_are_sealed(rt: HostRuntime) -> Result<(), Fail> {
+    let sealed = changes_sealed(rt.alloc())?;
+    assert_eq!(rt; sealed.as_str(), "0 true 5");
+    Ok(())
 }

@@ -5,7 +5,7 @@ use blob_disk::{Disk, MemDisk};
 use object_id::Id;
 use ports::ZeroBytes;
 use recovery::{Opened, open};
-use repo_calls::{Ask, ChangeFault, Granted};
+use repo_calls::{Ask, Granted, Refusal};
 use repo_journal::init;
 use repo_path::BookName;
 use repo_state::RepoState;
@@ -88,7 +88,7 @@ fn make_change(
     }
 }
 
-fn done(answer: Result<Granted, ChangeFault>) -> Result<(), Fail> {
+fn done(answer: Result<Granted, Refusal>) -> Result<(), Fail> {
     match answer {
         Ok(_) => Ok(()),
         Err(_) => Err(Fail::from("a change")),

@@ -1,6 +1,6 @@
 //! Clients that land one after another on one repository, by one thread.
 ghost use Rattle.std.specs.Prelude.{◌≡◌, ◌+◌, ◌≤◌, ◌^◌};
-ghost use Rattle.repo_state.specs.State.{IsQuiet};
+ghost use Rattle.repo_state.specs.State.{IsAllSealed, IsQuiet};
 
 use blob_disk::Disk;
 use object_id::Id;
@@ -92,6 +92,7 @@ fn read_at<R: Wait, D: Disk>(
 
 // What 3 clients leave in a repository.
 fn left_in<R: Wait, D: Disk>(rt: &R, alloc: Global, state: RepoState<D>) -> Result<(u64, Id), Fail>
+    requires sealed { IsAllSealed state.history state.sealed }
     requires quiet { IsQuiet state.opening }
 {
     let (repo, mut lead) = Repo::new(alloc, state)?;
@@ -108,7 +109,15 @@ fn left<R: Wait>(rt: &R, alloc: Global) -> Result<(u64, Id), Fail> {
 fn land<S: Seat>(alloc: Global, seat: &mut S) -> Result<(), Fail> {
     let name = &BookName::parse(alloc, "main")?;
     let draft = Id::from_hex(BLOCKING_ID)?;
-    seat.change(alloc, &Ask::Land { name, draft })?;
+    let moment = 0;
+    seat.change(
+        alloc,
+        &Ask::Land {
+            name,
+            draft,
+            moment,
+        },
+    )?;
     Ok(())
 }
 
@@ -126,6 +135,7 @@ fn blocked_in<R: Wait, D: Disk>(
     alloc: Global,
     state: RepoState<D>,
 ) -> Result<Result<(), LoadFault>, Fail>
+    requires sealed { IsAllSealed state.history state.sealed }
     requires quiet { IsQuiet state.opening }
 {
     let (repo, mut lead) = Repo::new(alloc, state)?;

@@ -1,7 +1,7 @@
 //! Loads of the program, by a table: from the words to the status and the line.
 use blob_disk::MemDisk;
 use command_line::{Ran, Status, run};
-use ports::{Accept, Link, MemAccept, MemLink, MemOpener, NoGate, ZeroBytes};
+use ports::{Accept, FixedClock, Link, MemAccept, MemLink, MemOpener, NoGate, ZeroBytes};
 use std::alloc::{AllocError, Global};
 use std::hash::RandomState;
 use std::process::Abort;
@@ -76,7 +76,18 @@ where
 {
     let keys = keys()?;
     let mut opener = MemOpener::new(Vec::new(alloc), Vec::new(alloc), Vec::new(alloc));
-    Ok(run(rt, alloc, keys, words, link, &mut opener, accept, &NoGate))
+    let clock = FixedClock { moment: 0 };
+    Ok(run(
+        rt,
+        alloc,
+        keys,
+        words,
+        link,
+        &mut opener,
+        accept,
+        &NoGate,
+        &clock,
+    ))
 }
 
 fn run_line<R: Threads + Wait + Sync, L: Link>(

@@ -16,19 +16,20 @@ use Rattle.std.proofs.lemmas.List.Sums.{sum_by-cons}
 use Rattle.std.proofs.lemmas.List.Folds.{list_any-append}
 use Rattle.byte_fields.specs.Bytes.{Id, sized, are_bytes, is_bytes}
 use Rattle.byte_fields.proofs.Lists.{weaker, both_parts}
+use Rattle.changeset_model.specs.Version.{Version, version_byte}
 use Rattle.changeset_model.specs.Path.{Path, path_cmp, text_of, is_element, is_path, in_place, rising}
-use Rattle.changeset_model.specs.Changeset.{File, FileChange, Set, Delete, Changeset, file_of, set_at, sets_of, touched_paths, change_bytes, edit_bytes, spelling, most_size, is_change, are_parents, is_author, is_signed, is_message, self_conflict, are_changes, is_changeset}
+use Rattle.changeset_model.specs.Changeset.{File, CopySource, FileChange, Set, Delete, Changeset, file_of, set_at, sets_of, touched_paths, is_copied, file_bytes, copied_bytes, change_bytes, edit_bytes, spelling, most_size, is_change, are_parents, is_author, is_signed, is_message, self_conflict, are_changes, is_changeset}
 use Rattle.changeset_model.proofs.Rising.{IsRising-rising}
-use Rattle.history_model.specs.History.{Body, Content, Change, Book, Land, Fault, Entry, Known, bodies, is_stored, changesets_in, with_id, each_id_once, known}
+use Rattle.history_model.specs.History.{Body, Content, Whole, Change, Book, Land, Policy, Fault, Entry, Known, bodies, is_stored, changesets_in, with_id, each_id_once, known}
 use Rattle.history_model.specs.Chain.{first_parent, line_among, line, chain, changesets}
-use Rattle.history_model.specs.Tree.{decides, tree, files, files_of}
-use Rattle.history_model.specs.Journal.{payload_len, record_len, size}
+use Rattle.history_model.specs.Tree.{decides, tree, files}
+use Rattle.history_model.specs.Journal.{payload_len, record_len, size, landing_mark, moment_bytes, wrapped}
 use Rattle.history_model.proofs.Trees.{tree-append}
 use Rattle.manifest_model.specs.Fsnode.{total_size}
 use Rattle.manifest_model.proofs.Derivations.{among, tied_same, rising_has}
 use Rattle.history_model.proofs.Landings.{or_true as or_right, or_left}
 use Rattle.manifest_model.proofs.Links.{file_at-files}
-use Rattle.manifest_laws.specs.Bounds.{changesets_of, ChangesetsKeepRules}
+use Rattle.manifest_laws.specs.Bounds.{changesets_of, ChangesetsKeepRules, chain_files}
 use Rattle.manifest_laws.specs.Rules.{AreFiles}
 use Rattle.manifest_laws.specs.Changes.{AreClear}
 use Rattle.manifest_laws.proofs.Rules.{is_id}
@@ -52,45 +53,43 @@ text_long (e ∷ []) h = element_long e (and_parts (is_element e) true (and_part
     element_long (b ∷ e) g = omega arith
 text_long (e ∷ f ∷ p) h = let both = length-append e (0x2F ∷ text_of (f ∷ p)) in omega (arith, both)
 
-set_long : (p : Path) (f : File) → is_path p ≡ true → is_bytes 32 f.content ≡ true → 45 ≤ length (edit_bytes (p, Set f))
-set_long p f h g =
+set_long : (v : Version) (p : Path) (f : File) (copied : Option CopySource) → is_path p ≡ true → is_bytes 32 f.content ≡ true → 45 ≤ length (edit_bytes v (p, Set f copied))
+set_long v p f copied h g =
     let text : 1 ≤ length (text_of p) = text_long p h in
     let id : length f.content ≡ 32 = eqb-true (length f.content) 32 (and_parts (length f.content == 32) (are_bytes f.content) g).0 in
-    let whole = length-append (sized w16 (text_of p)) (change_bytes (Set f)) in
+    let whole = length-append (sized w16 (text_of p)) (change_bytes v (Set f copied)) in
+    let file = length-append (file_bytes f) (copied_bytes v copied) in
     let end : length (f.content ++ []) ≡ length f.content = ap length (append-nil f.content) in
+    omega (arith, whole, file)
+
+changed_id : (v : Version) (n : ℕ) (f : File) (copied : Option CopySource) → is_change v n (Set f copied) ≡ true → (f.size ≤ most_size) × (is_bytes 32 f.content ≡ true)
+changed_id v n f copied h = let parts = and_parts (nat_le f.size most_size) (is_bytes 32 f.content) (and_parts (nat_le f.size most_size && is_bytes 32 f.content) (is_copied v n copied) h).0 in (leb-true f.size most_size parts.0, parts.1)
+
+edits_long : (v : Version) (n : ℕ) (es : List (Path × FileChange)) → list_all (λ e. is_path e.0 && is_change v n e.1) es ≡ true → 45 * length (sets_in es) ≤ length (flat_map (edit_bytes v) es)
+edits_long v n [] h = omega arith
+edits_long v n ((p, Delete) ∷ es) h =
+    let parts = and_parts (is_path p && is_change v n Delete) (list_all (λ e. is_path e.0 && is_change v n e.1) es) h in
+    let rest = edits_long v n es parts.1 in
+    let whole = length-append (edit_bytes v (p, Delete)) (flat_map (edit_bytes v) es) in
     omega (arith, whole)
-
-abbrev KeepsRule : Path × FileChange → Type 0
-KeepsRule e = (is_path e.0 && is_change e.1) ≡ true
-
-changed_id : (f : File) → is_change (Set f) ≡ true → (f.size ≤ most_size) × (is_bytes 32 f.content ≡ true)
-changed_id f h = let parts = and_parts (nat_le f.size most_size) (is_bytes 32 f.content) h in (leb-true f.size most_size parts.0, parts.1)
-
-edits_long : (es : List (Path × FileChange)) → list_all (λ e. is_path e.0 && is_change e.1) es ≡ true → 45 * length (sets_in es) ≤ length (flat_map edit_bytes es)
-edits_long [] h = omega arith
-edits_long ((p, Delete) ∷ es) h =
-    let parts = and_parts (is_path p && is_change Delete) (list_all (λ e. is_path e.0 && is_change e.1) es) h in
-    let rest = edits_long es parts.1 in
-    let whole = length-append (edit_bytes (p, Delete)) (flat_map edit_bytes es) in
-    omega (arith, whole)
-edits_long ((p, Set f) ∷ es) h =
-    let parts = and_parts (is_path p && is_change (Set f)) (list_all (λ e. is_path e.0 && is_change e.1) es) h in
-    let rules = and_parts (is_path p) (is_change (Set f)) parts.0 in
-    let one : 45 ≤ length (edit_bytes (p, Set f)) = set_long p f rules.0 (changed_id f rules.1).1 in
-    let rest : 45 * length (sets_in es) ≤ length (flat_map edit_bytes es) = edits_long es parts.1 in
-    let whole = length-append (edit_bytes (p, Set f)) (flat_map edit_bytes es) in
+edits_long v n ((p, Set f copied) ∷ es) h =
+    let parts = and_parts (is_path p && is_change v n (Set f copied)) (list_all (λ e. is_path e.0 && is_change v n e.1) es) h in
+    let rules = and_parts (is_path p) (is_change v n (Set f copied)) parts.0 in
+    let one : 45 ≤ length (edit_bytes v (p, Set f copied)) = set_long v p f copied rules.0 (changed_id v n f copied rules.1).1 in
+    let rest : 45 * length (sets_in es) ≤ length (flat_map (edit_bytes v) es) = edits_long v n es parts.1 in
+    let whole = length-append (edit_bytes v (p, Set f copied)) (flat_map (edit_bytes v) es) in
     omega (arith, one, rest, whole)
 
-changes_of : (c : Changeset) → is_changeset c ≡ true → list_all (λ e. is_path e.0 && is_change e.1) c.changes ≡ true
+changes_of : (c : Changeset) → is_changeset c ≡ true → list_all (λ e. is_path e.0 && is_change c.version (length c.parents) e.1) c.changes ≡ true
 changes_of c h =
-    let es = (and_parts (are_parents c.parents && is_author c.author && is_signed 64 c.seconds && is_signed 32 c.offset && is_message c.message) (are_changes c.changes) h).1 in
-    (and_parts (nat_le (length c.changes) 4096) (list_all (λ e. is_path e.0 && is_change e.1) c.changes) (and_parts (nat_le (length c.changes) 4096 && list_all (λ e. is_path e.0 && is_change e.1) c.changes) (is_sorted path_cmp c.changes) es).0).1
+    let es = (and_parts (are_parents c.parents && is_author c.author && is_signed 64 c.seconds && is_signed 32 c.offset && is_message c.message) (are_changes c.version (length c.parents) c.changes) h).1 in
+    (and_parts (nat_le (length c.changes) 4096) (list_all (λ e. is_path e.0 && is_change c.version (length c.parents) e.1) c.changes) (and_parts (nat_le (length c.changes) 4096 && list_all (λ e. is_path e.0 && is_change c.version (length c.parents) e.1) c.changes) (is_sorted path_cmp c.changes) es).0).1
 
 pub sets_long : (c : Changeset) → is_changeset c ≡ true → 45 * length (sets_of c) ≤ length (spelling c)
 sets_long c h =
-    let last = behind_long ((0x43 ∷ 1 ∷ []) ∷ (length c.parents ∷ []) ∷ concat c.parents ∷ sized w16 c.author ∷ to_be_bytes w64 (cast_unsigned w64 c.seconds) ∷ to_be_bytes w32 (cast_unsigned w32 c.offset) ∷ sized w32 c.message ∷ to_be_bytes w32 (length c.changes) ∷ []) (flat_map edit_bytes c.changes ∷ []) in
-    let end : length (flat_map edit_bytes c.changes ++ []) ≡ length (flat_map edit_bytes c.changes) = ap length (append-nil (flat_map edit_bytes c.changes)) in
-    let edits = edits_long c.changes (changes_of c h) in
+    let last = behind_long ((0x43 ∷ version_byte c.version ∷ []) ∷ (length c.parents ∷ []) ∷ concat c.parents ∷ sized w16 c.author ∷ to_be_bytes w64 (cast_unsigned w64 c.seconds) ∷ to_be_bytes w32 (cast_unsigned w32 c.offset) ∷ sized w32 c.message ∷ to_be_bytes w32 (length c.changes) ∷ []) (flat_map (edit_bytes c.version) c.changes ∷ []) in
+    let end : length (flat_map (edit_bytes c.version) c.changes ++ []) ≡ length (flat_map (edit_bytes c.version) c.changes) = ap length (append-nil (flat_map (edit_bytes c.version) c.changes)) in
+    let edits = edits_long c.version (length c.parents) c.changes (changes_of c h) in
     omega (arith, last, end, edits)
 
 -- ---- a history's changesets
@@ -110,14 +109,22 @@ spellings_long (c ∷ cs) all =
     let part = length-append (to_be_bytes w32 (length (spelling c))) (spelling c) in
     omega (arith, one, rest, whole, part)
 
+wrapped_long : (caller : Option (List ℕ)) (bytes : List ℕ) → length bytes ≤ length (wrapped caller bytes)
+wrapped_long None bytes = omega arith
+wrapped_long (Some caller) bytes = let whole = length-append (sized w8 caller) bytes in omega (arith, whole)
+
 body_long : (b : Body) → AllByRecursion IsRight (changesets_in b) → total weight (changesets_in b) ≤ payload_len b
 body_long (Content x n) all = omega arith
+body_long (Whole x n parts) all = omega arith
+body_long (Policy caller text) all = omega arith
 body_long (Change c) all = let h = sets_long c all.0 in omega (arith, h)
 body_long (Book move) all = omega arith
 body_long (Land landing) all =
     let h = spellings_long landing.new all in
-    let g = behind_long ((0x4C ∷ []) ∷ sized w8 landing.name ∷ landing.old ∷ landing.draft ∷ to_be_bytes w16 (length landing.new) ∷ []) (map (λ c. sized w32 (spelling c)) landing.new) in
-    omega (arith, h, g)
+    let front = (landing_mark landing.moment ∷ []) ∷ sized w8 landing.name ∷ landing.old ∷ landing.draft ∷ moment_bytes landing.moment ∷ to_be_bytes w16 (length landing.new) ∷ [] in
+    let g = behind_long front (map (λ c. sized w32 (spelling c)) landing.new) in
+    let w = wrapped_long landing.caller (concat (front ++ map (λ c. sized w32 (spelling c)) landing.new)) in
+    omega (arith, h, g, w)
 body_long (Fault breaking) all = omega arith
 
 stored_long : (b : Body) (later : List Body) (n : ℕ) → AllByRecursion IsRight (changesets_in b) → n ≤ sum_by record_len later → (s : Bool) → is_stored b ≡ s → total weight (changesets_in b) + n ≤ sum_by record_len (cond s (b ∷ later) later)
@@ -126,6 +133,8 @@ stored_long b later n all h true e =
     let more = sum_by-cons record_len b later in
     omega (arith, one, more)
 stored_long (Content x m) later n all h false e = absurd (true≢false e)
+stored_long (Whole x m parts) later n all h false e = absurd (true≢false e)
+stored_long (Policy caller text) later n all h false e = absurd (true≢false e)
 stored_long (Change c) later n all h false e = absurd (true≢false e)
 stored_long (Book move) later n all h false e = absurd (true≢false e)
 stored_long (Land landing) later n all h false e = absurd (true≢false e)
@@ -256,9 +265,9 @@ abbrev set_paths : List Changeset → List Path
 set_paths cs = flat_map (λ c. map (λ f. f.0) (sets_of c)) cs
 
 set_among_by : (p r : Path) (f : File) (change : FileChange) (es : List (Path × FileChange)) → (option_and_then file_of (find_key path_cmp p es) ≡ Some f → among p (map (λ f. f.0) (sets_in es)) ≡ true) → (b : Bool) → eq_by_cmp path_cmp p r ≡ b → option_and_then file_of (cond b (Some change) (find_key path_cmp p es)) ≡ Some f → among p (map (λ f. f.0) (cons_option (option_map (λ f. (r, f)) (file_of change)) (sets_in es))) ≡ true
-set_among_by p r f (Set g) es ih true t h = or_left (eq_by_cmp path_cmp p r) (among p (map (λ f. f.0) (sets_in es))) t
+set_among_by p r f (Set g copied) es ih true t h = or_left (eq_by_cmp path_cmp p r) (among p (map (λ f. f.0) (sets_in es))) t
 set_among_by p r f Delete es ih true t h = none_some f h
-set_among_by p r f (Set g) es ih false t h = or_right (eq_by_cmp path_cmp p r) (among p (map (λ f. f.0) (sets_in es))) (ih h)
+set_among_by p r f (Set g copied) es ih false t h = or_right (eq_by_cmp path_cmp p r) (among p (map (λ f. f.0) (sets_in es))) (ih h)
 set_among_by p r f Delete es ih false t h = ih h
 
 set_among : (p : Path) (f : File) (es : List (Path × FileChange)) → option_and_then file_of (find_key path_cmp p es) ≡ Some f → among p (map (λ f. f.0) (sets_in es)) ≡ true
@@ -324,7 +333,7 @@ files_light cs =
     let d = sets_counted cs in
     omega (arith, a, b, c, d)
 
-pub files_bounded : (h : List Entry) (x : Id) → ChangesetsKeepRules h → 45 * length (files_of (known h) x) ≤ size h
+pub files_bounded : (h : List Entry) (x : Id) → ChangesetsKeepRules h → 45 * length (chain_files h x) ≤ size h
 files_bounded h x all =
     let a = files_light (changesets (chain (known h) x)) in
     let b = chain_light h x in
@@ -339,10 +348,10 @@ pub record FileRules (p : Path) (f : File) : Type 0 where
   pub with_id : is_bytes 32 f.content ≡ true
   pub small : f.size ≤ most_size
 
-rules_set : (p : Path) (f : File) → (is_path p && is_change (Set f)) ≡ true → FileRules p f
-rules_set p f h =
-    let parts = and_parts (is_path p) (is_change (Set f)) h in
-    let rules = changed_id f parts.1 in
+rules_set : (v : Version) (n : ℕ) (p : Path) (f : File) (copied : Option CopySource) → (is_path p && is_change v n (Set f copied)) ≡ true → FileRules p f
+rules_set v n p f copied h =
+    let parts = and_parts (is_path p) (is_change v n (Set f copied)) h in
+    let rules = changed_id v n f copied parts.1 in
     record {
       path = parts.0;
       named = (and_parts (nat_lt 0 (length p)) (list_all is_element p) (and_parts (nat_lt 0 (length p) && list_all is_element p) (nat_le (length (text_of p)) 4096) parts.0).0).1;
@@ -350,20 +359,20 @@ rules_set p f h =
       small = rules.0;
     }
 
-rules_by : (p r : Path) (f : File) (change : FileChange) (es : List (Path × FileChange)) → (is_path r && is_change change) ≡ true → (option_and_then file_of (find_key path_cmp p es) ≡ Some f → FileRules p f) → (b : Bool) → eq_by_cmp path_cmp p r ≡ b → option_and_then file_of (cond b (Some change) (find_key path_cmp p es)) ≡ Some f → FileRules p f
-rules_by p r f (Set g) es rule ih true t h = subst (FileRules p) (ap (λ o. option_map_or (λ x. x) o f) h) (rules_set p g (ap (λ q. is_path q && is_change (Set g)) (tied_same p r t) ∙ rule))
-rules_by p r f Delete es rule ih true t h = none_some f h
-rules_by p r f change es rule ih false t h = ih h
+rules_by : (v : Version) (n : ℕ) (p r : Path) (f : File) (change : FileChange) (es : List (Path × FileChange)) → (is_path r && is_change v n change) ≡ true → (option_and_then file_of (find_key path_cmp p es) ≡ Some f → FileRules p f) → (b : Bool) → eq_by_cmp path_cmp p r ≡ b → option_and_then file_of (cond b (Some change) (find_key path_cmp p es)) ≡ Some f → FileRules p f
+rules_by v n p r f (Set g copied) es rule ih true t h = subst (FileRules p) (ap (λ o. option_map_or (λ x. x) o f) h) (rules_set v n p g copied (ap (λ q. is_path q && is_change v n (Set g copied)) (tied_same p r t) ∙ rule))
+rules_by v n p r f Delete es rule ih true t h = none_some f h
+rules_by v n p r f change es rule ih false t h = ih h
 
-rules_in : (p : Path) (f : File) (es : List (Path × FileChange)) → list_all (λ e. is_path e.0 && is_change e.1) es ≡ true → option_and_then file_of (find_key path_cmp p es) ≡ Some f → FileRules p f
-rules_in p f [] rules h = none_some f h
-rules_in p f ((r, change) ∷ es) rules h =
-    let parts = and_parts (is_path r && is_change change) (list_all (λ e. is_path e.0 && is_change e.1) es) rules in
-    rules_by p r f change es parts.0 (rules_in p f es parts.1) (eq_by_cmp path_cmp p r) refl h
+rules_in : (v : Version) (n : ℕ) (p : Path) (f : File) (es : List (Path × FileChange)) → list_all (λ e. is_path e.0 && is_change v n e.1) es ≡ true → option_and_then file_of (find_key path_cmp p es) ≡ Some f → FileRules p f
+rules_in v n p f [] rules h = none_some f h
+rules_in v n p f ((r, change) ∷ es) rules h =
+    let parts = and_parts (is_path r && is_change v n change) (list_all (λ e. is_path e.0 && is_change v n e.1) es) rules in
+    rules_by v n p r f change es parts.0 (rules_in v n p f es parts.1) (eq_by_cmp path_cmp p r) refl h
 
 pub rules_tree : (cs : List Changeset) → AllByRecursion IsRight cs → (p : Path) (f : File) → tree cs p ≡ Some f → FileRules p f
 rules_tree [] all p f h = none_some f h
-rules_tree (c ∷ cs) all p f h = from_tree c cs p f (λ g. rules_in p f c.changes (changes_of c all.0) g) (λ g. rules_tree cs all.1 p f g) h
+rules_tree (c ∷ cs) all p f h = from_tree c cs p f (λ g. rules_in c.version (length c.parents) p f c.changes (changes_of c all.0) g) (λ g. rules_tree cs all.1 p f g) h
 
 rules_filed : (t : Path → Option File) → ((p : Path) (f : File) → t p ≡ Some f → FileRules p f) → (ps : List Path) → AllByRecursion (λ f. FileRules f.0 f.1) (filter_map (with_file t) ps)
 rules_filed t good [] = tt
@@ -384,13 +393,13 @@ sizes_bounded (f ∷ fs) all =
     let more = sum_by-cons (λ (f : Path × File). f.1.size) f fs in
     omega (arith, one, rest, more)
 
-pub total_bounded : (h : List Entry) (x : Id) → ChangesetsKeepRules h → total_size (files_of (known h) x) ≤ most_size * length (files_of (known h) x)
-total_bounded h x all = sizes_bounded (files_of (known h) x) (rules_files (changesets (chain (known h) x)) (chain_right h x all))
+pub total_bounded : (h : List Entry) (x : Id) → ChangesetsKeepRules h → total_size (chain_files h x) ≤ most_size * length (chain_files h x)
+total_bounded h x all = sizes_bounded (chain_files h x) (rules_files (changesets (chain (known h) x)) (chain_right h x all))
 
-pub files_few : (h : List Entry) (x : Id) → ChangesetsKeepRules h → size h ≤ 34_359_738_368 → length (files_of (known h) x) < 2 ^ 30
+pub files_few : (h : List Entry) (x : Id) → ChangesetsKeepRules h → size h ≤ 34_359_738_368 → length (chain_files h x) < 2 ^ 30
 files_few h x all small = let a = files_bounded h x all in omega (arith, a)
 
-pub files_counted : (h : List Entry) (x : Id) → ChangesetsKeepRules h → size h < 2 ^ 36 → AreFiles (files_of (known h) x)
+pub files_counted : (h : List Entry) (x : Id) → ChangesetsKeepRules h → size h < 2 ^ 36 → AreFiles (chain_files h x)
 files_counted h x all small =
     let cs = changesets (chain (known h) x) in
     let good = rules_files cs (chain_right h x all) in

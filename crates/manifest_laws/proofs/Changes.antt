@@ -68,7 +68,7 @@ pub undecided_kept : (cs : List Changeset) (c : Changeset) (p : Path) → decide
 undecided_kept cs c p h = one_more cs c p ∙ ap (λ b. cond b (set_at c p) (tree cs p)) h
 
 out_of_reach : (d p : Path) (q : Path) (change : FileChange) → is_prefix d p ≡ true → reaches (q, change) d ≡ false → decides_at change q p ≡ false
-out_of_reach d p q (Set f) inside h =
+out_of_reach d p q (Set f copied) inside h =
     let parts = or_parts (is_prefix q d) (is_prefix d q) h in
     false_from_ne_true (comparable q p) (λ g. or_either (is_prefix q p) (is_prefix p q)
     (λ under. true_and_false (comparable q d) (prefixes_compare d q p inside under) h)

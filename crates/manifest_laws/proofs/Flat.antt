@@ -32,7 +32,7 @@ abbrev found_file : Path → List (Path × FileChange) → Option File
 found_file p es = option_and_then file_of (find_key path_cmp p es)
 
 set_decides_by : (p q r : Path) (f : File) (change : FileChange) (es : List (Path × FileChange)) → comparable p q ≡ true → (found_file p es ≡ Some f → list_any (λ e. decides_at e.1 e.0 q) es ≡ true) → (b : Bool) → eq_by_cmp path_cmp p r ≡ b → option_and_then file_of (cond b (Some change) (find_key path_cmp p es)) ≡ Some f → (decides_at change r q || list_any (λ e. decides_at e.1 e.0 q) es) ≡ true
-set_decides_by p q r f (Set g) es near ih true t h = or_left (comparable r q) (list_any (λ e. decides_at e.1 e.0 q) es) (ap (λ x. comparable x q) (sym (tied_same p r t)) ∙ near)
+set_decides_by p q r f (Set g copied) es near ih true t h = or_left (comparable r q) (list_any (λ e. decides_at e.1 e.0 q) es) (ap (λ x. comparable x q) (sym (tied_same p r t)) ∙ near)
 set_decides_by p q r f Delete es near ih true t h = none_some f h
 set_decides_by p q r f change es near ih false t h = or_right (decides_at change r q) (list_any (λ e. decides_at e.1 e.0 q) es) (ih h)
 
@@ -48,9 +48,9 @@ abbrev pub sets_in : List (Path × FileChange) → Files
 sets_in es = filter_map (λ e. option_map (λ f. (e.0, f)) (file_of e.1)) es
 
 set_has_by : (P : Path × File → Type 0) (p r : Path) (f : File) (change : FileChange) (es : List (Path × FileChange)) → (found_file p es ≡ Some f → AllByRecursion P (sets_in es) → P (p, f)) → (b : Bool) → eq_by_cmp path_cmp p r ≡ b → option_and_then file_of (cond b (Some change) (find_key path_cmp p es)) ≡ Some f → AllByRecursion P (cons_option (option_map (λ f. (r, f)) (file_of change)) (sets_in es)) → P (p, f)
-set_has_by P p r f (Set g) es ih true t h all = subst P (λ i. (sym (tied_same p r t) i, same_some g f h i)) all.0
+set_has_by P p r f (Set g copied) es ih true t h all = subst P (λ i. (sym (tied_same p r t) i, same_some g f h i)) all.0
 set_has_by P p r f Delete es ih true t h all = none_some f h
-set_has_by P p r f (Set g) es ih false t h all = ih h all.1
+set_has_by P p r f (Set g copied) es ih false t h all = ih h all.1
 set_has_by P p r f Delete es ih false t h all = ih h all
 
 set_has : (P : Path × File → Type 0) (p : Path) (f : File) (es : List (Path × FileChange)) → found_file p es ≡ Some f → AllByRecursion P (sets_in es) → P (p, f)
@@ -144,7 +144,7 @@ above_all d p q r under other outside h =
     by g false e = prefix_trans r d q (prefix_short d r g (ltb-false (length d) (length r) e)) (strict_parts d q other).0
 
 decided_alike : (d p q r : Path) (change : FileChange) → is_strict_prefix d p ≡ true → is_strict_prefix d q ≡ true → is_strict_prefix d r ≡ false → decides_at change r q ≡ false → decides_at change r p ≡ false
-decided_alike d p q r (Set f) under other outside h =
+decided_alike d p q r (Set f copied) under other outside h =
     let parts = or_parts (is_prefix r q) (is_prefix q r) h in
     false_from_ne_true (comparable r p) (λ g. or_either (is_prefix r p) (is_prefix p r)
     (λ k. true_and_false (is_prefix r q) (above_all d p q r under other outside k) parts.0)

@@ -7,7 +7,7 @@ use Rattle.std.specs.Option.{option_or, option_and_then}
 use Rattle.std.specs.FinMap.{is_sorted, find as find_key}
 use Rattle.std.proofs.lemmas.Bool.{false_from_ne_true}
 use Rattle.changeset_model.specs.Path.{Path, path_cmp, is_strict_prefix}
-use Rattle.changeset_model.specs.Changeset.{File, FileChange, Set, Delete, Changeset, file_of, set_at}
+use Rattle.changeset_model.specs.Changeset.{File, CopySource, FileChange, Set, Delete, Changeset, file_of, set_at}
 use Rattle.history_model.specs.Tree.{decides, tree, files, file_at, is_dir}
 use Rattle.manifest_model.specs.Fsnode.{FsEntry, FsFile, FsDir, fs_dir, fsnode}
 use Rattle.manifest_model.specs.Unode.{is_renewed}
@@ -89,9 +89,9 @@ module _ (cs : List Changeset) (c : Changeset) (d : Path) (n : List ℕ) (clear 
 
   -- ---- a file is set
 
-  set_case : (made : Option FsEntry) (f : File) → find_key path_cmp at c.changes ≡ Some (Set f) → (u : Bool) → (u ≡ true → made ≡ fs_made now at) → (o : Option FsEntry) → fs_by made (Some (Set f)) u o ≡ entry_now
-  set_case made f e false right o = sym (set_entry cs c d n f (ap (option_and_then file_of) e))
-  set_case made f e true right o =
+  set_case : (made : Option FsEntry) (f : File) (copied : Option CopySource) → find_key path_cmp at c.changes ≡ Some (Set f copied) → (u : Bool) → (u ≡ true → made ≡ fs_made now at) → (o : Option FsEntry) → fs_by made (Some (Set f copied)) u o ≡ entry_now
+  set_case made f copied e false right o = sym (set_entry cs c d n f (ap (option_and_then file_of) e))
+  set_case made f copied e true right o =
       ap (λ m. option_or m (Some (FsFile f))) (right refl ∙ ap (λ b. cond b (Some (fs_dir (fsnode now at))) None) (no_dir_where_set f (ap (option_and_then file_of) e)))
       ∙ sym (set_entry cs c d n f (ap (option_and_then file_of) e))
 
@@ -156,13 +156,13 @@ module _ (cs : List Changeset) (c : Changeset) (d : Path) (n : List ℕ) (clear 
       ap (λ m. option_or m (without_dir fs_set made is_fs_file (without_file fs_set made is_fs_file (cond v None entry_before)))) (right ∙ ap (λ b. cond b (Some (fs_dir (fsnode now at))) None) dir)
       ∙ no_file_no_dir made (cond v None entry_before)
       ∙ sym (entry_of_nothing now d n (decided_none (deletes at c.changes e) (ap (option_and_then file_of) e)) dir)
-  under_by made right (Some (Set f)) e none false dir v out = absurd (cc)
+  under_by made right (Some (Set f copied)) e none false dir v out = absurd (cc)
 
   -- ---- all together
 
   told : (made : Option FsEntry) → (change : Option FileChange) → find_key path_cmp at c.changes ≡ change → (u : Bool) → IsUnder u → (u ≡ true → made ≡ fs_made now at) → (v : Bool) → is_covered c d ≡ v
       → fs_by made change u (cond v None entry_before) ≡ entry_now
-  told made (Some (Set f)) e u under right v out = set_case made f e u right (cond v None entry_before)
+  told made (Some (Set f copied)) e u under right v out = set_case made f copied e u right (cond v None entry_before)
   told made None e true under right v out = under_by made (right refl) None e refl (is_dir now at) refl v out
   told made (Some Delete) e true under right v out = under_by made (right refl) (Some Delete) e refl (is_dir now at) refl v out
   told made None e false under right true out = sym (gone (ap (option_and_then file_of) e) under out)

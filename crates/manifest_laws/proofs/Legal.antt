@@ -12,12 +12,12 @@ use Rattle.changeset_model.specs.Path.{Path, is_path}
 use Rattle.changeset_model.specs.Changeset.{File, Changeset, is_changeset}
 use Rattle.history_model.specs.History.{Entry, Known, known, is_known}
 use Rattle.history_model.specs.Chain.{first_parent, line_among, line, chain, changesets}
-use Rattle.history_model.specs.Tree.{tree, files, files_of, is_dir}
+use Rattle.history_model.specs.Tree.{tree, files, is_dir}
 use Rattle.history_model.specs.Journal.{size}
 use Rattle.manifest_model.specs.Fsnode.{fsnode, is_fsnode}
 use Rattle.manifest_model.specs.Unode.{unode, is_unode}
 use Rattle.manifest_laws.specs.Changes.{AreClear, tree_at, files_in}
-use Rattle.manifest_laws.specs.Bounds.{changesets_of, ChangesetsKeepRules}
+use Rattle.manifest_laws.specs.Bounds.{changesets_of, ChangesetsKeepRules, chain_files}
 use Rattle.manifest_laws.specs.Rules.{AreFiles}
 use Rattle.manifest_laws.proofs.Flat.{file_under, no_file_above}
 use Rattle.manifest_laws.proofs.Rules.{fsnode_kept, directory_kept, file_kept}
@@ -46,8 +46,8 @@ no_file_at cs right clear d dir = by (length d == 0) refl
 
 -- ---- of a history
 
-pub fsnodes_kept : (h : List Entry) (x : Id) (d : Path) → ChangesetsKeepRules h → size h < 2 ^ 36 → is_fsnode (fsnode (files_of (known h) x) d) ≡ true
-fsnodes_kept h x d all small = fsnode_kept (files_of (known h) x) d (files_counted h x all small)
+pub fsnodes_kept : (h : List Entry) (x : Id) (d : Path) → ChangesetsKeepRules h → size h < 2 ^ 36 → is_fsnode (fsnode (chain_files h x) d) ≡ true
+fsnodes_kept h x d all small = fsnode_kept (chain_files h x) d (files_counted h x all small)
 
 -- a known changeset has a line
 begun_by : (k : Known) (older : List Known) (x : Id) → (is_known older x ≡ true → line_among older x ≡ [] → ⊥) → (b : Bool) → bytes_eq k.id x ≡ b → (b || is_known older x) ≡ true → cond b (k ∷ option_map_or (line_among older) (first_parent k.changeset) []) (line_among older x) ≡ [] → ⊥
@@ -70,7 +70,7 @@ directory_by : (ks : List Known) (d : Path) → (ks ≡ [] → ⊥) → AreClear
 directory_by [] d some clear ids are dir none = absurd (some refl)
 directory_by (c ∷ older) d some clear ids are dir none = directory_kept c older d clear ids are dir none
 
-pub directories_kept : (h : List Entry) (x : Id) (d : Path) → ChangesetsKeepRules h → AreClear (changesets_of h) → size h < 2 ^ 36 → is_known (known h) x ≡ true → is_dir (files_of (known h) x) d ≡ true → is_unode (unode (line (known h) x) d) ≡ true
+pub directories_kept : (h : List Entry) (x : Id) (d : Path) → ChangesetsKeepRules h → AreClear (changesets_of h) → size h < 2 ^ 36 → is_known (known h) x ≡ true → is_dir (chain_files h x) d ≡ true → is_unode (unode (line (known h) x) d) ≡ true
 directories_kept h x d all clear small there dir =
     directory_by (line (known h) x) d (begun (reverse (known h)) x (known_back (known h) x ∙ there)) (line_clear h x clear) (line_ids h x) (files_counted h x all small) dir
     (no_file_at (changesets (chain (known h) x)) (chain_right h x all) (chain_clear h x clear) d dir)

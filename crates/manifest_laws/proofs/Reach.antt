@@ -72,11 +72,11 @@ under_only p r other out = false_from_ne_true (is_prefix p r) (λ g. by (is_stri
 
 -- an edit that sets a path under this one
 abbrev pub sets_under : Path → Path × FileChange → Bool
-sets_under p (q, Set f) = is_strict_prefix p q
+sets_under p (q, Set f copied) = is_strict_prefix p q
 sets_under p (q, Delete) = false
 
 undecided_at : (d : Path) (n : List ℕ) (r : Path) (change : FileChange) → eq_by_cmp path_cmp (d ++ n ∷ []) r ≡ false → covers (r, change) d ≡ false → sets_under (d ++ n ∷ []) (r, change) ≡ false → decides_at change r (d ++ n ∷ []) ≡ false
-undecided_at d n r (Set f) other out none = λ i. above_only d n r other out i || under_only (d ++ n ∷ []) r other none i
+undecided_at d n r (Set f copied) other out none = λ i. above_only d n r other out i || under_only (d ++ n ∷ []) r other none i
 undecided_at d n r Delete other out none = false_from_ne_true (path_eq r (d ++ n ∷ [])) (λ g. true_and_false (eq_by_cmp path_cmp (d ++ n ∷ []) r) (untied (d ++ n ∷ []) r (path_same r (d ++ n ∷ []) g)) other)
 
 pub undecided : (d : Path) (n : List ℕ) (es : Edits) → find_key path_cmp (d ++ n ∷ []) es ≡ None → list_any (λ e. covers e d) es ≡ false → list_any (sets_under (d ++ n ∷ [])) es ≡ false → list_any (λ e. decides_at e.1 e.0 (d ++ n ∷ [])) es ≡ false
@@ -88,7 +88,7 @@ undecided d n ((r, change) ∷ es) none out unset =
     (λ i. undecided_at d n r change first.0 outs.0 sets.0 i || undecided d n es first.1 outs.1 sets.1 i)
 
 unreached_at : (d : Path) (n : List ℕ) (r : Path) (change : FileChange) → eq_by_cmp path_cmp (d ++ n ∷ []) r ≡ false → covers (r, change) d ≡ false → is_strict_prefix (d ++ n ∷ []) r ≡ false → reaches (r, change) (d ++ n ∷ []) ≡ false
-unreached_at d n r (Set f) other out none = λ i. above_only d n r other out i || under_only (d ++ n ∷ []) r other none i
+unreached_at d n r (Set f copied) other out none = λ i. above_only d n r other out i || under_only (d ++ n ∷ []) r other none i
 unreached_at d n r Delete other out none = under_only (d ++ n ∷ []) r other none
 
 pub unreached : (d : Path) (n : List ℕ) (es : Edits) → find_key path_cmp (d ++ n ∷ []) es ≡ None → list_any (λ e. covers e d) es ≡ false → list_any (λ e. is_strict_prefix (d ++ n ∷ []) e.0) es ≡ false → list_any (λ e. reaches e (d ++ n ∷ [])) es ≡ false
@@ -102,7 +102,7 @@ unreached d n ((r, change) ∷ es) none out unset =
 -- ---- a set above
 
 covers_push_at : (d : Path) (n : List ℕ) (r : Path) (change : FileChange) → covers (r, change) d ≡ true → covers (r, change) (d ++ n ∷ []) ≡ true
-covers_push_at d n r (Set f) h = prefix_trans r d (d ++ n ∷ []) h (prefix_itself d (n ∷ []))
+covers_push_at d n r (Set f copied) h = prefix_trans r d (d ++ n ∷ []) h (prefix_itself d (n ∷ []))
 covers_push_at d n r Delete h = absurd (true≢false (sym h))
 
 pub covers_push : (d : Path) (n : List ℕ) (es : Edits) → list_any (λ e. covers e d) es ≡ true → list_any (λ e. covers e (d ++ n ∷ [])) es ≡ true
@@ -113,7 +113,7 @@ covers_push d n (e ∷ es) h =
     (λ g. or_right (covers e (d ++ n ∷ [])) (list_any (λ e. covers e (d ++ n ∷ [])) es) (covers_push d n es g)) h
 
 covers_decides_at : (p r : Path) (change : FileChange) → covers (r, change) p ≡ true → decides_at change r p ≡ true
-covers_decides_at p r (Set f) h = or_left (is_prefix r p) (is_prefix p r) h
+covers_decides_at p r (Set f copied) h = or_left (is_prefix r p) (is_prefix p r) h
 covers_decides_at p r Delete h = absurd (true≢false (sym h))
 
 pub covers_decides : (p : Path) (es : Edits) → list_any (λ e. covers e p) es ≡ true → list_any (λ e. decides_at e.1 e.0 p) es ≡ true
@@ -124,7 +124,7 @@ covers_decides p (e ∷ es) h =
     (λ g. or_right (decides_at e.1 e.0 p) (list_any (λ e. decides_at e.1 e.0 p) es) (covers_decides p es g)) h
 
 uncovered_at : (d : Path) (n : List ℕ) (r : Path) (change : FileChange) → eq_by_cmp path_cmp (d ++ n ∷ []) r ≡ false → covers (r, change) d ≡ false → covers (r, change) (d ++ n ∷ []) ≡ false
-uncovered_at d n r (Set f) other out = above_only d n r other out
+uncovered_at d n r (Set f copied) other out = above_only d n r other out
 uncovered_at d n r Delete other out = refl
 
 pub uncovered : (d : Path) (n : List ℕ) (es : Edits) → find_key path_cmp (d ++ n ∷ []) es ≡ None → list_any (λ e. covers e d) es ≡ false → list_any (λ e. covers e (d ++ n ∷ [])) es ≡ false
@@ -135,7 +135,7 @@ uncovered d n ((r, change) ∷ es) none out =
     (λ i. uncovered_at d n r change first.0 outs.0 i || uncovered d n es first.1 outs.1 i)
 
 is_delete : (change : FileChange) → ◌≡◌ {A = Option FileChange} (Some change) (Some Delete) → (r p : Path) → covers (r, change) p ≡ false
-is_delete (Set f) e r p = absurd (cc)
+is_delete (Set f copied) e r p = absurd (cc)
 is_delete Delete e r p = refl
 
 -- a deleted path isn't covered but where its directory is
@@ -159,7 +159,7 @@ path_itself [] = refl
 path_itself (k ∷ p) = λ i. name_itself k i && path_itself p i
 
 deletes_at : (p r : Path) (change : FileChange) → r ≡ p → ◌≡◌ {A = Option FileChange} (Some change) (Some Delete) → decides_at change r p ≡ true
-deletes_at p r (Set f) e g = absurd (cc)
+deletes_at p r (Set f copied) e g = absurd (cc)
 deletes_at p r Delete e g = ap (λ x. path_eq x p) e ∙ path_itself p
 
 -- ---- a set under
@@ -173,7 +173,7 @@ later_set p r change es later q f found true e = none_some f (ap (option_and_the
 later_set p r change es later q f found false e = found
 
 first_set : (p r : Path) (change : FileChange) (es : Edits) → sets_under p (r, change) ≡ true → HasSet p ((r, change) ∷ es)
-first_set p r (Set f) es h = (r, f, h, ap (λ b. option_and_then file_of (cond b (Some (Set f)) (find_key path_cmp r es))) (tied_self r))
+first_set p r (Set f copied) es h = (r, f, h, ap (λ b. option_and_then file_of (cond b (Some (Set f copied)) (find_key path_cmp r es))) (tied_self r))
 first_set p r Delete es h = absurd (true≢false (sym h))
 
 pub set_found : (p : Path) (es : Edits) → is_sorted path_cmp es ≡ true → list_any (sets_under p) es ≡ true → HasSet p es
@@ -190,7 +190,7 @@ abbrev pub HasCover : Path → Edits → Type 0
 HasCover d es = (q : Path) × (f : File) × (is_prefix q d ≡ true) × (option_and_then file_of (find_key path_cmp q es) ≡ Some f)
 
 first_cover : (d r : Path) (change : FileChange) (es : Edits) → covers (r, change) d ≡ true → HasCover d ((r, change) ∷ es)
-first_cover d r (Set f) es h = (r, f, h, ap (λ b. option_and_then file_of (cond b (Some (Set f)) (find_key path_cmp r es))) (tied_self r))
+first_cover d r (Set f copied) es h = (r, f, h, ap (λ b. option_and_then file_of (cond b (Some (Set f copied)) (find_key path_cmp r es))) (tied_self r))
 first_cover d r Delete es h = absurd (true≢false (sym h))
 
 pub cover_found : (d : Path) (es : Edits) → is_sorted path_cmp es ≡ true → list_any (λ e. covers e d) es ≡ true → HasCover d es

@@ -33,7 +33,7 @@ use Rattle.manifest_model.proofs.Derivations.{or_case as or_either}
 -- ---- which directories are there
 
 uncovered_at : (d p r : Path) (change : FileChange) → is_strict_prefix d p ≡ true → is_strict_prefix d r ≡ false → covers (r, change) d ≡ false → decides_at change r p ≡ false
-uncovered_at d p r (Set f) under outside h =
+uncovered_at d p r (Set f copied) under outside h =
     false_from_ne_true (comparable r p) (λ g. or_either (is_prefix r p) (is_prefix p r)
     (λ k. or_either (is_prefix r d) (is_prefix d r)
     (λ l. true_and_false (is_prefix r d) l h)
@@ -54,7 +54,7 @@ none_covers d p (e ∷ es) under outside h =
     (λ i. uncovered_at d p e.0 e.1 under out.0 no.0 i || none_covers d p es under out.1 no.1 i)
 
 covered_at : (d q r : Path) (change : FileChange) → is_prefix d q ≡ true → covers (r, change) d ≡ true → decides_at change r q ≡ true
-covered_at d q r (Set f) inside h = or_left (is_prefix r q) (is_prefix q r) (prefix_trans r d q h inside)
+covered_at d q r (Set f copied) inside h = or_left (is_prefix r q) (is_prefix q r) (prefix_trans r d q h inside)
 covered_at d q r Delete inside h = absurd (true≢false (sym h))
 
 some_covers : (d q : Path) (es : List (Path × FileChange)) → is_prefix d q ≡ true → list_any (λ e. covers e d) es ≡ true → list_any (λ e. decides_at e.1 e.0 q) es ≡ true

@@ -8,7 +8,7 @@ use Rattle.std.proofs.lemmas.Bool.{false_from_ne_true}
 use Rattle.sha2.specs.Sha256.{sha256}
 use Rattle.byte_fields.specs.Bytes.{Id}
 use Rattle.changeset_model.specs.Path.{Path, path_cmp, text_of, is_strict_prefix}
-use Rattle.changeset_model.specs.Changeset.{File, FileChange, Set, Delete, Changeset, file_of, set_at}
+use Rattle.changeset_model.specs.Changeset.{File, CopySource, FileChange, Set, Delete, Changeset, file_of, set_at}
 use Rattle.history_model.specs.History.{Known}
 use Rattle.history_model.specs.Chain.{changesets}
 use Rattle.history_model.specs.Tree.{decides, tree, files, is_dir}
@@ -113,9 +113,9 @@ module _ (c : Known) (older : List Known) (d : Path) (n : List ℕ) (clear : Are
 
   -- ---- a file is set
 
-  set_case : (made : Option UnodeEntry) (f : File) → find_key path_cmp at es ≡ Some (Set f) → (u : Bool) → (u ≡ true → made ≡ unode_made (c ∷ older) at)
-      → entry_by (unode_set c.id at) made is_unode_file (Some (Set f)) u entry_then ≡ entry_now
-  set_case made f e u right = by u right
+  set_case : (made : Option UnodeEntry) (f : File) (copied : Option CopySource) → find_key path_cmp at es ≡ Some (Set f copied) → (u : Bool) → (u ≡ true → made ≡ unode_made (c ∷ older) at)
+      → entry_by (unode_set c.id at) made is_unode_file (Some (Set f copied)) u entry_then ≡ entry_now
+  set_case made f copied e u right = by u right
     where
       sets : set_at c.changeset at ≡ Some f
       sets = ap (option_and_then file_of) e
@@ -132,7 +132,7 @@ module _ (c : Known) (older : List Known) (d : Path) (n : List ℕ) (clear : Are
           ∙ ap (λ node. Some (UnodeFile (unode_id node))) (sym (since_set [] c older at f f there tt sets))
           ∙ (λ i. unode_entry_for (sym there i) dir_now id_now)
 
-      by : (u : Bool) → (u ≡ true → made ≡ unode_made (c ∷ older) at) → entry_by (unode_set c.id at) made is_unode_file (Some (Set f)) u entry_then ≡ entry_now
+      by : (u : Bool) → (u ≡ true → made ≡ unode_made (c ∷ older) at) → entry_by (unode_set c.id at) made is_unode_file (Some (Set f copied)) u entry_then ≡ entry_now
       by false right = same
       by true right = ap (λ m. option_or m (Some (unode_set c.id at entry_then f))) (right refl ∙ ap (λ b. cond b (Some (UnodeDir id_now)) None) no_dir) ∙ same
 
@@ -171,7 +171,7 @@ module _ (c : Known) (older : List Known) (d : Path) (n : List ℕ) (clear : Are
       ap (λ m. option_or m (without_dir (unode_set c.id at) made is_unode_file (without_file (unode_set c.id at) made is_unode_file entry_then))) (right ∙ ap (λ b. cond b (Some (UnodeDir id_now)) None) dir)
       ∙ no_file_no_dir made entry_then
       ∙ (λ i. unode_entry_for (sym (decided_none (deletes at es e) (ap (option_and_then file_of) e)) i) (sym dir i) id_now)
-  under_by made right (Some (Set f)) e none false dir = absurd (cc)
+  under_by made right (Some (Set f copied)) e none false dir = absurd (cc)
 
   -- ---- nothing lies under it
 
@@ -223,7 +223,7 @@ module _ (c : Known) (older : List Known) (d : Path) (n : List ℕ) (clear : Are
 
   told : (made : Option UnodeEntry) (change : Option FileChange) → find_key path_cmp at es ≡ change → (u : Bool) → IsUnder u → (u ≡ true → made ≡ unode_made (c ∷ older) at)
       → entry_by (unode_set c.id at) made is_unode_file change u entry_then ≡ entry_now
-  told made (Some (Set f)) e u under right = set_case made f e u right
+  told made (Some (Set f copied)) e u under right = set_case made f copied e u right
   told made None e true under right = under_by made (right refl) None e refl dir_now refl
   told made (Some Delete) e true under right = under_by made (right refl) (Some Delete) e refl dir_now refl
   told made None e false under right = kept e under

@@ -278,7 +278,7 @@ unset c p h = by (set_at c p) refl
     by (Some f) e = true_and_false (decides c p) (set_decides c p p f e (or_left (is_prefix p p) (is_prefix p p) (prefix_self p))) (none_decides p p (prefix_self p) c.changes h)
 
 outside_of : (d : Path) (e : Path × FileChange) → reaches e d ≡ false → is_strict_prefix d e.0 ≡ false
-outside_of d (p, Set f) h = ap (λ b. b && nat_lt (length d) (length p)) (or_parts (is_prefix p d) (is_prefix d p) h).1
+outside_of d (p, Set f copied) h = ap (λ b. b && nat_lt (length d) (length p)) (or_parts (is_prefix p d) (is_prefix d p) h).1
 outside_of d (p, Delete) h = ap (λ b. b && nat_lt (length d) (length p)) h
 
 none_outside : (d : Path) (es : List (Path × FileChange)) → list_any (λ e. reaches e d) es ≡ false → list_any (λ e. is_strict_prefix d e.0) es ≡ false

@@ -7,7 +7,7 @@ use Rattle.std.specs.Cmp.Lexicographic.{slice_cmp, nat_list_cmp_total}
 use Rattle.std.specs.FinMap.{is_sorted}
 use Rattle.std.specs.FinMap.Entries.{below_all}
 use Rattle.std.specs.Int.{w8, w32, w64, to_be_bytes}
-use Rattle.std.proofs.lemmas.Bool.{and_parts, and_from, ltb-true, lt-ltb, eqb-true}
+use Rattle.std.proofs.lemmas.Bool.{le-leb, and_parts, and_from, ltb-true, lt-ltb, eqb-true}
 use Rattle.std.proofs.lemmas.List.{append-nil}
 use Rattle.byte_fields.specs.Bytes.{Id, IsBytes, sized, is_bytes}
 use Rattle.byte_fields.specs.Reading.{Reader, value, ◌>>=◌, number, with_len, keeping, exactly, as_one, any, id, times}
@@ -259,10 +259,10 @@ fsnode_read_exactly bytes n fits =
 record ParentsRead (n : ℕ) (bytes : List ℕ) (ps : List Id) (rest : List ℕ) : Type 0 where
   took : Took bytes (concat ps) rest
   len : length ps ≡ n
-  short : nat_le (length ps) 1 ≡ true
+  short : nat_le (length ps) 2 ≡ true
   good : list_all (is_bytes 32) ps ≡ true
 
-parents_by : (n : ℕ) → nat_lt n 2 ≡ true → (bytes : List ℕ) (ps : List Id) (rest : List ℕ) → IsBytes bytes → times n id bytes ≡ Ok (ps, rest) → ParentsRead n bytes ps rest
+parents_by : (n : ℕ) → nat_lt n 3 ≡ true → (bytes : List ℕ) (ps : List Id) (rest : List ℕ) → IsBytes bytes → times n id bytes ≡ Ok (ps, rest) → ParentsRead n bytes ps rest
 parents_by zero h bytes ps rest fits eq =
     let last = value_ok [] ps bytes rest eq in
     subst (λ ps. ParentsRead 0 bytes ps rest) last.0 (record { took = subst (λ r. Took bytes [] r) last.1 (took_end bytes fits); len = refl; short = refl; good = refl })
@@ -277,20 +277,34 @@ parents_by (suc zero) h bytes ps rest fits eq =
       short = refl;
       good = and_from _ _ n.good refl;
     })
-parents_by (suc (suc n)) h bytes ps rest fits eq = absurd (let lt = ltb-true (suc (suc n)) 2 h in omega arith)
+parents_by (suc (suc zero)) h bytes ps rest fits eq =
+    let s1 = bind_ok (id bytes) (λ x. times 1 id >>= λ xs. value (x ∷ xs)) (ps, rest) eq in
+    let p = s1.0.0 in
+    let n = id_ok bytes p s1.0.1 fits s1.1 in
+    let s2 = bind_ok (times 1 id s1.0.1) (λ xs. value (p ∷ xs)) (ps, rest) s1.2 in
+    let qs = s2.0.0 in
+    let r = parents_by (suc zero) refl s1.0.1 qs s2.0.1 n.took.left s2.1 in
+    let last = value_ok (p ∷ qs) ps s2.0.1 rest s2.2 in
+    subst (λ ps. ParentsRead 2 bytes ps rest) last.0 (record {
+      took = subst (λ r. Took bytes (p ++ concat qs) r) last.1 (took_then bytes p s1.0.1 (concat qs) s2.0.1 n.took r.took);
+      len = ap suc r.len;
+      short = let len = r.len in le-leb (length (p ∷ qs)) 2 (omega arith);
+      good = and_from _ _ n.good r.good;
+    })
+parents_by (suc (suc (suc n))) h bytes ps rest fits eq = absurd (let lt = ltb-true (suc (suc (suc n))) 3 h in omega arith)
 
 -- the version, and the parents behind their count
 record NodeParentsRead (bytes : List ℕ) (ps : List Id) (rest : List ℕ) : Type 0 where
   took : Took bytes (1 ∷ length ps ∷ concat ps) rest
-  short : nat_le (length ps) 1 ≡ true
+  short : nat_le (length ps) 2 ≡ true
   good : list_all (is_bytes 32) ps ≡ true
 
 node_parents_ok : (bytes : List ℕ) (ps : List Id) (rest : List ℕ) → IsBytes bytes → node_parents bytes ≡ Ok (ps, rest) → NodeParentsRead bytes ps rest
 node_parents_ok bytes ps rest fits eq =
-    let s1 = bind_ok (exactly (1 ∷ []) bytes) (λ _. number w8 (λ n. nat_lt n 2) >>= λ count. times count id) (ps, rest) eq in
+    let s1 = bind_ok (exactly (1 ∷ []) bytes) (λ _. number w8 (λ n. nat_lt n 3) >>= λ count. times count id) (ps, rest) eq in
     let t1 = exactly_ok (1 ∷ []) bytes s1.0.0 s1.0.1 fits s1.1 in
-    let s2 = bind_ok (number w8 (λ n. nat_lt n 2) s1.0.1) (λ count. times count id) (ps, rest) s1.2 in
-    let n = byte_ok (λ n. nat_lt n 2) s1.0.1 s2.0.0 s2.0.1 t1.left s2.1 in
+    let s2 = bind_ok (number w8 (λ n. nat_lt n 3) s1.0.1) (λ count. times count id) (ps, rest) s1.2 in
+    let n = byte_ok (λ n. nat_lt n 3) s1.0.1 s2.0.0 s2.0.1 t1.left s2.1 in
     let r = parents_by s2.0.0 n.keeps s2.0.1 ps rest n.took.left s2.2 in
     record {
       took = took_then bytes (1 ∷ []) s1.0.1 (length ps ∷ concat ps) rest t1 (took_then s1.0.1 (length ps ∷ []) s2.0.1 (concat ps) rest (subst (λ m. Took s1.0.1 (m ∷ []) s2.0.1) (sym r.len) n.took) r.took);

@@ -2,3 +2,5 @@ pub mod Derivations
 pub mod Links
 pub mod Nodes
 pub mod Decoded
+pub mod Merging
+pub mod Places

@@ -151,17 +151,24 @@ fsnode_is_one m n h g same = ap from_ok (sym (reads_fsnode m h) ∙ ap fsnode_of
 
 -- ---- unodes
 
-reads_node_parents : (ps : List Id) → nat_le (length ps) 1 ≡ true → list_all (is_bytes 32) ps ≡ true → Reads node_parents (1 ∷ length ps ∷ concat ps) ps
+reads_node_parents : (ps : List Id) → nat_le (length ps) 2 ≡ true → list_all (is_bytes 32) ps ≡ true → Reads node_parents (1 ∷ length ps ∷ concat ps) ps
 reads_node_parents [] short good =
-    reads_then (exactly (1 ∷ [])) (λ _. number w8 (λ n. nat_lt n 2) >>= λ count. times count id) (1 ∷ []) (0 ∷ []) (1 ∷ []) []
+    reads_then (exactly (1 ∷ [])) (λ _. number w8 (λ n. nat_lt n 3) >>= λ count. times count id) (1 ∷ []) (0 ∷ []) (1 ∷ []) []
     (reads_exactly (1 ∷ []))
-    (reads_then (number w8 (λ n. nat_lt n 2)) (λ count. times count id) (0 ∷ []) [] 0 [] (reads_number w8 (λ n. nat_lt n 2) (0 ∷ []) 0 (spelled_8 0) refl) (λ rest. refl))
+    (reads_then (number w8 (λ n. nat_lt n 3)) (λ count. times count id) (0 ∷ []) [] 0 [] (reads_number w8 (λ n. nat_lt n 3) (0 ∷ []) 0 (spelled_8 0) refl) (λ rest. refl))
 reads_node_parents (p ∷ []) short good =
-    reads_then (exactly (1 ∷ [])) (λ _. number w8 (λ n. nat_lt n 2) >>= λ count. times count id) (1 ∷ []) (1 ∷ (p ++ [])) (1 ∷ []) (p ∷ [])
+    reads_then (exactly (1 ∷ [])) (λ _. number w8 (λ n. nat_lt n 3) >>= λ count. times count id) (1 ∷ []) (1 ∷ (p ++ [])) (1 ∷ []) (p ∷ [])
     (reads_exactly (1 ∷ []))
-    (reads_then (number w8 (λ n. nat_lt n 2)) (λ count. times count id) (1 ∷ []) (p ++ []) 1 (p ∷ []) (reads_number w8 (λ n. nat_lt n 2) (1 ∷ []) 1 (spelled_8 1) refl)
+    (reads_then (number w8 (λ n. nat_lt n 3)) (λ count. times count id) (1 ∷ []) (p ++ []) 1 (p ∷ []) (reads_number w8 (λ n. nat_lt n 3) (1 ∷ []) 1 (spelled_8 1) refl)
     (reads_then id (λ x. times 0 id >>= λ xs. value (x ∷ xs)) p [] p (p ∷ []) (reads_id p (first_so (is_bytes 32 p) _ good)) (λ rest. refl)))
-reads_node_parents (p ∷ q ∷ ps) short good = let le = leb-true (length (p ∷ q ∷ ps)) 1 short in absurd (omega arith)
+reads_node_parents (p ∷ q ∷ []) short good =
+    reads_then (exactly (1 ∷ [])) (λ _. number w8 (λ n. nat_lt n 3) >>= λ count. times count id) (1 ∷ []) (2 ∷ (p ++ (q ++ []))) (1 ∷ []) (p ∷ q ∷ [])
+    (reads_exactly (1 ∷ []))
+    (reads_then (number w8 (λ n. nat_lt n 3)) (λ count. times count id) (2 ∷ []) (p ++ (q ++ [])) 2 (p ∷ q ∷ []) (reads_number w8 (λ n. nat_lt n 3) (2 ∷ []) 2 (spelled_8 2) refl)
+    (reads_then id (λ x. times 1 id >>= λ xs. value (x ∷ xs)) p (q ++ []) p (p ∷ q ∷ []) (reads_id p (first_so (is_bytes 32 p) _ good))
+    (reads_last (times 1 id) (λ xs. p ∷ xs) (q ++ []) (q ∷ [])
+    (reads_then id (λ x. times 0 id >>= λ xs. value (x ∷ xs)) q [] q (q ∷ []) (reads_id q (first_so (is_bytes 32 q) true (second_so (is_bytes 32 p) _ good))) (λ rest. refl)))))
+reads_node_parents (p ∷ q ∷ r ∷ ps) short good = let le = leb-true (length (p ∷ q ∷ r ∷ ps)) 2 short in absurd (omega arith)
 
 reads_unode_entry : (x : UnodeEntry) → is_unode_entry x ≡ true → Reads one_unode_entry (unode_entry_bytes x) x
 reads_unode_entry (UnodeFile x) h =
@@ -179,9 +186,9 @@ by_mark mark = if mark == 0x55 then manifest else file_unode
 
 reads_unode : (n : Unode) → is_unode n ≡ true → Reads (number w8 either_mark >>= by_mark) (unode_bytes n) n
 reads_unode (Manifest ps link es) h =
-    let goods = and_parts (nat_le (length ps) 1 && list_all (is_bytes 32) (link ∷ ps) && are_entries es) (list_all (λ e. is_unode_entry e.1) es) h in
-    let both = and_parts (nat_le (length ps) 1 && list_all (is_bytes 32) (link ∷ ps)) (are_entries es) goods.0 in
-    let ids = and_parts (nat_le (length ps) 1) (list_all (is_bytes 32) (link ∷ ps)) both.0 in
+    let goods = and_parts (nat_le (length ps) 2 && list_all (is_bytes 32) (link ∷ ps) && are_entries es) (list_all (λ e. is_unode_entry e.1) es) h in
+    let both = and_parts (nat_le (length ps) 2 && list_all (is_bytes 32) (link ∷ ps)) (are_entries es) goods.0 in
+    let ids = and_parts (nat_le (length ps) 2) (list_all (is_bytes 32) (link ∷ ps)) both.0 in
     let sorted = and_parts (nat_lt (length es) (2 ^ 32) && list_all (λ e. is_element e.0) es) (is_sorted (slice_cmp nat_cmp) es) both.1 in
     let names = and_parts (nat_lt (length es) (2 ^ 32)) (list_all (λ e. is_element e.0) es) sorted.0 in
     let count : List ℕ = to_be_bytes w32 (length es) in
@@ -198,7 +205,7 @@ reads_unode (Manifest ps link es) h =
     (reads_entries one_unode_entry unode_entry_bytes is_unode_entry reads_unode_entry None es names.1 goods.1 sorted.1 (none_before one_unode_entry unode_entry_bytes is_unode_entry reads_unode_entry es))
     (λ rest. refl)))))
 reads_unode (FileUnode ps content kind hash link) h =
-    let ids = and_parts (nat_le (length ps) 1) (list_all (is_bytes 32) (content ∷ hash ∷ link ∷ ps)) h in
+    let ids = and_parts (nat_le (length ps) 2) (list_all (is_bytes 32) (content ∷ hash ∷ link ∷ ps)) h in
     let after_content : list_all (is_bytes 32) (hash ∷ link ∷ ps) ≡ true = second_so (is_bytes 32 content) _ ids.1 in
     let after_hash : list_all (is_bytes 32) (link ∷ ps) ≡ true = second_so (is_bytes 32 hash) _ after_content in
     reads_then (number w8 either_mark) by_mark (0x56 ∷ []) (1 ∷ length ps ∷ (concat ps ++ (content ++ (kind_byte kind ∷ (hash ++ (link ++ [])))))) 0x56 (FileUnode ps content kind hash link)

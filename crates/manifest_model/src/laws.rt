@@ -1,15 +1,20 @@
 //! Laws of manifests, each the contract of a function that does nothing.
-ghost use Rattle.std.specs.Prelude.{◌≡◌, ◌↔◌, ℕ, true, cond, None, Some, Ok, List, [], ◌∷◌, reverse, find, option_map, is_some};
+ghost use Rattle.std.specs.Prelude.{◌≡◌, ◌↔◌, ℕ, true, cond, None, Some, Ok, Err, List, [], ◌∷◌, reverse, find, option_map, is_some};
 ghost use Rattle.byte_fields.specs.Bytes.{IsBytes};
+ghost use Rattle.byte_fields.specs.Places.{NamesPlace};
 ghost use Rattle.changeset_model.specs.Path.{Path, text_of};
 ghost use Rattle.changeset_model.specs.Changeset.{File, set_at};
-ghost use Rattle.history_model.specs.Chain.{changesets};
+ghost use Rattle.byte_fields.specs.Bytes.{Id};
+ghost use Rattle.history_model.specs.Chain.{line, changesets};
+ghost use Rattle.history_model.specs.Past.{past_on, HaveOneParent};
+ghost use Rattle.manifest_model.specs.Merged.{unode_at};
+ghost use Rattle.manifest_model.specs.Manifests.{manifests_on, manifests_of};
 ghost use Rattle.history_model.specs.Tree.{tree};
 ghost use Rattle.history_model.specs.History.{Known};
 ghost use Rattle.sha2.specs.Sha256.{sha256};
 ghost use Rattle.manifest_model.specs.Unode.{Unode, FileUnode, linknode_of, is_unode, unode, unode_bytes, unode_id};
 ghost use Rattle.manifest_model.specs.Fsnode.{Fsnode, is_fsnode, fsnode_bytes};
-ghost use Rattle.manifest_model.specs.NodeReading.{fsnode_of, unode_of};
+ghost use Rattle.manifest_model.specs.NodeReading.{fsnode_fields, fsnode_of, unode_fields, unode_of, deleted_fields, deleted_of};
 
 /// The spelling of an fsnode is read as it, and no two fsnodes have one spelling.
 pub fn fsnode_spelling_is_of_one()
@@ -40,4 +45,17 @@ pub fn unode_is_of_its_setter()
     ensures kept { (c : Known) (older : List Known) (p : Path) (f : File) → tree (changesets (reverse (c ∷ older))) p ≡ Some f → set_at c.changeset p ≡ None → unode (c ∷ older) p ≡ unode older p }
     ensures made { (c : Known) (older : List Known) (p : Path) (f g : File) → tree (changesets (reverse (c ∷ older))) p ≡ Some f → set_at c.changeset p ≡ Some g →
         unode (c ∷ older) p ≡ FileUnode (cond (is_some (tree (changesets (reverse older)) p)) (unode_id (unode older p) ∷ []) []) f.content f.kind (sha256 (text_of p)) c.id }
+{}
+
+/// Where no known changeset has two parents, the manifests of each are those of its line; the unodes of a line are what they are without merges.
+pub fn manifests_without_merges()
+    ensures unodes { (ks : List Known) (p : Path) → unode_at (past_on ks) p ≡ unode ks p }
+    ensures manifests { (ks : List Known) (x : Id) → HaveOneParent ks → manifests_of ks x ≡ manifests_on x (line ks x) }
+{}
+
+/// The place of a fault in a node's bytes is that of the first field that is cut off or breaks its rule, behind whole fields that keep their rules, or that of bytes that follow all fields. A summary is one field, and so is a link that a flag tells of.
+pub fn a_node_fault_is_at_its_field()
+    ensures fsnode { (bytes : List ℕ) (at : ℕ) → fsnode_of bytes ≡ Err at → NamesPlace 0 fsnode_fields bytes at }
+    ensures unode { (bytes : List ℕ) (at : ℕ) → unode_of bytes ≡ Err at → NamesPlace 0 unode_fields bytes at }
+    ensures deleted { (bytes : List ℕ) (at : ℕ) → deleted_of bytes ≡ Err at → NamesPlace 1 deleted_fields bytes at }
 {}

@@ -6,7 +6,7 @@ use Rattle.std.proofs.lemmas.Slice.Eq.{bytes_eq-Decides}
 use Rattle.byte_fields.specs.Bytes.{Id}
 use Rattle.history_model.specs.History.{Entry, Known, known, is_known}
 use Rattle.history_model.specs.Chain.{line}
-use Rattle.history_model.specs.Tree.{files_of}
+use Rattle.history_model.specs.Past.{HaveOneParent}
 use Rattle.history_model.specs.Journal.{Header}
 use Rattle.manifest_model.specs.Fsnode.{fsnode, fsnode_id}
 use Rattle.manifest_model.specs.Unode.{unode, unode_id}
@@ -19,6 +19,7 @@ use Rattle.changeset_store.specs.Store.{number_in, known_at}
 use Rattle.derive_step.specs.Jobs.{roots_on}
 use Rattle.manifest_store.specs.Lines.{line_at}
 use Rattle.manifest_store.proofs.Lines.{known_here}
+use Rattle.manifest_store.proofs.Histories.{files_on_line, unode_on_line}
 
 stands_at : (ks : List Known) (n : ℕ) → get_or ks n (known_at [] 0) ≡ known_at ks n
 stands_at [] n = refl
@@ -39,13 +40,13 @@ on_line : (l : List Known) (roots : Roots) → Some roots ≡ roots_on l → (ro
 on_line [] roots e = absurd cc
 on_line (c ∷ older) roots e = let same = same_some roots _ e in (ap (λ r. r.fsnode) same, ap (λ r. r.unode) same)
 
-pub answered : (header : Header) (h : List Entry) (x : Id) (n : ℕ) (roots : Roots) → number_in (known h) x ≡ Some n → Some roots ≡ roots_on (line_at (known h) n) → Answers header h (Derives x) (after.Roots roots.fsnode roots.unode) nothing
-answered header h x n roots e is =
+pub answered : (header : Header) (h : List Entry) (x : Id) (n : ℕ) (roots : Roots) → HaveOneParent (known h) → number_in (known h) x ≡ Some n → Some roots ≡ roots_on (line_at (known h) n) → Answers header h (Derives x) (after.Roots roots.fsnode roots.unode) nothing
+answered header h x n roots one e is =
     let ks = known h in
     let number = number_of ks x n e in
     let told = on_line (line_at ks n) roots is in (
       refl,
       ap (is_known ks) (sym number.id) ∙ known_here ks n number.in_range,
-      told.0 ∙ ap (λ y. fsnode_id (fsnode (files_of ks y) [])) number.id,
-      told.1 ∙ ap (λ y. unode_id (unode (line ks y) [])) number.id,
+      told.0 ∙ ap (λ y. fsnode_id (fsnode (files_in (line ks y)) [])) number.id ∙ ap (λ fs. fsnode_id (fsnode fs [])) (sym (files_on_line ks x one)),
+      told.1 ∙ ap (λ y. unode_id (unode (line ks y) [])) number.id ∙ ap unode_id (sym (unode_on_line ks x one [])),
     )

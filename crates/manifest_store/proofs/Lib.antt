@@ -1,5 +1,6 @@
 pub mod Finding
 pub mod Lines
+pub mod Histories
 pub mod Held
 pub mod Gathered
 pub mod Settled

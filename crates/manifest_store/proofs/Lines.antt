@@ -41,7 +41,7 @@ pub apart_of : (ks : List Known) → AreOnce ks → AreApart ks
 apart_of [] u = tt
 apart_of (k ∷ ks) u = (false_from_ne_true (is_known ks k.id) u.0, apart_of ks u.1)
 
-apart_back : (ks : List Known) → IsStore ks → AreApart (reverse ks)
+pub apart_back : (ks : List Known) → IsStore ks → AreApart (reverse ks)
 apart_back ks s = apart_of (reverse ks) (subst (λ js. AreOnce (reverse js)) (known_story ks s.ids s.once) (known_once (story ks)))
 
 abbrev links : List Known → List (Option ℕ)

@@ -10,11 +10,12 @@ use Rattle.changeset_model.specs.Path.{Path}
 use Rattle.changeset_model.specs.Changeset.{File, set_at}
 use Rattle.history_model.specs.History.{Known, is_known}
 use Rattle.history_model.specs.Chain.{changesets, first_parent, line_among, line}
+use Rattle.history_model.specs.Past.{HaveOneParent}
 use Rattle.history_model.specs.Tree.{files_of, is_file, is_dir}
 use Rattle.manifest_model.specs.Fsnode.{fsnode, fsnode_bytes}
 use Rattle.manifest_model.specs.Unode.{Unode, UnodeEntry, UnodeFile, UnodeDir, linknode_of, unode, unode_bytes, unode_id}
 use Rattle.manifest_model.specs.NodeReading.{unode_of}
-use Rattle.manifest_model.specs.FileHistory.{file_history}
+use Rattle.manifest_model.specs.Merged.{history_of}
 use Rattle.manifest_model.proofs.Links.{file_at-files, unode_made, was_there, tree_on-cons}
 use Rattle.manifest_model.proofs.Nodes.{unode_is_read}
 use Rattle.manifest_laws.specs.Changes.{tree_at, files_in}
@@ -35,7 +36,8 @@ use Rattle.manifest_store.specs.Lines.{line_at}
 use Rattle.manifest_store.specs.Manifests.{AreManifests, HoldsAll}
 use Rattle.manifest_store.specs.Nodes.{entry_id, file_under, fs_entry_under, unode_entry_under, walk}
 use Rattle.manifest_store.specs.Reads.{fsnode_by, unode_by, history_by, fsnode_at, unode_at, history_at}
-use Rattle.manifest_store.proofs.Lines.{known_here, line_step, parent_in}
+use Rattle.manifest_store.proofs.Lines.{known_here, apart_back, line_step, parent_in}
+use Rattle.manifest_store.proofs.Histories.{files_on_line, unode_on_line, history_on_line}
 use Rattle.manifest_store.proofs.Held.{fs_node, un_node, fs_place, un_place, fs_walked, un_walked}
 
 -- ---- what an entry tells
@@ -61,24 +63,33 @@ module _ (x : Id) (leaf : File → Id) where
 
 -- ---- what is read of a known changeset
 
-module _ (ks : List Known) (x : Id) (there : is_known ks x ≡ true) (p : Path) where
-  abbrev fs_by : Bool → Bool → Bool → Result (List ℕ) Absent
-  fs_by k f d = (refuse_if (not k) (AbsentChangeset x) >>= (λ _. refuse_if (not (f || d)) NoPath)) >>= (λ _. refuse_if f NotADir >>= (λ _. Ok (fsnode_bytes (fsnode (files_of ks x) p))))
+module _ (ks : List Known) (x : Id) (one : HaveOneParent ks) (there : is_known ks x ≡ true) (p : Path) where
+  abbrev fs_by : Bool → Bool → Bool → List (Path × File) → Result (List ℕ) Absent
+  fs_by k f d files = (refuse_if (not k) (AbsentChangeset x) >>= (λ _. refuse_if (not (f || d)) NoPath)) >>= (λ _. refuse_if f NotADir >>= (λ _. Ok (fsnode_bytes (fsnode files p))))
 
-  abbrev un_by : Bool → Bool → Bool → Result (List ℕ) Absent
-  un_by k f d = (refuse_if (not k) (AbsentChangeset x) >>= (λ _. refuse_if (not (f || d)) NoPath)) >>= (λ _. Ok (unode_bytes (unode (line ks x) p)))
+  abbrev un_by : Bool → Bool → Bool → Unode → Result (List ℕ) Absent
+  un_by k f d n = (refuse_if (not k) (AbsentChangeset x) >>= (λ _. refuse_if (not (f || d)) NoPath)) >>= (λ _. Ok (unode_bytes n))
 
-  abbrev past_by : Bool → Bool → Bool → Result (List Id) Absent
-  past_by k f d = (refuse_if (not k) (AbsentChangeset x) >>= (λ _. refuse_if (not (f || d)) NoPath)) >>= (λ _. refuse_if d NotAFile >>= (λ _. Ok (file_history (line ks x) p)))
+  abbrev past_by : Bool → Bool → Bool → List Id → Result (List Id) Absent
+  past_by k f d ids = (refuse_if (not k) (AbsentChangeset x) >>= (λ _. refuse_if (not (f || d)) NoPath)) >>= (λ _. refuse_if d NotAFile >>= (λ _. Ok ids))
 
-  fs_as : (f d : Bool) → is_file (files_of ks x) p ≡ f → is_dir (files_of ks x) p ≡ d → fsnode_by ks x p ≡ fs_by true f d
-  fs_as f d ef ed = λ i. fs_by (there i) (ef i) (ed i)
+  abbrev known_line : List Known
+  known_line = line ks x
 
-  un_as : (f d : Bool) → is_file (files_of ks x) p ≡ f → is_dir (files_of ks x) p ≡ d → unode_by ks x p ≡ un_by true f d
-  un_as f d ef ed = λ i. un_by (there i) (ef i) (ed i)
+  same_file : (f : Bool) → is_file (files_in known_line) p ≡ f → is_file (files_of ks x) p ≡ f
+  same_file f e = ap (λ files. is_file files p) (files_on_line ks x one) ∙ e
 
-  past_as : (f d : Bool) → is_file (files_of ks x) p ≡ f → is_dir (files_of ks x) p ≡ d → history_by ks x p ≡ past_by true f d
-  past_as f d ef ed = λ i. past_by (there i) (ef i) (ed i)
+  same_dir : (d : Bool) → is_dir (files_in known_line) p ≡ d → is_dir (files_of ks x) p ≡ d
+  same_dir d e = ap (λ files. is_dir files p) (files_on_line ks x one) ∙ e
+
+  fs_as : (f d : Bool) → is_file (files_in known_line) p ≡ f → is_dir (files_in known_line) p ≡ d → fsnode_by ks x p ≡ fs_by true f d (files_in known_line)
+  fs_as f d ef ed = λ i. fs_by (there i) (same_file f ef i) (same_dir d ed i) (files_on_line ks x one i)
+
+  un_as : (f d : Bool) → is_file (files_in known_line) p ≡ f → is_dir (files_in known_line) p ≡ d → unode_by ks x p ≡ un_by true f d (unode known_line p)
+  un_as f d ef ed = λ i. un_by (there i) (same_file f ef i) (same_dir d ed i) (unode_on_line ks x one p i)
+
+  past_as : (f d : Bool) → is_file (files_in known_line) p ≡ f → is_dir (files_in known_line) p ≡ d → history_by ks x p ≡ past_by true f d (history_of ks x p)
+  past_as f d ef ed = λ i. past_by (there i) (same_file f ef i) (same_dir d ed i) (history_of ks x p)
 
 -- ---- of a line whose nodes are held
 
@@ -190,17 +201,17 @@ module _ (ks : List Known) (t : Table) (a : AreManifests ks t) where
     pub fs_read : (id : Id) (bytes : List ℕ) → Some (UnodeDir id) ≡ walk (fs_entry_under t.nodes) (UnodeDir r.fsnode) p → map.get t.nodes id ≡ Some bytes → fsnode_at ks n p ≡ Ok bytes
     fs_read id bytes e got =
         let d = dir_told (fs_node l p) (λ f. f.content) (is_dir (files_in l) p) (tree_at l p) id (e ∙ fs_told) in
-        fs_as ks (known_at ks n).id known_one p false true (no_file d.0) d.0 ∙ ap (λ b. Ok b) (same_some _ bytes (sym (fs_dir id e) ∙ got))
+        fs_as ks (known_at ks n).id a.store.one_parent known_one p false true (no_file d.0) d.0 ∙ ap (λ b. Ok b) (same_some _ bytes (sym (fs_dir id e) ∙ got))
 
     pub fs_file : (id : Id) → Some (UnodeFile id) ≡ walk (fs_entry_under t.nodes) (UnodeDir r.fsnode) p → fsnode_at ks n p ≡ Err NotADir
     fs_file id e =
         let d = file_told (fs_node l p) (λ f. f.content) (is_dir (files_in l) p) (tree_at l p) id (e ∙ fs_told) in
-        fs_as ks (known_at ks n).id known_one p true false (file_is l p (Some d.1) d.2) d.0
+        fs_as ks (known_at ks n).id a.store.one_parent known_one p true false (file_is l p (Some d.1) d.2) d.0
 
     pub fs_none : None ≡ walk (fs_entry_under t.nodes) (UnodeDir r.fsnode) p → fsnode_at ks n p ≡ Err NoPath
     fs_none e =
         let d = none_told (fs_node l p) (λ f. f.content) (is_dir (files_in l) p) (tree_at l p) (e ∙ fs_told) in
-        fs_as ks (known_at ks n).id known_one p false false (file_is l p None d.1) d.0
+        fs_as ks (known_at ks n).id a.store.one_parent known_one p false false (file_is l p None d.1) d.0
 
     -- ---- unodes
 
@@ -211,10 +222,10 @@ module _ (ks : List Known) (t : Table) (a : AreManifests ks t) where
     un_there : (id : Id) (file : Bool) → Some (cond file (UnodeFile id) (UnodeDir id)) ≡ walk (unode_entry_under t.nodes) (UnodeDir r.unode) p → unode_at ks n p ≡ Ok (unode_bytes (unode l p))
     un_there id true e =
         let d = file_told (un_node l p) (λ f. un_node l p) (is_dir (files_in l) p) (tree_at l p) id (e ∙ un_told) in
-        un_as ks (known_at ks n).id known_one p true false (file_is l p (Some d.1) d.2) d.0
+        un_as ks (known_at ks n).id a.store.one_parent known_one p true false (file_is l p (Some d.1) d.2) d.0
     un_there id false e =
         let d = dir_told (un_node l p) (λ f. un_node l p) (is_dir (files_in l) p) (tree_at l p) id (e ∙ un_told) in
-        un_as ks (known_at ks n).id known_one p false true (no_file d.0) d.0
+        un_as ks (known_at ks n).id a.store.one_parent known_one p false true (no_file d.0) d.0
 
     pub un_read : (id : Id) (file : Bool) (bytes : List ℕ) → Some (cond file (UnodeFile id) (UnodeDir id)) ≡ walk (unode_entry_under t.nodes) (UnodeDir r.unode) p → map.get t.nodes id ≡ Some bytes → unode_at ks n p ≡ Ok bytes
     un_read id file bytes e got = un_there id file e ∙ ap (λ b. Ok b) (same_some _ bytes (sym (un_got id file e) ∙ got))
@@ -222,7 +233,7 @@ module _ (ks : List Known) (t : Table) (a : AreManifests ks t) where
     pub un_none : None ≡ walk (unode_entry_under t.nodes) (UnodeDir r.unode) p → unode_at ks n p ≡ Err NoPath
     un_none e =
         let d = none_told (un_node l p) (λ f. un_node l p) (is_dir (files_in l) p) (tree_at l p) (e ∙ un_told) in
-        un_as ks (known_at ks n).id known_one p false false (file_is l p None d.1) d.0
+        un_as ks (known_at ks n).id a.store.one_parent known_one p false false (file_is l p None d.1) d.0
 
     -- by whatever entry is there
     pub entry_got : (entry : UnodeEntry) (id : Id) → id ≡ entry_id entry → Some entry ≡ walk (unode_entry_under t.nodes) (UnodeDir r.unode) p → map.get t.nodes id ≡ Some (unode_bytes (unode l p))
@@ -255,14 +266,15 @@ module _ (ks : List Known) (t : Table) (a : AreManifests ks t) where
 
       pub past_read : (ids : List Id) → ids ≡ map linknode_of (file_unodes l p) → history_at ks n p ≡ Ok ids
       past_read ids is =
-          past_as ks (known_at ks n).id known_one p true false (file_is l p (Some found.1) found.2) found.0 ∙ ap (λ x. Ok x) (sym (file_links l p found.1 found.2) ∙ sym is)
+          past_as ks (known_at ks n).id a.store.one_parent known_one p true false (file_is l p (Some found.1) found.2) found.0
+          ∙ ap (λ ids. Ok ids) (history_on_line ks (known_at ks n).id p found.1 a.store.one_parent (apart_back ks a.store) found.2 ∙ sym (file_links l p found.1 found.2) ∙ sym is)
 
     pub past_dir : (id : Id) → Some (UnodeDir id) ≡ walk (unode_entry_under t.nodes) (UnodeDir r.unode) p → history_at ks n p ≡ Err NotAFile
     past_dir id e =
         let d = dir_told (un_node l p) (λ f. un_node l p) (is_dir (files_in l) p) (tree_at l p) id (e ∙ un_told) in
-        past_as ks (known_at ks n).id known_one p false true (no_file d.0) d.0
+        past_as ks (known_at ks n).id a.store.one_parent known_one p false true (no_file d.0) d.0
 
     pub past_none : None ≡ walk (unode_entry_under t.nodes) (UnodeDir r.unode) p → history_at ks n p ≡ Err NoPath
     past_none e =
         let d = none_told (un_node l p) (λ f. un_node l p) (is_dir (files_in l) p) (tree_at l p) (e ∙ un_told) in
-        past_as ks (known_at ks n).id known_one p false false (file_is l p None d.1) d.0
+        past_as ks (known_at ks n).id a.store.one_parent known_one p false false (file_is l p None d.1) d.0

@@ -17,6 +17,7 @@ use Rattle.byte_fields.specs.Bytes.{Id}
 use Rattle.history_model.specs.History.{Known}
 use Rattle.manifest_model.specs.Manifests.{manifests_on, nodes_in}
 use Rattle.manifest_model.proofs.Derivations.{or_case as or_either}
+use Rattle.manifest_model.proofs.Merging.{manifests_of-line}
 use Rattle.reply_model.specs.After.{IsNode}
 use Rattle.node_table.specs.declared.fault.TableFault.{TableFault}
 use Rattle.node_table.specs.declared.fault.TableFault.TheVariants as faults
@@ -85,8 +86,10 @@ node_of [] x bytes h = absurd (none h)
     none h = contains_has [] _ h
 node_of (c ∷ older) x bytes h = h
 
-is_node : (ks : List Known) (n : ℕ) (bytes : List ℕ) → n < length ks → Contains (all_nodes_on (line_at ks n)) bytes → IsNode ks bytes
-is_node ks n bytes less h = ((known_at ks n).id, known_here ks n less, node_of (line_at ks n) (known_at ks n).id bytes h)
+is_node : (ks : List Known) (n : ℕ) (bytes : List ℕ) → IsStore ks → n < length ks → Contains (all_nodes_on (line_at ks n)) bytes → IsNode ks bytes
+is_node ks n bytes store less h =
+    let x = (known_at ks n).id in
+    (x, known_here ks n less, subst (λ m. Contains (nodes_in m) bytes) (sym (manifests_of-line ks x store.one_parent)) (node_of (line_at ks n) x bytes h))
 
 -- what the derivation says, whatever the line is
 record Tells (l rest : List Known) (done : Done) : Type 0 where
@@ -196,8 +199,8 @@ module _ (ks : List Known) (t : Table) (a : AreManifests ks t) (done : Done) (le
   collided_beside faults.Memory h = tt
 
   among_nodes : (bytes : List ℕ) → IsAmong t.nodes ns bytes → IsNode ks bytes
-  among_nodes bytes (inl h) = let of = a.alone bytes h in is_node ks of.0 bytes (a.numbered of.0 of.1) of.2
-  among_nodes bytes (inr c) = is_node ks n bytes less (all_has (Contains (all_nodes_on (line_at ks n))) ns bytes told.right (contains_has ns bytes c))
+  among_nodes bytes (inl h) = let of = a.alone bytes h in is_node ks of.0 bytes a.store (a.numbered of.0 of.1) of.2
+  among_nodes bytes (inr c) = is_node ks n bytes a.store less (all_has (Contains (all_nodes_on (line_at ks n))) ns bytes told.right (contains_has ns bytes c))
 
   pub collided : (fault : TableFault) → OfTwo fault t.nodes ns → IsCollision ks fault
   collided (faults.Collision id) h = (h.0, h.1, among_nodes h.0 h.3, among_nodes h.1 h.4, h.2, h.5, h.6)

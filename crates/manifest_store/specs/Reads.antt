@@ -7,11 +7,11 @@ use Rattle.std.specs.Borrow.{Bor}
 use Rattle.byte_fields.specs.Bytes.{Id}
 use Rattle.changeset_model.specs.Path.{Path}
 use Rattle.history_model.specs.History.{Known}
-use Rattle.history_model.specs.Chain.{line}
+use Rattle.history_model.specs.Past.{past}
 use Rattle.history_model.specs.Tree.{files_of, is_file, is_dir}
 use Rattle.manifest_model.specs.Fsnode.{fsnode, fsnode_bytes}
-use Rattle.manifest_model.specs.Unode.{unode, unode_bytes}
-use Rattle.manifest_model.specs.FileHistory.{file_history}
+use Rattle.manifest_model.specs.Unode.{unode_bytes}
+use Rattle.manifest_model.specs.Merged.{unode_at as unode_of_past, history_of}
 use Rattle.reply_model.specs.Reply.{Absent, NoPath, NotADir, NotAFile, present, refuse_if, ◌>>=◌}
 use Rattle.changeset_store.specs.Store.{known_at}
 use Rattle.manifest_store.specs.declared.fault.ManifestFault.{ManifestFault}
@@ -32,13 +32,13 @@ fsnode_by ks x d = do
 abbrev pub unode_by : List Known → Id → Path → Result (List ℕ) Absent
 unode_by ks x p = do
   _ ← present ks x p
-  Ok (unode_bytes (unode (line ks x) p))
+  Ok (unode_bytes (unode_of_past (past ks x) p))
 
 abbrev pub history_by : List Known → Id → Path → Result (List Id) Absent
 history_by ks x p = do
   _ ← present ks x p
   _ ← refuse_if (is_dir (files_of ks x) p) NotAFile
-  Ok (file_history (line ks x) p)
+  Ok (history_of ks x p)
 
 abbrev pub fsnode_at : List Known → ℕ → Path → Result (List ℕ) Absent
 fsnode_at ks n d = fsnode_by ks (known_at ks n).id d

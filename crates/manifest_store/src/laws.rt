@@ -3,6 +3,7 @@ ghost use Rattle.std.specs.Prelude.{◌≡◌, ◌<◌, ◌++◌, ℕ, List, len
 ghost use Rattle.byte_fields.specs.Bytes.{Id};
 ghost use Rattle.changeset_model.specs.Path.{Path};
 ghost use Rattle.history_model.specs.History.{Entry, Known, known};
+ghost use Rattle.history_model.specs.Past.{HaveOneParent};
 ghost use Rattle.history_model.specs.Journal.{Header};
 ghost use Rattle.reply_model.specs.After.{Answers, Derives, nothing};
 ghost use Rattle.reply_model.specs.After as after;
@@ -31,7 +32,7 @@ pub fn what_is_read_is_what_is_seen()
     ensures no_history { (h : List Entry) (x : Id) (p : Path) (absent : Absent) → history_by (known h) x p ≡ Err absent → seen_history h x p ≡ Err absent }
 {}
 
-/// The root nodes of a changeset that a history makes known answer the request to derive its manifests.
+/// Where no known changeset has two parents, the root nodes of one answer the request to derive its manifests.
 pub fn roots_are_what_is_answered()
-    ensures { (header : Header) (h : List Entry) (x : Id) (n : ℕ) (roots : Roots) → number_in (known h) x ≡ Some n → Some roots ≡ roots_on (line_at (known h) n) → Answers header h (Derives x) (after.Roots roots.fsnode roots.unode) nothing }
+    ensures { (header : Header) (h : List Entry) (x : Id) (n : ℕ) (roots : Roots) → HaveOneParent (known h) → number_in (known h) x ≡ Some n → Some roots ≡ roots_on (line_at (known h) n) → Answers header h (Derives x) (after.Roots roots.fsnode roots.unode) nothing }
 {}

@@ -1,6 +1,6 @@
 //! Where the faults of bad nodes are.
 use crate::bytes::{changed, last_start, of_hex};
-use crate::nodes::{DIRECTORY, FILE, FILE_WITH_PARENT, MANIFEST, ROOT, TWO_DOTS};
+use crate::nodes::{DIRECTORY, FILE, FILE_WITH_PARENT, MANIFEST, MERGED_FILE, ROOT, TWO_DOTS};
 use node_fields::NodeFault;
 use std::alloc::Global;
 
@@ -14,6 +14,8 @@ const ROOT_FIELDS: [usize; 15] = [
 const FILE_FIELDS: [usize; 7] = [0, 1, 2, 3, 35, 36, 68];
 
 const FILE_WITH_PARENT_FIELDS: [usize; 8] = [0, 1, 2, 3, 35, 67, 68, 100];
+
+const MERGED_FILE_FIELDS: [usize; 9] = [0, 1, 2, 3, 35, 67, 99, 100, 132];
 
 const MANIFEST_FIELDS: [usize; 14] = [0, 1, 2, 3, 35, 67, 71, 72, 73, 74, 106, 107, 108, 109];
 
@@ -39,7 +41,7 @@ const IN_ROOT: [(usize, u8, usize); 2] = [(47, b'b', 122), (47, b'c', 122)];
 const IN_MANIFEST: [(usize, u8, usize); 12] = [
     (0, 0x54, 0),
     (1, 2, 1),
-    (2, 2, 2),
+    (2, 3, 2),
     (70, 3, 141),
     (70, 1, 106),
     (71, 0, 71),
@@ -54,7 +56,7 @@ const IN_MANIFEST: [(usize, u8, usize); 12] = [
 const IN_FILE_WITH_PARENT: [(usize, u8, usize); 4] = [
     (0, 0x57, 0),
     (1, 0, 1),
-    (2, 2, 2),
+    (2, 3, 2),
     (67, 3, 67),
 ];
 
@@ -125,6 +127,10 @@ fn fronts(rt: HostRuntime) {
     assert_eq!(rt; wrong_front(alloc, unode, FILE, &FILE_FIELDS), None);
     assert_eq!(rt;
         wrong_front(alloc, unode, FILE_WITH_PARENT, &FILE_WITH_PARENT_FIELDS),
+        None
+    );
+    assert_eq!(rt;
+        wrong_front(alloc, unode, MERGED_FILE, &MERGED_FILE_FIELDS),
         None
     );
     assert_eq!(rt; wrong_front(alloc, unode, MANIFEST, &MANIFEST_FIELDS), None);

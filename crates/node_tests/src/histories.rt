@@ -5,7 +5,7 @@ ghost use Rattle.unode.specs.Parts.{file_seen};
 use bonsai::FileKind;
 use object_id::Id;
 use std::test::Fail;
-use unode::{FileUnode, Nodes, file_history};
+use unode::{FileUnode, Nodes, Parents, file_history};
 
 // Under each id whose first byte is 2 stands the newest unode of a file, and under all others the oldest.
 #[derive(Drop)]
@@ -31,14 +31,14 @@ fn two_unodes(rt: HostRuntime) -> Result<(), Fail> {
     let (content, path_hash) = (Id::of(b"abc"), Id::of(b"p"));
     let kind = FileKind::Regular;
     let oldest = FileUnode {
-        parent: None,
+        parents: Parents::Absent,
         content,
         kind,
         path_hash,
         linknode: Id::of(b"old"),
     };
     let newest = FileUnode {
-        parent: Some(Id::from_bytes([1; 32])),
+        parents: Parents::One(Id::from_bytes([1; 32])),
         content,
         kind,
         path_hash,

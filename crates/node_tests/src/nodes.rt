@@ -25,3 +25,7 @@ pub(crate) const FILE_WITH_PARENT: &str =
 /// file `FILE`.
 pub(crate) const MANIFEST: &str =
     "550101e47125968b3b71049fbc4802d1e40a71ea1359decfabacf70b34588037d4ff0cb1b1bdb480c61d075300d9bff7d9cb69cf31695ea048e478facadf426e8d0fb000000002016101844bc172f032bdd2d0baae3536c1d66c2dcba8481b1b6d8fc11fa3c5de29c6cb016200336fd5baef5f6dde627623820dcbebc6fc22a377fe1f33c486171e28866395ba";
+
+/// The unode of the executable file `p` in a merge, over the unodes whose ids are the SHA-256 of `parent` and of `other`.
+pub(crate) const MERGED_FILE: &str =
+    "560102e47125968b3b71049fbc4802d1e40a71ea1359decfabacf70b34588037d4ff0cd9298a10d1b0735837dc4bd85dac641b0f3cef27a47e5d53a54f2f3f5b2fcffaba7816bf8f01cfea414140de5dae2223b00361a396177a9cb410ff61f20015ad01148de9c5a7a44d19e56cd9ae1a554bf67847afb0c58f6e12fa29ac7ddfca9940b1b1bdb480c61d075300d9bff7d9cb69cf31695ea048e478facadf426e8d0fb0";

@@ -5,3 +5,6 @@ pub mod Sizes
 pub mod Rules
 pub mod Payloads
 pub mod Opening
+pub mod Pieces
+pub mod Held
+pub mod Callers

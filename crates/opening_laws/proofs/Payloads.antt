@@ -1,35 +1,38 @@
 -- A payload of an entry that may come next is read as this entry.
-use Rattle.std.proofs.Common.{◌≡◌, ℕ, suc, ◌<◌, ◌≤◌, ◌^◌, Bool, true, false, cond, not, ◌&&◌, ◌||◌, List, [], ◌∷◌, ◌++◌, map, length, take, refl, sym, ap, subst, ◌∙◌, arith, length-append}
+use Rattle.std.proofs.Common.{◌≡◌, ℕ, suc, ◌*◌, ◌<◌, ◌≤◌, ◌^◌, Bool, true, false, cond, not, ◌&&◌, ◌||◌, List, [], ◌∷◌, ◌++◌, map, length, take, refl, sym, ap, subst, ◌∙◌, arith, length-append}
 use Rattle.std.specs.Prelude.{Option, None, Some, Ok, Err, IfSome, nat_lt, ◌==◌, position, is_none, if◌then◌else◌}
-use Rattle.std.specs.List.{AllByRecursion, list_all, concat}
+use Rattle.std.specs.List.{AllByRecursion, list_all, list_any, concat}
+use Rattle.changeset_model.specs.Version.{version_byte, is_second}
 use Rattle.std.specs.Option.{option_or, option_to_list}
 use Rattle.std.specs.Result.{result_ok}
-use Rattle.std.specs.Int.{w8, w16, w32, to_be_bytes}
-use Rattle.std.proofs.lemmas.Bool.{le-ltb, ltb-false, and_parts}
+use Rattle.std.specs.Int.{w8, w16, w32, w64, to_be_bytes}
+use Rattle.std.proofs.lemmas.Bool.{le-ltb, ltb-false, ltb-true, and_parts}
 use Rattle.std.proofs.lemmas.List.{append-nil}
 use Rattle.sha2.specs.Sha256.{sha256}
-use Rattle.byte_fields.specs.Bytes.{Id, is_bytes, sized}
+use Rattle.byte_fields.specs.Bytes.{Id, are_bytes, is_bytes, sized}
 use Rattle.byte_fields.specs.Reading.{Reader, value, and_then, ◌>>=◌, field, number, keeping, as_one, times, read, whole, any, id}
-use Rattle.byte_fields.proofs.FieldLemmas.{Reads, reads_then, reads_last, reads_field, keeps, reads_number, reads_with_len, spelled_8, spelled_16, spelled_32}
+use Rattle.byte_fields.proofs.FieldLemmas.{Reads, reads_then, reads_last, reads_field, keeps, Spelled, reads_number, reads_with_len, spelled_8, spelled_16, spelled_32, spelled_64}
 use Rattle.changeset_model.specs.Changeset.{Changeset, spelling, most_content, most_encoded}
 use Rattle.changeset_model.specs.Decoding.{decoded}
 use Rattle.changeset_model.proofs.Spelling.{from_author_bytes, reads_id}
 use Rattle.history_model.specs.Bookmark.{is_name_byte, is_name}
-use Rattle.history_model.specs.History.{Body, Content, Change, Book, Entry, is_stored, changesets_in}
-use Rattle.history_model.specs.Pushrebase.{rewrite}
-use Rattle.history_model.specs.Journal.{Header, optional_id, payload, payload_len, IsPayload, most_payload}
-use Rattle.history_model.specs.Payload.{bookmark_name, flagged, optional, encoded, book, landing, by_mark, body, payload_body}
-use Rattle.reply_model.specs.Reply.{is_ask, Ask, PutContent, PutChangeset, SetBookmark, LandDraft, most_stack}
+use Rattle.history_model.specs.History.{Body, Content, Whole, Change, Book, Entry, is_stored, changesets_in, holds_policy}
+use Rattle.history_model.specs.Pushrebase.{rewrite, moment_of}
+use Rattle.history_model.specs.Journal.{Header, optional_id, moment_bytes, payload, payload_len, IsPayload, most_payload}
+use Rattle.history_model.specs.Payload.{bookmark_name, flagged, optional, encoded, book, no_moment, a_moment, landing, with_caller, wrapper, by_mark, body, payload_body}
+use Rattle.history_model.specs.Payload as reading
+use Rattle.reply_model.specs.Reply.{is_ask, told, ids_in, are_pieces, Ask, PutContent, PutWhole, PutChangeset, SetBookmark, LandDraft, most_stack}
 use Rattle.reply_model.specs.Legal.{MayFollow, IsLegal}
-use Rattle.opening_laws.proofs.Made.{a_landing, MadeBy, is_made}
-use Rattle.opening_laws.proofs.Rules.{IsUploadable, what_is_uploaded, is_decoded, head_is_id, uploadable_of_next}
 use Rattle.changeset_model.proofs.Spelling.{len_of as len_32}
 use Rattle.manifest_model.proofs.Nodes.{spelled_small as spelled_short}
+use Rattle.opening_laws.proofs.Pieces.{ids_good, pieces_fit}
+use Rattle.opening_laws.proofs.Made.{a_landing, landed_on, MadeBy, is_made}
+use Rattle.opening_laws.proofs.Rules.{IsUploadable, digest_is, what_is_uploaded, is_decoded, head_is_id, uploadable_of_next}
 
 -- ---- a mark, and what follows it
 
 abbrev is_mark : ℕ → Bool
-is_mark n = n == 0x42 || n == 0x43 || n == 0x4D || n == 0x4C
+is_mark n = n == 0x42 || n == 0x43 || n == 0x4D || n == 0x4C || n == 0x4E || n == 0x57 || n == 0x41
 
 abbrev MarkRead : ℕ → List ℕ → Body → Type 0
 MarkRead mark rest b = by_mark mark rest ≡ Ok (b, [])
@@ -50,7 +53,7 @@ read_content : (bytes : List ℕ) → length bytes ≤ most_content → payload_
 read_content bytes short = read_marked 0x42 bytes (Content (sha256 bytes) (length bytes)) refl (omega arith) refl
 
 abbrev after_mark : Changeset → List ℕ
-after_mark c = 1 ∷ length c.parents ∷ (concat c.parents ++ from_author_bytes c)
+after_mark c = version_byte c.version ∷ length c.parents ∷ (concat c.parents ++ from_author_bytes c)
 
 read_upload : (c : Changeset) → IsUploadable c → payload_body (spelling c) ≡ Ok (Change c)
 read_upload c g =
@@ -87,14 +90,14 @@ reads_flagged (Some x) h =
 reads_optional : (o : Option Id) → IsOptionalId o → Reads optional (optional_id o) o
 reads_optional o h rest = ap (as_one (length (optional_id o ++ rest))) (reads_flagged o h rest)
 
-abbrev a_move : List ℕ → Option Id → Option Id → Body
-a_move name from to = Book (record { name = name; from = from; to = to })
+abbrev a_move : List ℕ → Option Id → Option Id → Option (List ℕ) → Body
+a_move name from to caller = Book (record { name = name; from = from; to = to; caller = caller })
 
-reads_book : (name : List ℕ) (from to : Option Id) → is_name name ≡ true → IsOptionalId from → IsOptionalId to → Reads book (sized w8 name ++ (optional_id from ++ (optional_id to ++ []))) (a_move name from to)
-reads_book name from to n f t =
-    reads_then bookmark_name (λ name. optional >>= λ from. optional >>= λ to. value (a_move name from to)) (sized w8 name) (optional_id from ++ (optional_id to ++ [])) name (a_move name from to) (reads_name name n)
-    (reads_then optional (λ from. optional >>= λ to. value (a_move name from to)) (optional_id from) (optional_id to ++ []) from (a_move name from to) (reads_optional from f)
-    (reads_then optional (λ to. value (a_move name from to)) (optional_id to) [] to (a_move name from to) (reads_optional to t) (λ rest. refl)))
+reads_book : (name : List ℕ) (from to : Option Id) (caller : Option (List ℕ)) → is_name name ≡ true → IsOptionalId from → IsOptionalId to → Reads (book caller) (sized w8 name ++ (optional_id from ++ (optional_id to ++ []))) (a_move name from to caller)
+reads_book name from to caller n f t =
+    reads_then bookmark_name (λ name. optional >>= λ from. optional >>= λ to. value (a_move name from to caller)) (sized w8 name) (optional_id from ++ (optional_id to ++ [])) name (a_move name from to caller) (reads_name name n)
+    (reads_then optional (λ from. optional >>= λ to. value (a_move name from to caller)) (optional_id from) (optional_id to ++ []) from (a_move name from to caller) (reads_optional from f)
+    (reads_then optional (λ to. value (a_move name from to caller)) (optional_id to) [] to (a_move name from to caller) (reads_optional to t) (λ rest. refl)))
 
 optional_len : (o : Option Id) → IsOptionalId o → length (optional_id o) ≤ 33
 optional_len None h = omega arith
@@ -106,20 +109,52 @@ both_ids None (Some y) h = (tt, (and_parts (is_bytes 32 y) true h).0)
 both_ids (Some x) None h = ((and_parts (is_bytes 32 x) true h).0, tt)
 both_ids (Some x) (Some y) h = let both = and_parts (is_bytes 32 x) (is_bytes 32 y && true) h in (both.0, (and_parts (is_bytes 32 y) true both.1).0)
 
-book_len : (name a b : List ℕ) → length name ≤ 128 → length a ≤ 33 → length b ≤ 33 → length (0x4D ∷ (sized w8 name ++ (a ++ (b ++ [])))) ≤ most_payload
+-- a caller who is told has a name
+abbrev IsCaller : Option (List ℕ) → Type 0
+IsCaller caller = IfSome caller (λ c. is_name c ≡ true)
+
+abbrev may_be_wrapped : ℕ → Bool
+may_be_wrapped n = n == 0x4D || n == 0x4C || n == 0x4E || n == 0x52
+
+read_wrapped : (caller : List ℕ) (mark : ℕ) (rest : List ℕ) (b : Body) → is_name caller ≡ true → may_be_wrapped mark ≡ true → length (0x41 ∷ (sized w8 caller ++ (mark ∷ rest))) ≤ most_payload → Reads (with_caller caller mark) rest b → payload_body (0x41 ∷ (sized w8 caller ++ (mark ∷ rest))) ≡ Ok b
+read_wrapped caller mark rest b n m short reads =
+    read_marked 0x41 (sized w8 caller ++ (mark ∷ rest)) b refl short
+    (to_end wrapper (sized w8 caller ++ (mark ∷ rest)) b
+    (reads_then bookmark_name (λ caller. number w8 may_be_wrapped >>= λ mark. with_caller caller mark) (sized w8 caller) ((mark ∷ []) ++ rest) caller b (reads_name caller n)
+    (reads_then (number w8 may_be_wrapped) (λ mark. with_caller caller mark) (mark ∷ []) rest mark b (reads_number w8 may_be_wrapped (mark ∷ []) mark (spelled_8 mark) m) reads)))
+
+book_len : (name a b : List ℕ) → length name ≤ 128 → length a ≤ 33 → length b ≤ 33 → length (0x4D ∷ (sized w8 name ++ (a ++ (b ++ [])))) ≤ 196
 book_len name a b n la lb =
     let x = length-append (sized w8 name) (a ++ (b ++ [])) in
     let y = length-append a (b ++ []) in
     let z = length-append b [] in
     omega arith
 
-read_book : (name : List ℕ) (from to : Option Id) → is_ask (SetBookmark name from to) ≡ true → payload_body (payload (a_move name from to) []) ≡ Ok (a_move name from to)
-read_book name from to asked =
-    let both = and_parts (is_name name) (list_all (is_bytes 32) (option_to_list from ++ option_to_list to)) asked in
-    let ids = both_ids from to both.1 in
+wrapped_len : (caller rest : List ℕ) → length caller ≤ 128 → length rest ≤ 196 → length (0x41 ∷ (sized w8 caller ++ rest)) ≤ most_payload
+wrapped_len caller rest n l = let x = length-append (sized w8 caller) rest in omega arith
+
+book_by : (name : List ℕ) (from to : Option Id) (caller : Option (List ℕ)) → is_name name ≡ true → IsOptionalId from → IsOptionalId to → IsCaller caller → payload_body (payload (a_move name from to caller) []) ≡ Ok (a_move name from to caller)
+book_by name from to None n f t c =
     let rest = sized w8 name ++ (optional_id from ++ (optional_id to ++ [])) in
-    read_marked 0x4D rest (a_move name from to) refl (book_len name (optional_id from) (optional_id to) (name_is_short name both.0) (optional_len from ids.0) (optional_len to ids.1))
-    (to_end book rest (a_move name from to) (reads_book name from to both.0 ids.0 ids.1))
+    let len : length (0x4D ∷ rest) ≤ 196 = book_len name (optional_id from) (optional_id to) (name_is_short name n) (optional_len from f) (optional_len to t) in
+    read_marked 0x4D rest (a_move name from to None) refl (omega arith)
+    (to_end (book None) rest (a_move name from to None) (reads_book name from to None n f t))
+book_by name from to (Some caller) n f t c =
+    let rest = sized w8 name ++ (optional_id from ++ (optional_id to ++ [])) in
+    read_wrapped caller 0x4D rest (a_move name from to (Some caller)) c refl
+    (wrapped_len caller (0x4D ∷ rest) (name_is_short caller c) (book_len name (optional_id from) (optional_id to) (name_is_short name n) (optional_len from f) (optional_len to t)))
+    (reads_book name from to (Some caller) n f t)
+
+told_fits : (b : Bool) (caller : List ℕ) → is_name caller ≡ true → IsCaller (cond b (Some caller) None)
+told_fits true caller h = h
+told_fits false caller h = tt
+
+read_book : (h : List Entry) (caller name : List ℕ) (from to : Option Id) → is_ask h (SetBookmark caller name from to) ≡ true → payload_body (payload (a_move name from to (told h caller)) []) ≡ Ok (a_move name from to (told h caller))
+read_book h caller name from to asked =
+    let both = and_parts (is_name caller && is_name name) (list_all (is_bytes 32) (option_to_list from ++ option_to_list to)) asked in
+    let names = and_parts (is_name caller) (is_name name) both.0 in
+    let ids = both_ids from to both.1 in
+    book_by name from to (told h caller) names.1 ids.0 ids.1 (told_fits (holds_policy h) caller names.0)
 
 -- ---- landings
 
@@ -137,47 +172,127 @@ reads_all (c ∷ cs) all =
     reads_then encoded (λ c. times (length cs) encoded >>= λ cs. value (c ∷ cs)) (sized w32 (spelling c)) (sized_all cs) c (c ∷ cs) (reads_encoded c all.0)
     (reads_last (times (length cs) encoded) (λ cs. c ∷ cs) (sized_all cs) cs (reads_all cs all.1))
 
-abbrev after_landing_mark : List ℕ → Id → Id → List Changeset → List ℕ
-after_landing_mark name old draft new = sized w8 name ++ (old ++ (draft ++ (to_be_bytes w16 (length new) ++ sized_all new)))
+abbrev after_landing_mark : List ℕ → Id → Id → List Changeset → Option ℕ → List ℕ
+after_landing_mark name old draft new moment = sized w8 name ++ (old ++ (draft ++ (moment_bytes moment ++ (to_be_bytes w16 (length new) ++ sized_all new))))
 
-reads_landing : (name : List ℕ) (old draft : Id) (new : List Changeset) → is_name name ≡ true → is_bytes 32 old ≡ true → is_bytes 32 draft ≡ true → length new < 2 ^ 16 → AllByRecursion IsUploadable new → Reads landing (after_landing_mark name old draft new) (a_landing name old draft new)
-reads_landing name old draft new n o d few all =
-    let all_read = a_landing name old draft new in
-    reads_then bookmark_name (λ name. id >>= λ old. id >>= λ draft. number w16 any >>= λ count. times count encoded >>= λ new. value (a_landing name old draft new)) (sized w8 name) (old ++ (draft ++ (to_be_bytes w16 (length new) ++ sized_all new))) name all_read (reads_name name n)
-    (reads_then id (λ old. id >>= λ draft. number w16 any >>= λ count. times count encoded >>= λ new. value (a_landing name old draft new)) old (draft ++ (to_be_bytes w16 (length new) ++ sized_all new)) old all_read (reads_id old o)
-    (reads_then id (λ draft. number w16 any >>= λ count. times count encoded >>= λ new. value (a_landing name old draft new)) draft (to_be_bytes w16 (length new) ++ sized_all new) draft all_read (reads_id draft d)
-    (reads_then (number w16 any) (λ count. times count encoded >>= λ new. value (a_landing name old draft new)) (to_be_bytes w16 (length new)) (sized_all new) (length new) all_read (reads_number w16 any (to_be_bytes w16 (length new)) (length new) (spelled_16 (length new) few) refl)
-    (reads_last (times (length new) encoded) (λ new. a_landing name old draft new) (sized_all new) new (reads_all new all)))))
+abbrev moment_reader : Option ℕ → Reader (Option ℕ)
+moment_reader None = no_moment
+moment_reader (Some moment) = a_moment
 
-read_landing : (name : List ℕ) (old draft : Id) (new : List Changeset) → is_name name ≡ true → is_bytes 32 old ≡ true → is_bytes 32 draft ≡ true → length new ≤ most_stack → AllByRecursion IsUploadable new → payload_len (a_landing name old draft new) ≤ most_payload → payload_body (payload (a_landing name old draft new) []) ≡ Ok (a_landing name old draft new)
-read_landing name old draft new n o d few all short =
-    let rest = after_landing_mark name old draft new in
-    read_marked 0x4C rest (a_landing name old draft new) refl short (to_end landing rest (a_landing name old draft new) (reads_landing name old draft new n o d (omega arith) all))
+abbrev IsMoment : Option ℕ → Type 0
+IsMoment moment = IfSome moment (λ t. t < 2 ^ 64)
 
-rewrite_len : (stack : List Changeset) (head : Id) → length (rewrite stack head) ≡ length stack
-rewrite_len [] head = refl
-rewrite_len (c ∷ cs) head = ap suc (rewrite_len cs _)
+reads_moment : (moment : Option ℕ) → IsMoment moment → Reads (moment_reader moment) (moment_bytes moment) moment
+reads_moment None h = λ rest. refl
+reads_moment (Some t) h = reads_last (number w64 any) (λ t. Some t) (to_be_bytes w64 t) t (reads_number w64 any (to_be_bytes w64 t) t (spelled_64 t h) refl)
+
+record Right (name : List ℕ) (old draft : Id) (new : List Changeset) (moment : Option ℕ) (caller : Option (List ℕ)) : Type 0 where
+  name_fits : is_name name ≡ true
+  old_fits : is_bytes 32 old ≡ true
+  draft_fits : is_bytes 32 draft ≡ true
+  few : length new ≤ most_stack
+  all : AllByRecursion IsUploadable new
+  moment_fits : IsMoment moment
+  caller_fits : IsCaller caller
+
+reads_landing : (name : List ℕ) (old draft : Id) (new : List Changeset) (moment : Option ℕ) (caller : Option (List ℕ)) → Right name old draft new moment caller → Reads (landing caller (moment_reader moment)) (after_landing_mark name old draft new moment) (a_landing name old draft new moment caller)
+reads_landing name old draft new moment caller r =
+    let all_read = a_landing name old draft new moment caller in
+    let counted = to_be_bytes w16 (length new) ++ sized_all new in
+    let few : length new ≤ 100 = r.few in
+    reads_then bookmark_name (λ name. id >>= λ old. id >>= λ draft. moment_reader moment >>= λ at. number w16 any >>= λ count. times count encoded >>= λ new. value (a_landing name old draft new at caller)) (sized w8 name) (old ++ (draft ++ (moment_bytes moment ++ counted))) name all_read (reads_name name r.name_fits)
+    (reads_then id (λ old. id >>= λ draft. moment_reader moment >>= λ at. number w16 any >>= λ count. times count encoded >>= λ new. value (a_landing name old draft new at caller)) old (draft ++ (moment_bytes moment ++ counted)) old all_read (reads_id old r.old_fits)
+    (reads_then id (λ draft. moment_reader moment >>= λ at. number w16 any >>= λ count. times count encoded >>= λ new. value (a_landing name old draft new at caller)) draft (moment_bytes moment ++ counted) draft all_read (reads_id draft r.draft_fits)
+    (reads_then (moment_reader moment) (λ at. number w16 any >>= λ count. times count encoded >>= λ new. value (a_landing name old draft new at caller)) (moment_bytes moment) counted moment all_read (reads_moment moment r.moment_fits)
+    (reads_then (number w16 any) (λ count. times count encoded >>= λ new. value (a_landing name old draft new moment caller)) (to_be_bytes w16 (length new)) (sized_all new) (length new) all_read (reads_number w16 any (to_be_bytes w16 (length new)) (length new) (spelled_16 (length new) (omega arith)) refl)
+    (reads_last (times (length new) encoded) (λ new. a_landing name old draft new moment caller) (sized_all new) new (reads_all new r.all))))))
+
+read_landing : (name : List ℕ) (old draft : Id) (new : List Changeset) (moment : Option ℕ) (caller : Option (List ℕ)) → Right name old draft new moment caller → payload_len (a_landing name old draft new moment caller) ≤ most_payload → payload_body (payload (a_landing name old draft new moment caller) []) ≡ Ok (a_landing name old draft new moment caller)
+read_landing name old draft new None None r short =
+    let rest = after_landing_mark name old draft new None in
+    read_marked 0x4C rest (a_landing name old draft new None None) refl short (to_end (landing None no_moment) rest (a_landing name old draft new None None) (reads_landing name old draft new None None r))
+read_landing name old draft new (Some t) None r short =
+    let rest = after_landing_mark name old draft new (Some t) in
+    read_marked 0x4E rest (a_landing name old draft new (Some t) None) refl short (to_end (landing None a_moment) rest (a_landing name old draft new (Some t) None) (reads_landing name old draft new (Some t) None r))
+read_landing name old draft new None (Some caller) r short =
+    read_wrapped caller 0x4C (after_landing_mark name old draft new None) (a_landing name old draft new None (Some caller)) r.caller_fits refl short (reads_landing name old draft new None (Some caller) r)
+read_landing name old draft new (Some t) (Some caller) r short =
+    read_wrapped caller 0x4E (after_landing_mark name old draft new (Some t)) (a_landing name old draft new (Some t) (Some caller)) r.caller_fits refl short (reads_landing name old draft new (Some t) (Some caller) r)
+
+moment_is : (b : Bool) (moment : ℕ) → nat_lt moment (2 ^ 64) ≡ true → IsMoment (cond b (Some moment) None)
+moment_is true moment h = ltb-true moment (2 ^ 64) h
+moment_is false moment h = tt
+
+-- ---- wholes
+
+reads_ids : (xs : List Id) → AllByRecursion (λ x. is_bytes 32 x ≡ true) xs → Reads (times (length xs) id) (concat xs) xs
+reads_ids [] all = λ rest. refl
+reads_ids (x ∷ xs) all =
+    reads_then id (λ x. times (length xs) id >>= λ xs. value (x ∷ xs)) x (concat xs) x (x ∷ xs) (reads_id x all.0)
+    (reads_last (times (length xs) id) (λ xs. x ∷ xs) (concat xs) xs (reads_ids xs all.1))
+
+concat_len : (xs : List Id) → AllByRecursion (λ x. is_bytes 32 x ≡ true) xs → length (concat xs) ≡ 32 * length xs
+concat_len [] all = refl
+concat_len (x ∷ xs) all =
+    let one = len_32 x all.0 in
+    let rest = concat_len xs all.1 in
+    let sum = length-append x (concat xs) in
+    omega arith
+
+whole_len : (x : Id) (n : ℕ) (parts : List Id) → length x ≡ 32 → length (concat parts) ≡ 32 * length parts → length parts ≤ 64 → length (0x57 ∷ (x ++ (to_be_bytes w64 n ++ (to_be_bytes w16 (length parts) ++ concat parts)))) ≤ most_payload
+whole_len x n parts one all few = let a = length-append x (to_be_bytes w64 n ++ (to_be_bytes w16 (length parts) ++ concat parts)) in omega arith
+
+read_whole : (x : Id) (n : ℕ) (parts : List Id) → is_bytes 32 x ≡ true → n < 2 ^ 64 → length parts ≤ 64 → AllByRecursion (λ p. is_bytes 32 p ≡ true) parts → payload_body (payload (Whole x n parts) []) ≡ Ok (Whole x n parts)
+read_whole x n parts fits small few all =
+    let counted = to_be_bytes w16 (length parts) ++ concat parts in
+    let rest = x ++ (to_be_bytes w64 n ++ counted) in
+    read_marked 0x57 rest (Whole x n parts) refl (whole_len x n parts (len_32 x fits) (concat_len parts all) few)
+    (to_end reading.whole rest (Whole x n parts)
+    (reads_then id (λ x. number w64 any >>= λ len. number w16 any >>= λ count. times count id >>= λ parts. value (Whole x len parts)) x (to_be_bytes w64 n ++ counted) x (Whole x n parts) (reads_id x fits)
+    (reads_then (number w64 any) (λ len. number w16 any >>= λ count. times count id >>= λ parts. value (Whole x len parts)) (to_be_bytes w64 n) counted n (Whole x n parts) (reads_number w64 any (to_be_bytes w64 n) n (spelled_64 n small) refl)
+    (reads_then (number w16 any) (λ count. times count id >>= λ parts. value (Whole x n parts)) (to_be_bytes w16 (length parts)) (concat parts) (length parts) (Whole x n parts) (reads_number w16 any (to_be_bytes w16 (length parts)) (length parts) (spelled_16 (length parts) (omega arith)) refl)
+    (reads_last (times (length parts) id) (λ parts. Whole x n parts) (concat parts) parts (reads_ids parts all))))))
+
+rewrite_len : (stack : List Changeset) (head : Id) (moment : ℕ) → length (rewrite stack head moment) ≡ length stack
+rewrite_len [] head moment = refl
+rewrite_len (c ∷ cs) head moment = ap suc (rewrite_len cs _ moment)
 
 -- ---- an entry that may come next
 
-read_made : (header : Header) (h : List Entry) (ask : Ask) (b : Body) (bytes : List ℕ) → IsLegal header h → is_ask ask ≡ true → MadeBy h ask b → AllByRecursion IsUploadable (changesets_in b) → IsPayload b bytes → payload_body bytes ≡ Ok b
+read_made : (header : Header) (h : List Entry) (ask : Ask) (b : Body) (bytes : List ℕ) → IsLegal header h → is_ask h ask ≡ true → MadeBy h ask b → AllByRecursion IsUploadable (changesets_in b) → IsPayload b bytes → payload_body bytes ≡ Ok b
 read_made header h (PutContent given) b bytes legal asked m good p =
     let q = subst (λ b. IsPayload b bytes) m.1 p in
     ap payload_body q.2 ∙ read_content q.0 (subst (λ n. n ≤ most_content) (sym q.1.1) m.0) ∙ (λ i. Ok (Content (q.1.0 i) (q.1.1 i))) ∙ ap (λ b. Ok b) (sym m.1)
+read_made header h (PutWhole given pieces) b bytes legal asked m good p =
+    let q = subst (λ b. IsPayload b bytes) m.3 p in
+    let both = and_parts (are_bytes given) (are_pieces h (ids_in given) pieces) asked in
+    let ids = ids_good given both.0 m.0 in
+    ap payload_body (q.2 ∙ ap (payload (Whole (sha256 (concat pieces)) (length (concat pieces)) (ids_in given))) q.1)
+    ∙ read_whole (sha256 (concat pieces)) (length (concat pieces)) (ids_in given) (digest_is (concat pieces)) (pieces_fit header h (ids_in given) pieces legal both.1 m.2 ids.few) ids.few ids.each
+    ∙ ap (λ b. Ok b) (sym m.3)
 read_made header h (PutChangeset given) b bytes legal asked m good p =
     let q = subst (λ b. IsPayload b bytes) m.3 p in
     ap payload_body q.2 ∙ read_upload m.0 (what_is_uploaded given m.0 asked m.1 m.2).0 ∙ ap (λ b. Ok b) (sym m.3)
-read_made header h (SetBookmark name from to) b bytes legal asked m good p =
+read_made header h (SetBookmark caller name from to) b bytes legal asked m good p =
     let q = subst (λ b. IsPayload b bytes) m p in
-    ap payload_body q.2 ∙ read_book name from to asked ∙ ap (λ b. Ok b) (sym m)
-read_made header h (LandDraft name draft) b bytes legal asked m good p =
-    let q = subst (λ b. IsPayload b bytes) m.7 p in
-    let both = and_parts (is_name name) (is_bytes 32 draft) asked in
-    let new = rewrite m.1.stack m.0 in
-    let few : length new ≤ most_stack = subst (λ n. n ≤ most_stack) (sym (rewrite_len m.1.stack m.0)) m.5 in
-    ap payload_body q.2
-    ∙ read_landing name m.0 draft new both.0 (head_is_id header h name m.0 legal m.2) both.1 few (subst (λ b. AllByRecursion IsUploadable (changesets_in b)) m.7 good) m.6
-    ∙ ap (λ b. Ok b) (sym m.7)
+    ap payload_body (q.2 ∙ ap (payload (a_move name from to (told h caller))) q.1) ∙ read_book h caller name from to asked ∙ ap (λ b. Ok b) (sym m)
+read_made header h (LandDraft caller name draft moment) b bytes legal asked m good p =
+    let q = subst (λ b. IsPayload b bytes) m.8 p in
+    let last = and_parts (is_name caller && is_name name && is_bytes 32 draft) (nat_lt moment (2 ^ 64)) asked in
+    let both = and_parts (is_name caller && is_name name) (is_bytes 32 draft) last.0 in
+    let names = and_parts (is_name caller) (is_name name) both.0 in
+    let new = rewrite m.1.stack m.0 moment in
+    ap payload_body (q.2 ∙ ap (payload (landed_on h caller name draft moment m.0 m.1)) q.1)
+    ∙ read_landing name m.0 draft new (moment_of m.1.stack moment) (told h caller) (record {
+      name_fits = names.1;
+      old_fits = head_is_id header h name m.0 legal m.2;
+      draft_fits = both.1;
+      few = subst (λ n. n ≤ most_stack) (sym (rewrite_len m.1.stack m.0 moment)) m.5;
+      all = subst (λ b. AllByRecursion IsUploadable (changesets_in b)) m.8 good;
+      moment_fits = moment_is (list_any (λ c. is_second c.version) m.1.stack) moment last.1;
+      caller_fits = told_fits (holds_policy h) caller names.0;
+    }) m.7
+    ∙ ap (λ b. Ok b) (sym m.8)
 
 pub payload_read : (header : Header) (h : List Entry) (b : Body) (bytes : List ℕ) → IsLegal header h → MayFollow header h b → is_stored b ≡ true → IsPayload b bytes → payload_body bytes ≡ Ok b
 payload_read header h b bytes legal m s p =

@@ -1,32 +1,36 @@
 -- The known changesets of a legal history keep the rules of a changeset.
 --     IsUploadable c      what an upload must keep
-use Rattle.std.proofs.Common.{◌≡◌, ℕ, zero, suc, ◌+◌, ◌*◌, ◌/◌, ◌≤◌, ◌%◌, Bool, true, false, cond, not, ◌&&◌, List, [], ◌∷◌, ◌++◌, map, length, drop, refl, sym, ap, subst, ◌∙◌, arith, length-append}
-use Rattle.std.specs.Prelude.{Option, None, Some, Ok, Err, Contains, IfSome, IsTrue, flat_map, bytes_eq, nat_lt, option_map, unwrap_or, slice_index}
+use Rattle.std.proofs.Common.{◌≡◌, ℕ, zero, suc, ◌+◌, ◌*◌, ◌/◌, ◌≤◌, ◌%◌, ◌^◌, ℤ, Bool, true, false, cond, not, ◌&&◌, List, [], ◌∷◌, ◌++◌, map, length, drop, refl, sym, ap, subst, ◌∙◌, arith, length-append}
+use Rattle.std.specs.Prelude.{Option, None, Some, Ok, Err, Contains, IfSome, IsTrue, flat_map, bytes_eq, nat_lt, ◌==◌, option_map, unwrap_or, slice_index, min}
 use mathlib.Core.Bool.{true≢false}
 use Rattle.std.specs.List.{AllByRecursion, concat, position_or_len}
-use Rattle.std.specs.Int.{w32, to_be_bytes}
-use Rattle.std.proofs.lemmas.Bool.{le-ltb, lt-ltb, and_parts, and_from, eq-eqb}
+use Rattle.std.specs.Int.{w16, w32, w64, to_be_bytes, cast_unsigned}
+use Rattle.changeset_model.specs.Version.{Version, First, Second, version_byte}
+use Rattle.std.proofs.lemmas.Bool.{ltb-false, le-ltb, lt-ltb, and_parts, and_from, eq-eqb, eqb-true}
 use Rattle.std.proofs.lemmas.List.{append_assoc, append-nil}
 use Rattle.std.proofs.lemmas.Slice.Eq.{bytes_eq-Decides}
 use Rattle.std.proofs.lemmas.Grind.{flat_map-append}
+use Rattle.std.proofs.Math.Nat.{min-le_right}
 use Rattle.sha2.specs.Sha256.{sha256, digest_bytes}
-use Rattle.byte_fields.specs.Bytes.{Id, are_bytes, is_bytes, last_that}
+use Rattle.byte_fields.specs.Bytes.{Id, sized, are_bytes, is_bytes, last_that}
 use Rattle.byte_fields.specs.Reading.{read}
 use Rattle.byte_fields.proofs.Lists.{weaker, each_of}
 use Rattle.changeset_model.specs.Changeset.{Changeset, id_of, spelling, is_changeset, are_parents, is_author, is_signed, is_message, are_changes, self_conflict, most_encoded}
 use Rattle.changeset_model.specs.Decoding.{changeset, TooLong, without_conflict, in_order, decoded}
-use Rattle.changeset_model.proofs.Spelling.{from_author_bytes, read-spelling}
+use Rattle.changeset_model.proofs.Spelling.{from_author_bytes, from_message_bytes, read-spelling}
 use Rattle.changeset_model.proofs.Accepting.{accepted_exactly}
-use Rattle.history_model.specs.History.{Body, Content, Change, Book, Land, Fault, Entry, Known, with_id, each_id_once, is_stored, changesets_in, known, is_known}
+use Rattle.history_model.specs.History.{Body, Content, Whole, Change, Book, Land, Policy, Fault, Entry, Known, with_id, each_id_once, is_stored, changesets_in, known, is_known}
 use Rattle.history_model.specs.Chain.{first_of, first_parent, chain, IsLinked, changesets}
 use Rattle.history_model.specs.Bookmark.{head}
-use Rattle.history_model.specs.Pushrebase.{Fork, following, fork_at, fork, on_parent, rewrite}
+use Rattle.history_model.specs.Past.{HaveOneParent}
+use Rattle.history_model.specs.Pushrebase.{Fork, following, fork_at, fork, most_seconds, seconds_at, offset_at, on_parent, rewrite}
 use Rattle.history_model.specs.Journal.{Header}
-use Rattle.reply_model.specs.Reply.{is_ask, Ask, PutContent, PutChangeset, SetBookmark, LandDraft}
+use Rattle.reply_model.specs.Reply.{is_ask, is_merge, Ask, PutContent, PutWhole, PutChangeset, SetBookmark, LandDraft}
 use Rattle.reply_model.specs.Legal.{MayFollow, GoesOn, IsLegal}
 use Rattle.reply_model.proofs.Parents.{brought, grown, legal_chain}
 use Rattle.manifest_model.proofs.Derivations.{or_case}
 use Rattle.reply_model.proofs.Histories.{IsLegal-push}
+use Rattle.reply_model.proofs.Opened.{none_found}
 use Rattle.opening_laws.proofs.Lists.{are_IsBytes, are_bytes-append}
 use Rattle.byte_fields.proofs.Booleans.{same_some}
 use Rattle.byte_fields.proofs.Lists.{all_both as all_append, all_filter}
@@ -90,36 +94,59 @@ one_of [] q le e = absurd cc
 one_of (p ∷ []) q le e = ap (λ x. x ∷ []) (same_some p q e)
 one_of (p ∷ r ∷ ps) q le e = absurd (omega arith)
 
--- a changeset with its one parent is as long with another
-same_len : (p q : Id) (c : Changeset) → length p ≡ 32 → length q ≡ 32 → c.parents ≡ q ∷ [] → length (spelling (on_parent p c)) ≡ length (spelling c)
-same_len p q c lp lq e = by p q (from_author_bytes c) lp lq ∙ sym (λ i. length (0x43 ∷ 1 ∷ length (e i) ∷ (concat (e i) ++ from_author_bytes c)))
-  where
-    by : (p q rest : List ℕ) → length p ≡ 32 → length q ≡ 32 → length (0x43 ∷ 1 ∷ 1 ∷ ((p ++ []) ++ rest)) ≡ length (0x43 ∷ 1 ∷ 1 ∷ ((q ++ []) ++ rest))
-    by p q rest lp lq = let a = length-append (p ++ []) rest in let b = length-append (q ++ []) rest in let x = length-append p [] in let y = length-append q [] in omega arith
+date_len : (a m : List ℕ) (s r : ℤ) (o p : ℤ) → length (sized w16 a ++ (to_be_bytes w64 (cast_unsigned w64 s) ++ (to_be_bytes w32 (cast_unsigned w32 o) ++ m))) ≡ length (sized w16 a ++ (to_be_bytes w64 (cast_unsigned w64 r) ++ (to_be_bytes w32 (cast_unsigned w32 p) ++ m)))
+date_len a m s r o p =
+    let x = length-append (sized w16 a) (to_be_bytes w64 (cast_unsigned w64 s) ++ (to_be_bytes w32 (cast_unsigned w32 o) ++ m)) in
+    let y = length-append (sized w16 a) (to_be_bytes w64 (cast_unsigned w64 r) ++ (to_be_bytes w32 (cast_unsigned w32 p) ++ m)) in
+    omega arith
 
-parents_right : (c : Changeset) → is_changeset c ≡ true → are_parents c.parents ≡ true
-parents_right c h =
-    let e = and_parts (are_parents c.parents && is_author c.author && is_signed 64 c.seconds && is_signed 32 c.offset && is_message c.message) (are_changes c.changes) h in
+-- a changeset with its one parent is as long with another, and at another date
+same_len : (p q : Id) (moment : ℕ) (c : Changeset) → length p ≡ 32 → length q ≡ 32 → c.parents ≡ q ∷ [] → length (spelling (on_parent p moment c)) ≡ length (spelling c)
+same_len p q moment c lp lq e =
+    by p q (from_author_bytes (on_parent p moment c)) (from_author_bytes c) lp lq (date_len c.author (from_message_bytes c) (seconds_at moment c.version c.seconds) c.seconds (offset_at c.version c.offset) c.offset)
+    ∙ sym (λ i. length (0x43 ∷ version_byte c.version ∷ length (e i) ∷ (concat (e i) ++ from_author_bytes c)))
+  where
+    by : (p q rest other : List ℕ) → length p ≡ 32 → length q ≡ 32 → length rest ≡ length other → length (0x43 ∷ version_byte c.version ∷ 1 ∷ ((p ++ []) ++ rest)) ≡ length (0x43 ∷ version_byte c.version ∷ 1 ∷ ((q ++ []) ++ other))
+    by p q rest other lp lq same = let a = length-append (p ++ []) rest in let b = length-append (q ++ []) other in let x = length-append p [] in let y = length-append q [] in omega arith
+
+record Fields (c : Changeset) : Type 0 where
+  parents : are_parents c.parents ≡ true
+  seconds : is_signed 64 c.seconds ≡ true
+  offset : is_signed 32 c.offset ≡ true
+
+fields_right : (c : Changeset) → is_changeset c ≡ true → Fields c
+fields_right c h =
+    let e = and_parts (are_parents c.parents && is_author c.author && is_signed 64 c.seconds && is_signed 32 c.offset && is_message c.message) (are_changes c.version (length c.parents) c.changes) h in
     let m = and_parts (are_parents c.parents && is_author c.author && is_signed 64 c.seconds && is_signed 32 c.offset) (is_message c.message) e.0 in
     let o = and_parts (are_parents c.parents && is_author c.author && is_signed 64 c.seconds) (is_signed 32 c.offset) m.0 in
     let s = and_parts (are_parents c.parents && is_author c.author) (is_signed 64 c.seconds) o.0 in
-    (and_parts (are_parents c.parents) (is_author c.author) s.0).0
+    record { parents = (and_parts (are_parents c.parents) (is_author c.author) s.0).0; seconds = s.1; offset = o.1 }
 
-uploadable_on : (p : Id) (c : Changeset) → is_bytes 32 p ≡ true → IsUploadable c → HasParent c → IsUploadable (on_parent p c)
-uploadable_on p c fits g has =
-    let ps = one_of c.parents has.0 g.one_parent has.1 in
-    let right = parents_right c g.keeps in
-    let lq : length has.0 ≡ 32 = len_32 has.0 (subst (λ ps. are_parents ps ≡ true) ps right) in
+seconds_right : (v : Version) (moment : ℕ) (z : ℤ) → is_signed 64 z ≡ true → is_signed 64 (seconds_at moment v z) ≡ true
+seconds_right First moment z h = h
+seconds_right Second moment z h = lt-ltb (min moment most_seconds) (2 ^ 63) (let most : min moment most_seconds ≤ 9223372036854775807 = min-le_right moment most_seconds in omega arith)
+
+offset_right : (v : Version) (z : ℤ) → is_signed 32 z ≡ true → is_signed 32 (offset_at v z) ≡ true
+offset_right First z h = h
+offset_right Second z h = refl
+
+uploadable_on : (p : Id) (moment : ℕ) (c : Changeset) → is_bytes 32 p ≡ true → IsUploadable c → HasParent c → length c.parents ≤ 1 → IsUploadable (on_parent p moment c)
+uploadable_on p moment c fits g has one =
+    let ps = one_of c.parents has.0 one has.1 in
+    let right = fields_right c g.keeps in
+    let lq : length has.0 ≡ 32 = len_32 has.0 (subst (λ ps. are_parents ps ≡ true) ps right.parents) in
     record {
-      keeps = (λ i. (fits ∙ sym right) i && is_author c.author && is_signed 64 c.seconds && is_signed 32 c.offset && is_message c.message && are_changes c.changes) ∙ g.keeps;
+      keeps = (λ i. (fits ∙ sym right.parents) i && is_author c.author && (seconds_right c.version moment c.seconds right.seconds ∙ sym right.seconds) i && (offset_right c.version c.offset right.offset ∙ sym right.offset) i && is_message c.message && are_changes c.version (length (sym ps i)) c.changes) ∙ g.keeps;
       one_parent = omega arith;
       no_conflict = g.no_conflict;
-      short = subst (λ n. n ≤ most_encoded) (sym (same_len p has.0 c (len_32 p fits) lq ps)) g.short;
+      short = subst (λ n. n ≤ most_encoded) (sym (same_len p has.0 moment c (len_32 p fits) lq ps)) g.short;
     }
 
-uploadable_rewrite : (stack : List Changeset) (head : Id) → is_bytes 32 head ≡ true → AllByRecursion (λ c. IsUploadable c × HasParent c) stack → AllByRecursion IsUploadable (rewrite stack head)
-uploadable_rewrite [] head fits all = tt
-uploadable_rewrite (c ∷ cs) head fits all = (uploadable_on head c fits all.0.0 all.0.1, uploadable_rewrite cs (id_of (on_parent head c)) (digest_is (spelling (on_parent head c))) all.1)
+uploadable_rewrite : (stack : List Changeset) (head : Id) (moment : ℕ) → is_bytes 32 head ≡ true → AllByRecursion (λ c. IsUploadable c × HasParent c) stack → AllByRecursion (λ c. is_merge c ≡ false) stack → AllByRecursion IsUploadable (rewrite stack head moment)
+uploadable_rewrite [] head moment fits all ones = tt
+uploadable_rewrite (c ∷ cs) head moment fits all ones =
+    let one : length c.parents ≤ 1 = ltb-false 1 (length c.parents) ones.0 in
+    (uploadable_on head moment c fits all.0.0 all.0.1 one, uploadable_rewrite cs (id_of (on_parent head moment c)) moment (digest_is (spelling (on_parent head moment c))) all.1 ones.1)
 
 -- ---- the stack of a landing
 
@@ -187,18 +214,21 @@ uploadable_stack header h old draft f legal all there e =
     subst (AllByRecursion (λ c. IsUploadable c × HasParent c)) (sym s.1)
     (all_changesets (λ c. IsUploadable c × HasParent c) (drop (n + 1) xs) (subst (λ m. AllByRecursion (λ k. IsUploadable k.changeset × HasParent k.changeset) (drop m xs)) (let e : suc n ≡ n + 1 = omega arith in e) later))
 
-uploadable_made : (header : Header) (h : List Entry) (ask : Ask) (body : Body) → IsLegal header h → AllUploadable h → is_ask ask ≡ true → MadeBy h ask body → AllByRecursion IsUploadable (changesets_in body)
+uploadable_made : (header : Header) (h : List Entry) (ask : Ask) (body : Body) → IsLegal header h → AllUploadable h → is_ask h ask ≡ true → MadeBy h ask body → AllByRecursion IsUploadable (changesets_in body)
 uploadable_made header h (PutContent bytes) body legal all asked m = subst (λ b. AllByRecursion IsUploadable (changesets_in b)) (sym m.1) tt
+uploadable_made header h (PutWhole bytes pieces) body legal all asked m = subst (λ b. AllByRecursion IsUploadable (changesets_in b)) (sym m.3) tt
 uploadable_made header h (PutChangeset bytes) body legal all asked m = subst (λ b. AllByRecursion IsUploadable (changesets_in b)) (sym m.3) ((what_is_uploaded bytes m.0 asked m.1 m.2).0, tt)
-uploadable_made header h (SetBookmark name from to) body legal all asked m = subst (λ b. AllByRecursion IsUploadable (changesets_in b)) (sym m) tt
-uploadable_made header h (LandDraft name draft) body legal all asked m =
-    subst (λ b. AllByRecursion IsUploadable (changesets_in b)) (sym m.7)
-    (uploadable_rewrite m.1.stack m.0 (head_is_id header h name m.0 legal m.2) (uploadable_stack header h m.0 draft m.1 legal all m.3 m.4))
+uploadable_made header h (SetBookmark caller name from to) body legal all asked m = subst (λ b. AllByRecursion IsUploadable (changesets_in b)) (sym m) tt
+uploadable_made header h (LandDraft caller name draft moment) body legal all asked m =
+    subst (λ b. AllByRecursion IsUploadable (changesets_in b)) (sym m.8)
+    (uploadable_rewrite m.1.stack m.0 moment (head_is_id header h name m.0 legal m.2) (uploadable_stack header h m.0 draft m.1 legal all m.3 m.4) (none_found is_merge m.1.stack m.6))
 
 uploadable_next : (header : Header) (h : List Entry) (body : Body) → IsLegal header h → AllUploadable h → MayFollow header h body → (b : Bool) → is_stored body ≡ b → AllByRecursion IsUploadable (changesets_in body)
 uploadable_next header h body legal all m true s = let made = is_made header h body s m in uploadable_made header h made.ask body legal all made.asked made.made
 uploadable_next header h (Fault breaking) legal all m false s = tt
 uploadable_next header h (Content x n) legal all m false s = tt
+uploadable_next header h (Whole x n parts) legal all m false s = tt
+uploadable_next header h (Policy caller text) legal all m false s = tt
 uploadable_next header h (Change c) legal all m false s = absurd (true≢false s)
 uploadable_next header h (Book move) legal all m false s = tt
 uploadable_next header h (Land landing) legal all m false s = absurd (true≢false s)
@@ -244,3 +274,6 @@ all_clear header h legal = weaker IsUploadable IsClear (λ c u. u.no_conflict) (
 
 pub all_one_parent : (header : Header) (h : List Entry) → IsLegal header h → AllByRecursion HasOneParent (flat_map (λ e. changesets_in e.body) h)
 all_one_parent header h legal = weaker IsUploadable HasOneParent (λ c u. u.one_parent) (flat_map (λ e. changesets_in e.body) h) (all_uploadable header h legal)
+
+pub known_one_parent : (header : Header) (h : List Entry) → IsLegal header h → HaveOneParent (known h)
+known_one_parent header h legal = weaker IsRight (λ k. HasOneParent k.changeset) (λ k right. right.0.one_parent) (known h) (known_right h (all_uploadable header h legal))

@@ -1,13 +1,14 @@
 //! Laws of opening, each the contract of a function that does nothing.
-ghost use Rattle.std.specs.Prelude.{◌≡◌, ◌≤◌, ◌+◌, ◌↔◌, ℕ, true, None, Some, Ok, IsTrue, List, [], ◌∷◌, ◌++◌, length, take, drop, Contains, flat_map};
+ghost use Rattle.std.specs.Prelude.{◌≡◌, ◌≤◌, ◌+◌, ◌↔◌, ℕ, true, None, Some, Ok, IsTrue, List, [], ◌∷◌, ◌++◌, length, take, drop, Contains, flat_map, Option};
 ghost use Rattle.std.specs.List.{AllByRecursion};
 ghost use Rattle.sha2.specs.Sha256.{sha256};
 ghost use Rattle.byte_fields.specs.Bytes.{Id, IsBytes, IsContent};
 ghost use Rattle.changeset_model.specs.Changeset.{id_of, is_changeset, self_conflict, spelling, most_encoded};
 ghost use Rattle.history_model.specs.History.{Body, Content, Entry, Known, is_stored, stored, known, changesets_in};
+ghost use Rattle.history_model.specs.Past.{HaveOneParent};
 ghost use Rattle.history_model.specs.Journal.{Header, IsPayload, Stands, size};
 ghost use Rattle.history_model.specs.Payload.{payload_body};
-ghost use Rattle.reply_model.specs.Reply.{PutContent, judge};
+ghost use Rattle.reply_model.specs.Reply.{PutContent, SetBookmark, LandDraft, told, judge};
 ghost use Rattle.reply_model.specs.Legal.{MayFollow, IsLegal};
 ghost use Rattle.reply_model.specs.Opening.{opens};
 
@@ -22,11 +23,12 @@ pub fn known_changesets_keep_the_rules()
         (k.id ≡ id_of k.changeset) × IsTrue (is_changeset k.changeset) × (length k.changeset.parents ≤ 1) × (self_conflict k.changeset ≡ None) × (length (spelling k.changeset) ≤ most_encoded) }
 {}
 
-/// All changesets of a legal history's entries keep the rules of a changeset, set no path under another, and have one parent at most.
+/// All changesets of a legal history's entries keep the rules of a changeset, set no path under another, and have one parent at most, so those that are known have no merge among them.
 pub fn changesets_of_entries_keep_the_rules()
     ensures rules { (header : Header) (h : List Entry) → IsLegal header h → AllByRecursion (λ c. is_changeset c ≡ true) (flat_map (λ e. changesets_in e.body) h) }
     ensures clear { (header : Header) (h : List Entry) → IsLegal header h → AllByRecursion (λ c. self_conflict c ≡ None) (flat_map (λ e. changesets_in e.body) h) }
     ensures parents { (header : Header) (h : List Entry) → IsLegal header h → AllByRecursion (λ c. length c.parents ≤ 1) (flat_map (λ e. changesets_in e.body) h) }
+    ensures line { (header : Header) (h : List Entry) → IsLegal header h → HaveOneParent (known h) }
 {}
 
 /// The file of a legal history is within its capacity, where this has room for that of no entry.
@@ -54,8 +56,15 @@ pub fn opens_exactly_what_stands()
     ensures { (bytes : List ℕ) (h : List Entry) → IsBytes bytes → ((opens bytes ≡ Ok h) ↔ ((header : Header) × Stands header bytes h × IsLegal header h × (h ≡ stored h))) }
 {}
 
-/// A file stands for histories of one capacity at most, and for the stored entries of one legal history at most.
+/// A file stands for histories of one capacity and version at most, and for the stored entries of one legal history at most.
 pub fn a_file_stands_for_one_history()
     ensures header { (header other : Header) (bytes : List ℕ) (h g : List Entry) → Stands header bytes h → Stands other bytes g → header ≡ other }
     ensures history { (header other : Header) (bytes : List ℕ) (h g : List Entry) → IsBytes bytes → Stands header bytes h → IsLegal header (stored h) → Stands other bytes g → IsLegal other (stored g) → stored h ≡ stored g }
+{}
+
+/// No change holds a policy yet: in a legal history no entry tells its caller, and moves and landings are judged alike whoever asks.
+pub fn callers_are_not_told()
+    ensures told { (header : Header) (h : List Entry) (caller : List ℕ) → IsLegal header h → told h caller ≡ None }
+    ensures moves { (header : Header) (h : List Entry) (caller other name : List ℕ) (from to : Option Id) → IsLegal header h → judge header h (SetBookmark caller name from to) ≡ judge header h (SetBookmark other name from to) }
+    ensures landings { (header : Header) (h : List Entry) (caller other name : List ℕ) (draft : Id) (moment : ℕ) → IsLegal header h → judge header h (LandDraft caller name draft moment) ≡ judge header h (LandDraft other name draft moment) }
 {}

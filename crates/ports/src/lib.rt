@@ -3,6 +3,7 @@
 #![tactic(auto)]
 
 pub mod accept;
+pub mod clock;
 pub mod failed;
 pub mod gate;
 pub mod link;
@@ -18,6 +19,7 @@ pub mod source;
 pub mod zero_bytes;
 
 pub use accept::Accept;
+pub use clock::{Clock, FixedClock};
 pub use failed::Failed;
 pub use gate::{Gate, NoGate};
 pub use link::Link;

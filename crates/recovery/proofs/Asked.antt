@@ -1,26 +1,39 @@
 -- What a payload's change makes.
 --     kept bytes made      what is made, if it has this payload
-use Rattle.std.proofs.Common.{◌≡◌, ℕ, Bool, true, false, cond, List, [], ◌∷◌, ◌++◌, drop, refl, sym, ap, subst, ◌∙◌}
-use Rattle.std.specs.Prelude.{Option, None, Some, Result, Ok, IsSome, bytes_eq, is_some}
+use Rattle.std.proofs.Common.{◌≡◌, ℕ, Bool, true, false, cond, List, [], ◌∷◌, ◌++◌, length, map, drop, refl, sym, ap, subst, ◌∙◌, inl, inr, arith}
+use Rattle.std.specs.Prelude.{Option, None, Some, Result, Ok, Err, OnOk, OnErr, IsSome, bytes_eq, is_some, unwrap_or}
+use Rattle.std.specs.List.{concat}
 use mathlib.Core.Bool.{true≢false}
 use Rattle.std.specs.Option.{option_and_then}
 use Rattle.std.specs.Result.{result_ok}
+use Rattle.std.proofs.Math.Seq.{drop-append_seam}
+use Rattle.std.proofs.lemmas.List.{map-append}
 use Rattle.std.proofs.lemmas.Slice.Eq.{bytes_eq-Decides}
 use Rattle.byte_fields.specs.Bytes.{Id}
 use Rattle.byte_fields.specs.Reading.{keeping}
 use Rattle.byte_fields.proofs.FieldLemmas.{keeps}
 use Rattle.changeset_model.specs.Changeset.{Changeset, spelling}
 use Rattle.changeset_model.specs.Decoding.{decoded}
-use Rattle.history_model.specs.History.{Body, Book, Land, Landing, Entry, is_stored, unnumbered}
-use Rattle.history_model.specs.Journal.{Header, payload, framed, IsPayload}
+use Rattle.history_model.specs.History.{Body, Whole, Book, Land, Move, Landing, Entry, is_stored, unnumbered, bodies, stored, is_down}
+use Rattle.history_model.specs.Journal.{Header, landing_mark, wrapped, payload, framed, held, IsPayload}
+use Rattle.history_model.specs.Payload.{payload_body}
+use Rattle.history_model.specs.Pushrebase.{Fork, rewrite, moment_of}
 use Rattle.reply_model.specs.After.{entries_of}
-use Rattle.reply_model.specs.Opening.{made_by}
-use Rattle.reply_model.specs.Reply.{Ask, is_ask, PutContent, PutChangeset, SetBookmark, LandDraft, Judged, entered}
+use Rattle.reply_model.specs.Legal.{IsLegal}
+use Rattle.reply_model.specs.Opening.{nobody, ask_of, made_by, next_entry}
+use Rattle.reply_model.specs.Reply as refusing
+use Rattle.reply_model.specs.Reply.{Ask, is_ask, ids_in, PutContent, PutWhole, PutChangeset, SetBookmark, LandDraft, Judged, Down, OldFormat, refuse_if, ◌>>=◌, told, judge}
+use Rattle.reply_model.proofs.Histories.{bodies-append}
 use Rattle.reply_model.proofs.Granted.{MakesStored, judge_stored}
+use Rattle.opening_laws.proofs.Callers.{none_told, moves_for_any, lands_for_any}
 use Rattle.opening_laws.proofs.Made.{MadeBy, Fitting, MakesEach, judge_makes}
 use Rattle.repo_machine.specs.Judged.{JudgedChange, IsJudged, Frames}
 use Rattle.repo_machine.specs.Entering.{IsJudgedHere}
+use Rattle.repo_calls.specs.declared.refusal.Refusal.{Refusal}
+use Rattle.repo_machine.specs.Landings.{IsRefusal}
+use Rattle.recovery.specs.ReplayFaults.{refusal_fault}
 use Rattle.recovery.specs.declared.replay_fault.ReplayFault.{ReplayFault}
+use Rattle.recovery.specs.declared.replay_fault.ReplayFault.TheVariants.{BadPayload, Memory}
 use Rattle.recovery.specs.Entering.{asked_entry, Enters}
 use Rattle.recovery.proofs.Frames.{framed_once}
 
@@ -32,7 +45,7 @@ kept bytes made = option_and_then (λ body. keeping (has_payload bytes) body) ma
 
 asked_kept : (header : Header) (h : List Entry) (bytes : List ℕ) (ask : Ask) (judged : JudgedChange) → IsJudged header h ask judged → asked_entry header h bytes ask ≡ kept bytes judged.made
 asked_kept header h bytes ask judged is =
-    ap (option_and_then (made_by header h bytes)) (keeps is_ask ask is.asks)
+    ap (option_and_then (made_by header h bytes)) (keeps (is_ask h) ask is.asks)
     ∙ ap (λ r. option_and_then (λ body. keeping (has_payload bytes) body) (option_and_then (λ (judged : Judged). judged.made) (result_ok r))) is.granted
 
 -- ---- an entry of this payload
@@ -54,8 +67,33 @@ kept_other : (bytes : List ℕ) (made : Option Body) → ((body : Body) → made
 kept_other bytes None other = refl
 kept_other bytes (Some body) other = drops (has_payload bytes) body (has_payload bytes body) refl (λ e. other body refl ((bytes_eq-Decides (payload body (drop 1 bytes)) bytes).0 e))
 
-pub asked_other : (header : Header) (h : List Entry) (bytes : List ℕ) (ask : Ask) (judged : JudgedChange) → IsJudged header h ask judged → ((body : Body) → judged.made ≡ Some body → payload body (drop 1 bytes) ≡ bytes → ⊥) → asked_entry header h bytes ask ≡ None
-asked_other header h bytes ask judged is other = asked_kept header h bytes ask judged is ∙ kept_other bytes judged.made other
+-- whoever asks, where none makes one of this payload
+none_asked : (header : Header) (h : List Entry) (bytes : List ℕ) (ask given : Ask) (judged : JudgedChange) → IsJudged header h ask judged → judge header h given ≡ judge header h ask → (b : Bool) → is_ask h given ≡ b → kept bytes judged.made ≡ None
+    → asked_entry header h bytes given ≡ None
+none_asked header h bytes ask given judged is same false e none = ap (λ b. option_and_then (made_by header h bytes) (cond b (Some given) None)) e
+none_asked header h bytes ask given judged is same true e none =
+    ap (λ b. option_and_then (made_by header h bytes) (cond b (Some given) None)) e
+    ∙ ap (λ r. option_and_then (λ body. keeping (has_payload bytes) body) (option_and_then (λ (judged : Judged). judged.made) (result_ok r))) (same ∙ is.granted)
+    ∙ none
+
+-- ---- where it is refused
+
+refused_by : (header : Header) (h : List Entry) (bytes : List ℕ) (given : Ask) (r : refusing.Refusal) → judge header h given ≡ Err r → (b : Bool) → is_ask h given ≡ b → asked_entry header h bytes given ≡ None
+refused_by header h bytes given r is false e = ap (λ b. option_and_then (made_by header h bytes) (cond b (Some given) None)) e
+refused_by header h bytes given r is true e =
+    ap (λ b. option_and_then (made_by header h bytes) (cond b (Some given) None)) e
+    ∙ ap (λ r. option_and_then (λ body. keeping (has_payload bytes) body) (option_and_then (λ (judged : Judged). judged.made) (result_ok r))) is
+
+nothing_entered : (h : List Entry) (next : Option Body) (fault : ReplayFault) (after : List Entry) → next ≡ None → after ≡ h → Enters h next (Err fault) after
+nothing_entered h next BadPayload after none same = (none, same)
+nothing_entered h next Memory after none same = same
+
+pub refused_asked : (header : Header) (h : List Entry) (bytes : List ℕ) (ask given : Ask) (e : Refusal) (after : List Entry) → judge header h given ≡ judge header h ask → IsRefusal (judge header h ask) e → after ≡ h
+    → Enters h (asked_entry header h bytes given) (Err (refusal_fault e)) after
+refused_asked header h bytes ask given e after same is kept = elim is [
+  | inl memory ↦ subst (λ e. Enters h (asked_entry header h bytes given) (Err (refusal_fault e)) after) (sym memory) kept
+  | inr refused ↦ nothing_entered h (asked_entry header h bytes given) (refusal_fault e) after (refused_by header h bytes given refused.0 (same ∙ refused.1) (is_ask h given) refl) kept
+]
 
 -- ---- what each change makes
 
@@ -76,38 +114,168 @@ change_asked header h c judged read is =
     (λ body made. let m = makes_of header h (PutChangeset (spelling c)) judged is body made in
     ap (λ b. payload b (drop 1 (spelling c))) m.3 ∙ ap spelling (one_decoded (decoded (spelling c)) c m.0 read m.1))
 
-abbrev pub a_move : List ℕ → Option Id → Option Id → Body
-a_move name from to = Book (record { name = name; from = from; to = to })
+-- ---- a move or a landing, by its frame
 
-pub move_asked : (header : Header) (h : List Entry) (name : List ℕ) (from to : Option Id) (judged : JudgedChange) → IsJudged header h (SetBookmark name from to) judged → asked_entry header h (payload (a_move name from to) []) (SetBookmark name from to) ≡ judged.made
-move_asked header h name from to judged is =
-    asked_same header h (payload (a_move name from to) []) (SetBookmark name from to) judged is
-    (λ body made. ap (λ b. payload b (drop 1 (payload (a_move name from to) []))) (makes_of header h (SetBookmark name from to) judged is body made))
+-- a payload that tells a caller begins otherwise than one that tells none
+not_told : (caller : Option (List ℕ)) (rest other : List ℕ) (mark : ℕ) → wrapped caller rest ≡ mark ∷ other → (mark ≡ 0x41 → ⊥) → caller ≡ None
+not_told None rest other mark e differs = refl
+not_told (Some caller) rest other mark e differs = absurd (differs (ap (λ bytes. first_or bytes) (sym e)))
+  where
+    first_or : List ℕ → ℕ
+    first_or [] = 0x41
+    first_or (b ∷ bytes) = b
 
--- ---- a landing, by its frame
+some_made : (made : Option Body) → IsSome made → (body : Body) × (made ≡ Some body)
+some_made None some = absurd cc
+some_made (Some body) some = (body, refl)
 
--- a landing has one payload
-landing_payload : (body : Body) (l : Landing) (bytes other : List ℕ) → body ≡ Land l → IsPayload body bytes → payload body other ≡ bytes
-landing_payload body l bytes other e is = ap (λ b. payload b other) e ∙ sym (subst (λ b. IsPayload b bytes) e is).2
+-- it has one payload
+abbrev HasOne : Body → Type 0
+HasOne body = (bytes other : List ℕ) → IsPayload body bytes → payload body other ≡ bytes
 
-module _ (header : Header) (h : List Entry) (name : List ℕ) (draft : Id) (bytes : List ℕ) (judged : JudgedChange) (is : IsJudged header h (LandDraft name draft) judged) where
+module _ (header : Header) (h : List Entry) (bytes : List ℕ) (ask : Ask) (judged : JudgedChange) (is : IsJudged header h ask judged) (one : (body : Body) → judged.made ≡ Some body → HasOne body) where
   -- the payload in the frame
-  framed_payload : (body : Body) → judged.made ≡ Some body → (payload_is : List ℕ) × (judged.frame ≡ framed payload_is) × (payload body (drop 1 bytes) ≡ payload_is)
+  framed_payload : (body : Body) → judged.made ≡ Some body → (inner : List ℕ) × (judged.frame ≡ framed inner) × (payload body (drop 1 bytes) ≡ inner)
   framed_payload body made =
       let f = subst (λ o. Frames o judged.frame) made is.frames in
-      (f.0, f.2, landing_payload body _ f.0 (drop 1 bytes) (makes_of header h (LandDraft name draft) judged is body made).7 f.1)
+      (f.0, f.2, one body made f.0 (drop 1 bytes) f.1)
 
-  pub landing_asked : judged.frame ≡ framed bytes → asked_entry header h bytes (LandDraft name draft) ≡ judged.made
-  landing_asked same =
-      asked_same header h bytes (LandDraft name draft) judged is
-      (λ body made. let f = framed_payload body made in f.2 ∙ framed_once f.0 bytes (sym f.1 ∙ same))
+  same_payload : judged.frame ≡ framed bytes → (body : Body) → judged.made ≡ Some body → payload body (drop 1 bytes) ≡ bytes
+  same_payload same body made = let f = framed_payload body made in f.2 ∙ framed_once f.0 bytes (sym f.1 ∙ same)
 
-  pub landing_differs : (IsSome judged.made × (judged.frame ≡ framed bytes) → ⊥) → asked_entry header h bytes (LandDraft name draft) ≡ None
-  landing_differs other =
-      asked_other header h bytes (LandDraft name draft) judged is
-      (λ body made e. let f = framed_payload body made in other (ap is_some made, f.1 ∙ ap framed (sym f.2 ∙ e)))
+  framed_asked : judged.frame ≡ framed bytes → asked_entry header h bytes ask ≡ judged.made
+  framed_asked same = asked_same header h bytes ask judged is (same_payload same)
+
+  not_framed : (IsSome judged.made × (judged.frame ≡ framed bytes) → ⊥) → kept bytes judged.made ≡ None
+  not_framed other = kept_other bytes judged.made (λ body made e. let f = framed_payload body made in other (ap is_some made, f.1 ∙ ap framed (sym f.2 ∙ e)))
+
+-- a move
+module _ (header : Header) (h : List Entry) (m : Move) (bytes : List ℕ) (judged : JudgedChange) (legal : IsLegal header h) (is : IsJudged header h (SetBookmark nobody m.name m.from m.to) judged) where
+  abbrev untold_move : Move
+  untold_move = record { name = m.name; from = m.from; to = m.to; caller = None }
+
+  move_made : (body : Body) → judged.made ≡ Some body → body ≡ Book untold_move
+  move_made body made =
+      makes_of header h (SetBookmark nobody m.name m.from m.to) judged is body made
+      ∙ ap (λ caller. Book (record { name = m.name; from = m.from; to = m.to; caller = caller })) (none_told header h nobody legal)
+
+  move_once : (body : Body) → judged.made ≡ Some body → HasOne body
+  move_once body made inner other p = ap (λ b. payload b other) (move_made body made) ∙ sym (subst (λ b. IsPayload b inner) (move_made body made) p).2
+
+  move_untold : bytes ≡ payload (Book m) [] → IsSome judged.made × (judged.frame ≡ framed bytes) → m.caller ≡ None
+  move_untold spelled there =
+      let some = some_made judged.made there.0 in
+      let bytes_are = same_payload header h bytes (SetBookmark nobody m.name m.from m.to) judged is move_once there.1 some.0 some.1 in
+      not_told m.caller _ _ 0x4D (sym spelled ∙ sym bytes_are ∙ ap (λ b. payload b (drop 1 bytes)) (move_made some.0 some.1)) (λ e. omega arith)
+
+  pub move_asked : bytes ≡ payload (Book m) [] → IsSome judged.made × (judged.frame ≡ framed bytes) → asked_entry header h bytes (SetBookmark (unwrap_or m.caller nobody) m.name m.from m.to) ≡ judged.made
+  move_asked spelled there =
+      ap (λ caller. asked_entry header h bytes (SetBookmark (unwrap_or caller nobody) m.name m.from m.to)) (move_untold spelled there)
+      ∙ framed_asked header h bytes (SetBookmark nobody m.name m.from m.to) judged is move_once there.1
+
+  pub move_differs : (IsSome judged.made × (judged.frame ≡ framed bytes) → ⊥) → asked_entry header h bytes (SetBookmark (unwrap_or m.caller nobody) m.name m.from m.to) ≡ None
+  move_differs other =
+      let given = SetBookmark (unwrap_or m.caller nobody) m.name m.from m.to in
+      let ask = SetBookmark nobody m.name m.from m.to in
+      none_asked header h bytes ask given judged is (moves_for_any header h (unwrap_or m.caller nobody) nobody m.name m.from m.to legal) (is_ask h given) refl (not_framed header h bytes ask judged is move_once other)
+
+-- a landing
+module _ (header : Header) (h : List Entry) (l : Landing) (moment : ℕ) (bytes : List ℕ) (judged : JudgedChange) (legal : IsLegal header h) (is : IsJudged header h (LandDraft nobody l.name l.draft moment) judged) where
+  abbrev landed_by : Id → Fork → Option (List ℕ) → Body
+  landed_by old f caller = Land (record { name = l.name; old = old; draft = l.draft; new = rewrite f.stack old moment; moment = moment_of f.stack moment; caller = caller })
+
+  landing_made : (body : Body) → judged.made ≡ Some body → (old : Id) × (f : Fork) × (body ≡ landed_by old f None)
+  landing_made body made =
+      let m = makes_of header h (LandDraft nobody l.name l.draft moment) judged is body made in
+      (m.0, m.1, m.8 ∙ ap (landed_by m.0 m.1) (none_told header h nobody legal))
+
+  landing_once : (body : Body) → judged.made ≡ Some body → HasOne body
+  landing_once body made inner other p = let m = landing_made body made in ap (λ b. payload b other) m.2 ∙ sym (subst (λ b. IsPayload b inner) m.2 p).2
+
+  no_caller : (mark : Option ℕ) → landing_mark mark ≡ 0x41 → ⊥
+  no_caller None e = omega arith
+  no_caller (Some moment) e = omega arith
+
+  landing_untold : bytes ≡ payload (Land l) [] → IsSome judged.made × (judged.frame ≡ framed bytes) → l.caller ≡ None
+  landing_untold spelled there =
+      let some = some_made judged.made there.0 in
+      let m = landing_made some.0 some.1 in
+      let bytes_are = same_payload header h bytes (LandDraft nobody l.name l.draft moment) judged is landing_once there.1 some.0 some.1 in
+      let mark = moment_of m.1.stack moment in
+      not_told l.caller _ _ (landing_mark mark) (sym spelled ∙ sym bytes_are ∙ ap (λ b. payload b (drop 1 bytes)) m.2) (no_caller mark)
+
+  pub landing_asked : moment ≡ unwrap_or l.moment 0 → bytes ≡ payload (Land l) [] → IsSome judged.made × (judged.frame ≡ framed bytes) → asked_entry header h bytes (LandDraft (unwrap_or l.caller nobody) l.name l.draft (unwrap_or l.moment 0)) ≡ judged.made
+  landing_asked at spelled there =
+      (λ i. asked_entry header h bytes (LandDraft (unwrap_or (landing_untold spelled there i) nobody) l.name l.draft (sym at i)))
+      ∙ framed_asked header h bytes (LandDraft nobody l.name l.draft moment) judged is landing_once there.1
+
+  pub landing_differs : moment ≡ unwrap_or l.moment 0 → (IsSome judged.made × (judged.frame ≡ framed bytes) → ⊥) → asked_entry header h bytes (LandDraft (unwrap_or l.caller nobody) l.name l.draft (unwrap_or l.moment 0)) ≡ None
+  landing_differs at other =
+      let given = LandDraft (unwrap_or l.caller nobody) l.name l.draft moment in
+      let ask = LandDraft nobody l.name l.draft moment in
+      ap (λ moment. asked_entry header h bytes (LandDraft (unwrap_or l.caller nobody) l.name l.draft moment)) (sym at)
+      ∙ none_asked header h bytes ask given judged is (lands_for_any header h (unwrap_or l.caller nobody) nobody l.name l.draft moment legal) (is_ask h given) refl (not_framed header h bytes ask judged is landing_once other)
+
+-- ---- what no change makes
+
+abbrev made_in : Option Judged → Option Body
+made_in judged = option_and_then (λ (judged : Judged). judged.made) judged
+
+pub no_whole : (file : List ℕ) (header : Header) (h : List Entry) (bytes : List ℕ) (x : Id) (n : ℕ) (parts : List Id) → payload_body bytes ≡ Ok (Whole x n parts) → next_entry file header h bytes ≡ None
+no_whole file header h bytes x n parts read =
+    let given = concat parts in
+    let pieces = map (held file 16 (bodies h)) (ids_in given) in
+    ap (λ r. option_and_then (made_by header h bytes) (option_and_then (keeping (is_ask h)) (option_and_then (ask_of file h bytes) (result_ok r)))) read
+    ∙ unmade given pieces (is_ask h (PutWhole given pieces))
+  where
+    never : (down : Bool) → option_and_then (λ body. keeping (has_payload bytes) body) (made_in (result_ok {T = Judged} {E = refusing.Refusal} (refuse_if down Down >>= λ _. Err OldFormat))) ≡ None
+    never true = refl
+    never false = refl
+
+    unmade : (given : List ℕ) (pieces : List (List ℕ)) (asks : Bool) → option_and_then (made_by header h bytes) (cond asks (Some (PutWhole given pieces)) None) ≡ None
+    unmade given pieces false = refl
+    unmade given pieces true = never (is_down h)
 
 -- ---- what is entered
+
+abbrev body_or : List Entry → Body → Body
+body_or [] other = other
+body_or (e ∷ es) other = e.body
+
+one_body : (h : List Entry) (a b : Body) → h ++ unnumbered a ∷ [] ≡ h ++ unnumbered b ∷ [] → a ≡ b
+one_body h a b e = ap (λ es. body_or es a) (sym (drop-append_seam h (unnumbered a ∷ [])) ∙ ap (drop (length h)) e ∙ drop-append_seam h (unnumbered b ∷ []))
+
+stored_push : (h : List Entry) (body : Body) → is_stored body ≡ true → stored (h ++ unnumbered body ∷ []) ≡ stored h ++ unnumbered body ∷ []
+stored_push h body is =
+    ap (map unnumbered) (bodies-append h (unnumbered body ∷ []))
+    ∙ map-append unnumbered (bodies h) (bodies (unnumbered body ∷ []))
+    ∙ (λ i. stored h ++ map unnumbered (cond (is i) (body ∷ []) []))
+
+-- the same whatever file it is read from
+module _ (h : List Entry) (next : List ℕ → Option Body) (after : List Entry) where
+  abbrev EntersFrom : Result (Unit {0}) ReplayFault → Type 0
+  EntersFrom r = (file : List ℕ) → Enters h (next file) r after
+
+  pub entered_ok : (r : Result (Unit {0}) ReplayFault) → EntersFrom r → OnOk r ((body : Body) × ((file : List ℕ) → next file ≡ Some body) × (after ≡ h ++ unnumbered body ∷ []))
+  entered_ok (Ok done) enters =
+      let e = enters [] in
+      (e.0, λ file. (let f = enters file in f.1 ∙ ap (λ body. Some body) (one_body h f.0 e.0 (sym f.3 ∙ e.3))), e.3)
+  entered_ok (Err fault) enters = tt
+
+  pub entered_bad : (r : Result (Unit {0}) ReplayFault) → EntersFrom r → r ≡ Err BadPayload → (file : List ℕ) → next file ≡ None
+  entered_bad (Ok done) enters e file = absurd cc
+  entered_bad (Err BadPayload) enters e file = (enters file).0
+  entered_bad (Err Memory) enters e file = absurd cc
+
+  pub entered_err : (r : Result (Unit {0}) ReplayFault) → EntersFrom r → OnErr r (after ≡ h)
+  entered_err (Ok done) enters = tt
+  entered_err (Err BadPayload) enters = (enters []).1
+  entered_err (Err Memory) enters = enters []
+
+  pub entered_stored : (r : Result (Unit {0}) ReplayFault) → EntersFrom r → h ≡ stored h → after ≡ stored after
+  entered_stored (Ok done) enters was = let e = enters [] in e.3 ∙ ap (λ g. g ++ unnumbered e.0 ∷ []) was ∙ sym (ap stored e.3 ∙ stored_push h e.0 e.2)
+  entered_stored (Err BadPayload) enters was = let e = enters [] in e.1 ∙ was ∙ ap stored (sym e.1)
+  entered_stored (Err Memory) enters was = let e = enters [] in e ∙ was ∙ ap stored (sym e)
 
 pub enters_as : (h : List Entry) (made next : Option Body) (result : Result (Unit {0}) ReplayFault) (after now : List Entry) → next ≡ made → now ≡ h → Enters now made result after → Enters h next result after
 enters_as h made next result after now same is entered = subst (λ g. Enters g next result after) is (subst (λ o. Enters now o result after) (sym same) entered)

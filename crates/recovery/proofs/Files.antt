@@ -1,15 +1,16 @@
 -- A file that was read.
 use Rattle.std.proofs.Common.{◌≡◌, ℕ, zero, suc, ◌<◌, ◌≤◌, Bool, false, List, [], ◌∷◌, length, refl, sym, ap, subst, ◌∙◌, inl, inr, arith}
-use Rattle.std.specs.Prelude.{Result, Ok, Err, IsTrue, MatchResult, IfOk, IfErr, Contains, slice_index_or}
+use Rattle.std.specs.Prelude.{Option, Some, Result, Ok, Err, IsTrue, MatchResult, IfOk, IfErr, Contains, slice_index_or}
 use Rattle.byte_fields.specs.Bytes.{IsBytes}
 use Rattle.disk_model.specs.Images.{Disk, IsImage}
 use Rattle.disk_model.specs.Meaning.{Meaning, IsSound, LeftSince}
-use Rattle.disk_model.specs.Calls.{LeavesOnly, Looked}
+use Rattle.disk_model.specs.Calls.{LeavesOnly, Looked, next_moment}
 use Rattle.blob_disk.proofs.Clients.{leaves_weaker}
 use Rattle.history_model.specs.History.{Entry, stored}
-use Rattle.history_model.specs.Journal.{Header, Stands}
+use Rattle.changeset_model.specs.Version.{Version, First, Second}
+use Rattle.history_model.specs.Journal.{Header, Stands, mark}
 use Rattle.reply_model.specs.Legal.{IsLegal}
-use Rattle.reply_model.specs.Opening.{opens}
+use Rattle.reply_model.specs.Opening.{opens, version_in}
 use Rattle.reply_model.specs.Opening as model
 use Rattle.repo_journal.specs.Opened.{IsOpened}
 use Rattle.repo_journal.specs.View.{JournalView}
@@ -22,11 +23,25 @@ use Rattle.recovery.specs.declared.fault.OpenFault.{OpenFault}
 use Rattle.recovery.specs.declared.fault.OpenFault.TheVariants.{NotARepository, Damaged, DiskFault, Memory}
 use Rattle.opening_laws.proofs.Opening.{header_read as told_by}
 
-pub opens_as : (header : Header) (h : List Entry) (file : List ℕ) → IsBytes file → IsHeaded header.capacity file → opens file ≡ Ok h → OpensAs header h file
+version_at : (v : Version) → version_in (mark v) ≡ Some v
+version_at First = refl
+version_at Second = refl
+
+-- the version that the mark of a file tells
+version_told : (header : Header) (h : List Entry) (file : List ℕ) → Stands header file h → version_in file ≡ Some header.version
+version_told header h file stands = ap version_in stands.2 ∙ version_at header.version
+
+same_version : (v w : Version) → ◌≡◌ {A = Option Version} (Some v) (Some w) → v ≡ w
+same_version v w e = cc
+
+pub opens_as : (header : Header) (h : List Entry) (file : List ℕ) → IsBytes file → IsHeaded header file → opens file ≡ Ok h → OpensAs header h file
 opens_as header h file fits headed is =
     let exact = (opens_exactly file h fits).0 is in
     let other = exact.0 in
-    let same : other ≡ header = (let e : other.capacity ≡ header.capacity = sym (told_by other file h exact.1) ∙ headed.told in λ i. record { capacity = e i }) in
+    let same : other ≡ header =
+    (let e : other.capacity ≡ header.capacity = sym (told_by other file h exact.1) ∙ headed.told in
+    let v = same_version other.version header.version (sym (version_told other h file exact.1) ∙ headed.marked) in
+    λ i. record { capacity = e i; version = v i }) in
     record { opens_is = is; stands = subst (λ hd. Stands hd file h) same exact.1 }
 
 same_history : (g h : List Entry) → ◌≡◌ {A = Result (List Entry) model.OpenFault} (Ok g) (Ok h) → g ≡ h
@@ -144,3 +159,11 @@ during header_in history_in journal_in a b size moment faults begun spares (Ok o
     let more = spares.faults.grows in
     (omega arith, omega arith)
 during header_in history_in journal_in a b size moment faults begun spares (Err e) journal = tt
+
+-- they are those right after the sync
+pub synced : {T : Type 0} (header_in : T → Header) (history_in : T → List Entry) (journal_in : T → JournalView) (a b : Meaning) (size moment faults : ℕ) → HasBegun size moment faults a b → (r : Result T OpenFault)
+    → IfOk r (λ o. journal_in o ≡ journal_of (header_in o) (history_in o) moment faults) → IfOk r (λ o. ((journal_in o).opening.moment ≡ next_moment a) × ((journal_in o).opening.faults ≡ a.faults))
+synced header_in history_in journal_in a b size moment faults begun (Ok o) journal =
+    let is = ap (λ (j : JournalView). j.opening) journal in
+    (ap (λ o. o.moment) is ∙ begun.moment_is ∙ begun.next.moment_is, ap (λ o. o.faults) is ∙ begun.faults_is ∙ begun.next.faults_is)
+synced header_in history_in journal_in a b size moment faults begun (Err e) journal = tt

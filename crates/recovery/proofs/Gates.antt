@@ -72,21 +72,21 @@ module _ {m : Meaning} {header : Header} {h : List Entry} {gate : ℕ} {w : Wind
     opens_is = λ honest. (
         let was = sym kept.honest ∙ honest in
         let r = at.reaches was in
-        ap (λ d. opens d.reads) (looked was) ∙ r.opens_is ∙ closed_gate r.count header h gate (drop gate m.state.reads) (closed was));
+        ap (λ d. opens d.reads) (looked was) ∙ r.opens_is ∙ closed_gate m.state.reads r.count header h gate (drop gate m.state.reads) (closed was));
   }
 
   pub damaged_gate : (place : ℕ) → IsTrue m.honest → place ≡ gate → step_at m.state.reads gate ≡ Bad place → opens m.state.reads ≡ Err (model.Damaged place)
   damaged_gate place honest same is =
       let r = at.reaches honest in
-      r.opens_is ∙ bad_gate r.count header h gate (drop gate m.state.reads) place is ∙ ap (λ k. Err (model.Damaged k)) (sym same)
+      r.opens_is ∙ bad_gate m.state.reads r.count header h gate (drop gate m.state.reads) place is ∙ ap (λ k. Err (model.Damaged k)) (sym same)
 
-  pub damaged_record : (span : Span) → IsTrue m.honest → step_at m.state.reads gate ≡ Record span → next_entry header h (payload_at m.state.reads span) ≡ None → opens m.state.reads ≡ Err (model.Damaged gate)
-  damaged_record span honest is none = let r = at.reaches honest in r.opens_is ∙ refused_record r.count header h gate m.state.reads span is none
+  pub damaged_record : (span : Span) → IsTrue m.honest → step_at m.state.reads gate ≡ Record span → next_entry m.state.reads header h (payload_at m.state.reads span) ≡ None → opens m.state.reads ≡ Err (model.Damaged gate)
+  damaged_record span honest is none = let r = at.reaches honest in r.opens_is ∙ refused_record m.state.reads r.count header h gate span is none
 
   -- a payload that is too long isn't one that may come next
   pub damaged_length : (span : Span) → IsTrue m.honest → IsNext gate w.size (Record span) → step_at m.state.reads gate ≡ Record span → most_payload < span.length → opens m.state.reads ≡ Err (model.Damaged gate)
   damaged_length span honest next is long =
-      damaged_record span honest is (too_long header h (payload_at m.state.reads span) (
+      damaged_record span honest is (too_long m.state.reads header h (payload_at m.state.reads span) (
       let file = m.state.reads in
       let far = at.far honest in
       let t = length-take span.length (drop span.at file) in
@@ -94,7 +94,7 @@ module _ {m : Meaning} {header : Header} {h : List Entry} {gate : ℕ} {w : Wind
       let ends = next.1 in
       omega arith))
 
-  reached : (span : Span) (body : Body) → IsTrue m.honest → IsNext gate w.size (Record span) → step_at m.state.reads gate ≡ Record span → next_entry header h (payload_at m.state.reads span) ≡ Some body → Reaches header (h ++ unnumbered body ∷ []) (span.at + span.length) m.state.reads
+  reached : (span : Span) (body : Body) → IsTrue m.honest → IsNext gate w.size (Record span) → step_at m.state.reads gate ≡ Record span → next_entry m.state.reads header h (payload_at m.state.reads span) ≡ Some body → Reaches header (h ++ unnumbered body ∷ []) (span.at + span.length) m.state.reads
   reached span body honest next is some =
       let file = m.state.reads in
       let r = at.reaches honest in
@@ -109,12 +109,12 @@ module _ {m : Meaning} {header : Header} {h : List Entry} {gate : ℕ} {w : Wind
         enough = omega arith;
         opens_is =
             r.opens_is
-            ∙ taken_record r.count header h gate file span is body some
-            ∙ ap (λ n. model.records n header (h ++ unnumbered body ∷ []) (span.at + span.length) (drop (span.at + span.length) file)) count;
+            ∙ taken_record file r.count header h gate span is body some
+            ∙ ap (λ n. model.records file n header (h ++ unnumbered body ∷ []) (span.at + span.length) (drop (span.at + span.length) file)) count;
       }
 
   pub entered : (span : Span) (body : Body) (bytes : List ℕ) → IsNext gate w.size (Record span) → (IsTrue m.honest → step_at m.state.reads gate ≡ Record span) → IsHeld w span → bytes ≡ take span.length (drop (span.at - w.from) w.bytes) → ((file : List ℕ) → Holds w file → bytes ≡ payload_at file span)
-      → next_entry header h bytes ≡ Some body → (g : List Entry) → g ≡ h ++ unnumbered body ∷ [] → IsLegal header g → g ≡ stored g → IsAt m header g (span.at + span.length) w
+      → ((file : List ℕ) → next_entry file header h bytes ≡ Some body) → (g : List Entry) → g ≡ h ++ unnumbered body ∷ [] → IsLegal header g → g ≡ stored g → IsAt m header g (span.at + span.length) w
   entered span body bytes next is held bytes_are shown some g more legal stored_is =
       let t = length-take span.length (drop (span.at - w.from) w.bytes) in
       let d = length-drop (span.at - w.from) w.bytes in
@@ -122,7 +122,7 @@ module _ {m : Meaning} {header : Header} {h : List Entry} {gate : ℕ} {w : Wind
       let begins = held.begins in
       let ends = held.ends in
       let long : length bytes ≡ span.length = omega arith in
-      let sum = ap (λ es. size es) more ∙ next_size header h bytes body some in
+      let sum = ap (λ es. size es) more ∙ next_size [] header h bytes body (some []) in
       let place = at.gate_is in
       let at_place = next.0 in
       record {
@@ -134,12 +134,12 @@ module _ {m : Meaning} {header : Header} {h : List Entry} {gate : ℕ} {w : Wind
         far = at.far;
         holds = at.holds;
         reaches = λ honest. subst (λ es. Reaches header es (span.at + span.length) m.state.reads) (sym more)
-            (reached span body honest next (is honest) (ap (λ p. next_entry header h p) (sym (shown m.state.reads (at.holds honest))) ∙ some));
+            (reached span body honest next (is honest) (ap (λ p. next_entry m.state.reads header h p) (sym (shown m.state.reads (at.holds honest))) ∙ some m.state.reads));
       }
 
 -- ---- the first gate
 
-pub first_gate : (m : Meaning) (header : Header) (h : List Entry) (bytes : ℕ) (w : Window) → IsSound m → IsTrue (is_header header) → h ≡ [] → 17 ≤ bytes → IsLong m.reads bytes → (IsTrue m.honest → bytes ≡ length m.state.reads) → (IsTrue m.honest → IsHeaded header.capacity m.state.reads)
+pub first_gate : (m : Meaning) (header : Header) (h : List Entry) (bytes : ℕ) (w : Window) → IsSound m → IsTrue (is_header header) → h ≡ [] → 17 ≤ bytes → IsLong m.reads bytes → (IsTrue m.honest → bytes ≡ length m.state.reads) → (IsTrue m.honest → IsHeaded header m.state.reads)
     → w ≡ record { bytes = []; from = 0; gate = 16; size = min bytes MOST_READ } → IsAt m header h w.gate w
 first_gate m header h bytes w sound good none some long whole headed is =
     subst (λ v. IsAt m header h v.gate v) (sym is) (subst (λ es. IsAt m header es 16 (record { bytes = []; from = 0; gate = 16; size = min bytes MOST_READ })) (sym none) (record {
@@ -159,6 +159,6 @@ first_gate m header h bytes w sound good none some long whole headed is =
           record {
             count = k;
             enough = omega arith;
-            opens_is = head.opens_is ∙ ap (λ n. model.records n header [] 16 (drop 16 file)) count;
+            opens_is = head.opens_is ∙ ap (λ n. model.records file n header [] 16 (drop 16 file)) count;
           });
     }))

@@ -1,12 +1,12 @@
 -- What looks at a disk and a sync leave of it.
-use Rattle.std.proofs.Common.{◌≡◌, ℕ, ◌-◌, ◌^◌, ◌≤◌, Bool, true, false, length, refl, sym, ap, subst, ◌∙◌, inl, arith}
+use Rattle.std.proofs.Common.{◌≡◌, ℕ, ◌-◌, ◌^◌, ◌+◌, ◌≤◌, Bool, true, false, cond, length, refl, sym, ap, subst, ◌∙◌, inl, arith}
 use Rattle.std.specs.Prelude.{IsTrue}
 use Rattle.std.specs.Option.{ForSome}
 use Rattle.ports.specs.Faults.{Counts}
 use Rattle.ports.proofs.Counting.{counts_none, counts_then}
 use Rattle.disk_model.specs.Images.{Disk, Syncs, IsImage}
 use Rattle.disk_model.specs.Meaning.{Meaning, IsSound}
-use Rattle.disk_model.specs.Calls.{Kept, LeavesOnly, Looked, Within, Did}
+use Rattle.disk_model.specs.Calls.{Kept, LeavesOnly, Looked, Within, Did, SameMoment, NextMoment}
 use Rattle.disk_model.proofs.Crashes.{only_reads}
 use Rattle.blob_disk.proofs.Clients.{kept_none, kept_then, leaves_then, leaves_weaker}
 use Rattle.recovery.specs.Settling.{HasBegun, Spares}
@@ -61,14 +61,18 @@ looked_then a b c kept first next honest = next (kept.honest ∙ honest) ∙ fir
 -- ---- the beginning
 
 pub has_begun : (a b c : Meaning) (size moment faults : ℕ) → IsSound a → ForSome a.reads (λ file. size ≡ length file) → Looked a b → Kept a b → Did (Syncs true) b c → Kept b c
-    → moment ≡ c.moment → faults ≡ c.faults → faults ≤ 2 ^ 64 - 1 → HasBegun size moment faults a c
-has_begun a b c size moment faults sound told looked kept did after moment_is faults_is most = record {
+    → SameMoment a b → NextMoment b c → moment ≡ c.moment → faults ≡ c.faults → faults ≤ 2 ^ 64 - 1 → HasBegun size moment faults a c
+has_begun a b c size moment faults sound told looked kept did after still next moment_is faults_is most = record {
   long = after.no_shorter size (kept.no_shorter size (λ file is. (let same = told file is in subst (λ n. size ≤ n) same (least size))));
   whole = λ honest. told a.state.reads (sound.reads honest);
   stable = λ honest image is. only_reads b.state image ((did (kept.honest ∙ honest)).most.images image is) ∙ ap (λ d. d.reads) (looked honest);
   moment_is = moment_is;
   faults_is = faults_is;
   most = subst (λ n. n ≤ 2 ^ 64 - 1) faults_is most;
+  next = record {
+    moment_is = next.moment_is ∙ (λ i. cond (kept.told i) (still.moment_is i + 1) (still.moment_is i));
+    faults_is = next.faults_is ∙ still.faults_is;
+  };
 }
   where
     least : (n : ℕ) → n ≤ n

@@ -12,7 +12,7 @@ use Rattle.recovery.specs.declared.replay_fault.ReplayFault.{ReplayFault}
 use Rattle.recovery.specs.declared.replay_fault.ReplayFault.TheVariants.{BadPayload, Memory}
 
 abbrev pub asked_entry : Header → List Entry → List ℕ → Ask → Option Body
-asked_entry header h bytes ask = option_and_then (made_by header h bytes) (keeping is_ask ask)
+asked_entry header h bytes ask = option_and_then (made_by header h bytes) (keeping (is_ask h) ask)
 
 abbrev pub Enters : List Entry → Option Body → Result (Unit {0}) ReplayFault → List Entry → Type 0
 Enters h next (Ok done) after = (body : Body) × (next ≡ Some body) × (is_stored body ≡ true) × (after ≡ h ++ unnumbered body ∷ [])

@@ -5,7 +5,7 @@ use Rattle.std.specs.Prelude.{◌≡◌, ℕ, ◌-◌, ◌≤◌, ◌^◌, Bool,
 use Rattle.ports.specs.Faults.{Counts}
 use Rattle.disk_model.specs.Images.{IsImage}
 use Rattle.disk_model.specs.Meaning.{Meaning, IsLong}
-use Rattle.disk_model.specs.Calls.{Kept, LeavesOnly, Within}
+use Rattle.disk_model.specs.Calls.{Kept, LeavesOnly, NextMoment, Within}
 
 pub record Spares (old new : Meaning) (failed : Bool) : Type 0 where
   pub reads : IsTrue old.honest → Within new.state old.state
@@ -21,3 +21,5 @@ pub record HasBegun (size moment faults : ℕ) (old new : Meaning) : Type 0 wher
   pub moment_is : moment ≡ new.moment
   pub faults_is : faults ≡ new.faults
   pub most : new.faults ≤ 2 ^ 64 - 1
+  -- nothing but the sync was a moment, and no call failed
+  pub next : NextMoment old new

@@ -1,16 +1,16 @@
 //! The entry of one payload.
-ghost use Rattle.std.specs.Prelude.{◌≡◌, ◌↔◌, ◌++◌, ◌∷◌, ℕ, List, [], None, Some, Ok, Err, OnOk, OnErr, IsTrue, IsSome};
+ghost use Rattle.std.specs.Prelude.{◌≡◌, ◌↔◌, ◌++◌, ◌∷◌, ℕ, List, [], None, Some, Ok, Err, OnOk, OnErr, IsTrue, IsSome, unwrap_or};
 ghost use Rattle.sha2.specs.Sha256.{sha256};
 ghost use Rattle.changeset_model.specs.Changeset.{spelling};
 ghost use Rattle.changeset_model.specs.Decoding.{decoded};
 ghost use Rattle.history_model.specs.History as model;
-ghost use Rattle.history_model.specs.History.{Book, stored, unnumbered};
-ghost use Rattle.history_model.specs.Journal.{framed, payload, IsPayload};
+ghost use Rattle.history_model.specs.History.{Book, Land, stored, unnumbered};
+ghost use Rattle.history_model.specs.Journal.{framed, payload as payload_of, IsPayload};
 ghost use Rattle.history_model.specs.Payload.{payload_body};
 ghost use Rattle.reply_model.specs.Legal.{IsLegal};
-ghost use Rattle.reply_model.specs.Opening.{next_entry};
+ghost use Rattle.reply_model.specs.Opening.{next_entry, nobody};
 ghost use Rattle.reply_model.specs.Reply.{PutContent, PutChangeset, SetBookmark, LandDraft};
-ghost use Rattle.repo_events.specs.Entries.{body_of, move_of};
+ghost use Rattle.repo_events.specs.Entries.{body_of, landing_of, move_of};
 ghost use Rattle.repo_machine.specs.Entering.{IsJudgedHere};
 ghost use Rattle.repo_machine.specs.Held.{HasRoom};
 ghost use Rattle.repo_machine.specs.Judged.{Frames};
@@ -34,8 +34,8 @@ pub fn enter_payload(
 ) -> Result<(), ReplayFault>
     requires legal { IsLegal machine.old.header machine.old.history }
     requires stored { machine.old.history ≡ stored machine.old.history }
-    ensures ok { OnOk result ((body : model.Body) × (next_entry machine.old.header machine.old.history payload.now ≡ Some body) × (machine.new.history ≡ machine.old.history ++ unnumbered body ∷ [])) }
-    ensures bad { result ≡ Err ReplayFault.BadPayload → next_entry machine.old.header machine.old.history payload.now ≡ None }
+    ensures ok { OnOk result ((body : model.Body) × ((file : List ℕ) → next_entry file machine.old.header machine.old.history payload.now ≡ Some body) × (machine.new.history ≡ machine.old.history ++ unnumbered body ∷ [])) }
+    ensures bad { result ≡ Err ReplayFault.BadPayload → (file : List ℕ) → next_entry file machine.old.header machine.old.history payload.now ≡ None }
     ensures err { OnErr result (machine.new.history ≡ machine.old.history) }
     ensures header { machine.new.header ≡ machine.old.header }
     ensures legal { IsLegal machine.new.header machine.new.history }
@@ -55,15 +55,17 @@ fn enter_body(
     requires decoded { payload_body payload.now ≡ Ok (body_of body) }
     requires spelled { IsPayload (body_of body) payload.now }
     requires legal { IsLegal machine.old.header machine.old.history }
-    ensures enters { Enters machine.old.history (next_entry machine.old.header machine.old.history payload.now) result machine.new.history }
+    ensures enters { (file : List ℕ) → Enters machine.old.history (next_entry file machine.old.header machine.old.history payload.now) result machine.new.history }
     ensures header { machine.new.header ≡ machine.old.header }
     ensures legal { IsLegal machine.new.header machine.new.history }
 {
     match body {
         Body::Content { id, length: _ } => enter_content(alloc, machine, id, &payload[1..]),
         Body::Change(commit) => enter_changeset(alloc, machine, commit, payload),
-        Body::Book(movement) => enter_move(alloc, machine, &movement),
+        Body::Book(movement) => enter_move(alloc, machine, &movement, payload),
         Body::Land(landing) => enter_landing(alloc, machine, &landing, payload),
+        // No change makes one.
+        Body::Whole { .. } | Body::Policy { .. } => Err(ReplayFault::BadPayload),
     }
 }
 
@@ -104,9 +106,15 @@ fn enter_changeset(
     enter_judged(machine, judged)
 }
 
-// Enters a bookmark's move that may be made there.
-fn enter_move(alloc: Global, machine: &mut Machine, movement: &Move) -> Result<(), ReplayFault>
-    ensures enters { Enters machine.old.history (asked_entry machine.old.header machine.old.history (payload (Book (move_of movement.now)) []) (SetBookmark movement.now.name movement.now.from movement.now.to)) result machine.new.history }
+// Enters a bookmark's move, if it is the one that the machine makes of its heads.
+fn enter_move(
+    alloc: Global,
+    machine: &mut Machine,
+    movement: &Move,
+    payload: &[u8],
+) -> Result<(), ReplayFault>
+    requires { payload.now ≡ payload_of (Book (move_of movement.now)) [] }
+    ensures enters { Enters machine.old.history (asked_entry machine.old.header machine.old.history payload.now (SetBookmark (unwrap_or movement.now.caller nobody) movement.now.name movement.now.from movement.now.to)) result machine.new.history }
     ensures header { machine.new.header ≡ machine.old.header }
     ensures legal { IsLegal machine.new.header machine.new.history }
 {
@@ -117,21 +125,27 @@ fn enter_move(alloc: Global, machine: &mut Machine, movement: &Move) -> Result<(
         movement.from,
         movement.to,
     )?;
+    if !makes_payload(&judged, payload) {
+        return Err(ReplayFault::BadPayload);
+    }
     enter_judged(machine, judged)
 }
 
-// Enters a landing, if it is the one that the machine makes of its draft.
+// Enters a landing, if it is the one that the machine makes of its draft at its moment.
 fn enter_landing(
     alloc: Global,
     machine: &mut Machine,
     landing: &Landing,
     payload: &[u8],
 ) -> Result<(), ReplayFault>
-    ensures enters { Enters machine.old.history (asked_entry machine.old.header machine.old.history payload.now (LandDraft landing.now.name landing.now.draft)) result machine.new.history }
+    requires { payload.now ≡ payload_of (Land (landing_of landing.now)) [] }
+    ensures enters { Enters machine.old.history (asked_entry machine.old.header machine.old.history payload.now (LandDraft (unwrap_or landing.now.caller nobody) landing.now.name landing.now.draft (unwrap_or landing.now.moment 0))) result machine.new.history }
     ensures header { machine.new.header ≡ machine.old.header }
     ensures legal { IsLegal machine.new.header machine.new.history }
 {
-    let judged = machine.judge_landing(alloc, NO_SEAT, &landing.name, landing.draft)?;
+    // What is landed without a moment has no date of it, so any moment makes the same.
+    let moment = landing.moment.unwrap_or(0);
+    let judged = machine.judge_landing(alloc, NO_SEAT, &landing.name, landing.draft, moment)?;
     if !makes_payload(&judged, payload) {
         return Err(ReplayFault::BadPayload);
     }

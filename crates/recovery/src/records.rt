@@ -7,11 +7,12 @@ ghost use Rattle.history_model.specs.Journal.{is_header};
 ghost use Rattle.repo_journal.specs.Scanning.{IsNext, step_at};
 ghost use Rattle.repo_journal.specs.declared.step.Step.TheVariants.{Record};
 ghost use Rattle.recovery.specs.Answers.{is_disk_fault, IsRefused};
-ghost use Rattle.recovery.specs.Headers.{IsHeaded};
+ghost use Rattle.recovery.specs.Headers.{header_view, IsHeaded};
 ghost use Rattle.recovery.specs.Reading.{IsAt, IsRead};
 ghost use Rattle.recovery.specs.Settling.{Spares};
 
 use crate::fault::OpenFault;
+use crate::header::Header;
 use crate::{ReplayFault, enter_payload};
 use blob_disk::Disk;
 use repo_events::MOST_PAYLOAD;
@@ -24,21 +25,21 @@ use std::hash::RandomState;
 // payload has less than 2^32 bytes.
 const MOST_READ: u64 = 68_719_476_736;
 
-/// The history that the records of a file of this size stand for, with this capacity.
+/// The history that the records of a file of this size stand for, with this header.
 pub(crate) fn read_records<D: Disk>(
     alloc: Global,
     keys: RandomState,
     disk: &mut D,
     size: u64,
-    capacity: u64,
+    header: Header,
 ) -> Result<Machine, OpenFault>
-    requires limits { IsTrue (is_header (record { capacity = capacity })) }
+    requires limits { IsTrue (is_header (header_view header)) }
     requires some { EMPTY_SIZE ≤ size }
     requires long { IsLong (D.meaning disk.old).reads size }
     requires whole { IsTrue (D.meaning disk.old).honest → size ≡ length (D.meaning disk.old).state.reads }
-    requires headed { IsTrue (D.meaning disk.old).honest → IsHeaded capacity (D.meaning disk.old).state.reads }
+    requires headed { IsTrue (D.meaning disk.old).honest → IsHeaded (header_view header) (D.meaning disk.old).state.reads }
     ensures read { IfOk result (λ machine. IsRead (D.meaning disk.new) machine.header machine.history) }
-    ensures header { IfOk result (λ machine. machine.header.capacity ≡ capacity) }
+    ensures header { IfOk result (λ machine. machine.header ≡ header_view header) }
     ensures refused { IfErr result (λ e. IsTrue (D.meaning disk.old).honest → IsRefused (D.meaning disk.old).state.reads e) }
     ensures looked { Looked (D.meaning disk.old) (D.meaning disk.new) }
     ensures spares { Spares (D.meaning disk.old) (D.meaning disk.new) (is_disk_fault result) }
@@ -47,7 +48,7 @@ pub(crate) fn read_records<D: Disk>(
     let Ok(mut scanner) = Scanner::new(alloc, size.min(MOST_READ)) else {
         return Err(OpenFault::Memory);
     };
-    let mut machine = Machine::new(alloc, keys, capacity);
+    let mut machine = Machine::new(alloc, keys, header.capacity, header.version);
     enter_all(alloc, disk, &mut scanner, &mut machine)?;
     Ok(machine)
 }

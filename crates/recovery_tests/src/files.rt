@@ -11,11 +11,11 @@ use std::test::Fail;
 const FILE: [u8; 26] =
     *b"BONSAI\x00\x01\x00\x00\x00\x00\x00\x01\x00\x00\x01\x00\x00\x00\x04Babc\x00";
 
-// How many entries were read, and how many bytes they take with the header and the closing gate.
+/// How many entries were read, and how many bytes they take with the header and the closing gate.
 #[derive(Clone, Copy, Debug, PartialEq, Eq)]
-struct Told {
-    entries: u64,
-    size: u64,
+pub(crate) struct Told {
+    pub(crate) entries: u64,
+    pub(crate) size: u64,
 }
 
 const WHOLE: Told = Told {
@@ -38,14 +38,15 @@ const LONG: Told = Told {
     size: 70_017,
 };
 
-// What a file opens as.
-type Came = Result<Told, OpenFault>;
+/// What a file opens as.
+pub(crate) type Came = Result<Told, OpenFault>;
 
 fn keys() -> Result<RandomState, Fail> {
     Ok(RandomState::new(&ZeroBytes)?)
 }
 
-fn damaged(at: u64) -> Came {
+/// The file is damaged at this place.
+pub(crate) fn damaged(at: u64) -> Came {
     Err(OpenFault::Damaged { at })
 }
 
@@ -82,7 +83,8 @@ fn disk_of(
     MemDisk::holding(alloc, file, file.len() as u64, failing)
 }
 
-fn check_file(
+/// A disk with this file opens so.
+pub(crate) fn check_file(
     rt: &impl Abort,
     alloc: Global,
     file: &[u8],
@@ -133,8 +135,10 @@ fn check_records(rt: &impl Abort, alloc: Global) -> Result<(), Fail> {
 }
 
 fn check_headers(rt: &impl Abort, alloc: Global) -> Result<(), Fail> {
-    // another version
-    check_changed(rt, alloc, 7, b"\x02", Err(OpenFault::NotARepository))?;
+    // the second version, and others
+    check_changed(rt, alloc, 7, b"\x02", Ok(WHOLE))?;
+    check_changed(rt, alloc, 7, b"\x00", Err(OpenFault::NotARepository))?;
+    check_changed(rt, alloc, 7, b"\x03", Err(OpenFault::NotARepository))?;
     // capacities of 4,095, 4,096, 34,359,738,368 and 34,359,738,369
     let capacity = b"\x00\x00\x00\x00\x00\x00\x0F\xFF";
     check_changed(rt, alloc, 8, capacity, damaged(8))?;

@@ -3,3 +3,7 @@
 
 #[cfg(test)]
 mod files;
+#[cfg(test)]
+mod samples;
+#[cfg(test)]
+mod versions;

@@ -1,22 +1,19 @@
 -- What a change makes is a stored entry, which may follow.
-use Rattle.std.proofs.Common.{◌<◌, ◌+◌, ◌≤◌, length-append, arith, ◌≡◌, ℕ, zero, suc, Bool, true, false, cond, List, [], ◌∷◌, ◌++◌, map, length, refl, sym, ap, subst, ◌∙◌}
-use Rattle.std.specs.Prelude.{◌&&◌, is_none, Option, None, Some, Result, Ok, Err, slice_get, is_some, find, bytes_eq, nat_lt, ok_or, ◌==◌, not, option_map, unwrap_or, if◌then◌else◌}
+use Rattle.std.proofs.Common.{◌≡◌, ℕ, Bool, true, false, cond, List, map, length, refl, sym, ap, subst}
+use Rattle.std.specs.Prelude.{Option, Some, Result, Ok, Err, is_some, find, bytes_eq, nat_lt, ok_or, ◌==◌, not, option_map, unwrap_or}
 use mathlib.Core.Bool.{true≢false}
-use Rattle.std.specs.List.{AllByRecursion}
-use Rattle.std.specs.Option.{option_and_then, option_map_or, option_eq, option_to_list}
-use Rattle.std.proofs.lemmas.List.{append-nil}
-use Rattle.std.proofs.lemmas.Bool.{and_parts, eqb-true, eqb-false}
+use Rattle.std.specs.List.{concat}
+use Rattle.std.specs.Option.{option_eq, option_to_list}
 use Rattle.sha2.specs.Sha256.{sha256}
 use Rattle.byte_fields.specs.Bytes.{Id, first_some}
 use Rattle.changeset_model.specs.Changeset.{Changeset, id_of, sets_of, touched_paths}
 use Rattle.changeset_model.specs.Decoding.{decoded}
-use Rattle.history_model.specs.History.{Body, Content, Change, Book, Land, Fault, Entry, is_stored, unnumbered, bodies, stored, is_down, known, is_known, content_len}
+use Rattle.history_model.specs.History.{Body, Content, Whole, Change, Book, Land, Policy, Fault, Entry, is_stored, is_down, known, is_known, content_len}
 use Rattle.history_model.specs.Bookmark.{head}
-use Rattle.history_model.specs.Pushrebase.{fork, clash, rewrite}
+use Rattle.history_model.specs.Pushrebase.{fork, clash, rewrite, moment_of}
 use Rattle.history_model.specs.Journal.{Header, payload_len, most_payload, size, is_full}
-use Rattle.reply_model.specs.Reply.{is_ask, Down, Merge, NoParent, content_refusal, collides, Collision, NoChangeset, Moved, TooLarge, first_collision, NoBookmark, NoRoot, TooFarBehind, AlreadyIn, StackTooLong, Clash, most_range, most_stack, Ask, PutContent, PutChangeset, SetBookmark, LandDraft, Refusal, Granted, ContentPut, ChangesetPut, BookmarkSet, Landed, Judged, ◌>>=◌, Full, refuse_if, refuse_some, unchanged, entered, put_content, accepted, put_changeset, set_bookmark, enter_landing, land, by_ask, judge}
-use Rattle.reply_model.specs.Legal.{MayFollow, IsLegal}
-use Rattle.manifest_model.specs.Manifests.{Job, derive}
+use Rattle.reply_model.specs.Reply.{is_ask, Down, Merge, OldFormat, NoParent, Unresolved, unresolved_of, MergeInStack, MergeInRange, is_merge, told, parts_of, put_whole, WholePut, PutWhole, content_refusal, collides, Collision, NoChangeset, Moved, TooLarge, first_collision, NoBookmark, NoRoot, TooFarBehind, AlreadyIn, StackTooLong, Clash, most_range, most_stack, Ask, PutContent, PutChangeset, SetBookmark, LandDraft, Refusal, Granted, ContentPut, ChangesetPut, BookmarkSet, Landed, Judged, ◌>>=◌, Full, refuse_if, refuse_some, unchanged, entered, put_content, accepted, put_changeset, set_bookmark, enter_landing, land, by_ask, judge}
+use Rattle.reply_model.specs.Legal.{MayFollow}
 
 abbrev pub MakesStored : Result Judged Refusal → Type 0
 MakesStored (Ok judged) = (body : Body) → judged.made ≡ Some body → is_stored body ≡ true
@@ -52,45 +49,51 @@ put_changeset_stored header h bytes =
     through (refuse_if (nat_lt 1 (length c.parents)) Merge) _ (λ _.
     through (refuse_some (find (λ p. not (is_known (known h) p)) c.parents) NoParent) _ (λ _.
     through (refuse_some (first_some (λ e. content_refusal e (content_len h e.1.content)) (sets_of c)) (λ refusal. refusal)) _ (λ _.
+    through (refuse_some (unresolved_of (known h) c c.parents) Unresolved) _ (λ _.
     through (refuse_if (collides (known h) c) (Collision (id_of c))) _ (λ _.
-    either (is_known (known h) (id_of c)) _ _ (none_made (ChangesetPut (id_of c))) (entered_stored header h (ChangesetPut (id_of c)) (Change c) refl))))))
+    either (is_known (known h) (id_of c)) _ _ (none_made (ChangesetPut (id_of c))) (entered_stored header h (ChangesetPut (id_of c)) (Change c) refl)))))))
 
-set_bookmark_stored : (header : Header) (h : List Entry) (name : List ℕ) (from to : Option Id) → Stores (set_bookmark header h name from to)
-set_bookmark_stored header h name from to =
+set_bookmark_stored : (header : Header) (h : List Entry) (caller name : List ℕ) (from to : Option Id) → Stores (set_bookmark header h caller name from to)
+set_bookmark_stored header h caller name from to =
     through (refuse_some (find (λ x. not (is_known (known h) x)) (option_to_list to)) NoChangeset) _ (λ _.
     through (refuse_if (not (option_eq bytes_eq (head h name) from)) (Moved (head h name))) _ (λ _.
-    either (option_eq bytes_eq from to) _ _ (none_made BookmarkSet) (entered_stored header h BookmarkSet (Book (record { name = name; from = from; to = to })) refl)))
+    either (option_eq bytes_eq from to) _ _ (none_made BookmarkSet) (entered_stored header h BookmarkSet (Book (record { name = name; from = from; to = to; caller = told h caller })) refl)))
 
-enter_landing_stored : (header : Header) (h : List Entry) (name : List ℕ) (old draft : Id) (new : List Changeset) → Stores (enter_landing header h name old draft new)
-enter_landing_stored header h name old draft new =
-    let body : Body = Land (record { name = name; old = old; draft = draft; new = new }) in
+enter_landing_stored : (header : Header) (h : List Entry) (caller : Option (List ℕ)) (name : List ℕ) (old draft : Id) (new : List Changeset) (moment : Option ℕ) → Stores (enter_landing header h caller name old draft new moment)
+enter_landing_stored header h caller name old draft new moment =
+    let body : Body = Land (record { name = name; old = old; draft = draft; new = new; moment = moment; caller = caller }) in
     through (refuse_if (nat_lt most_payload (payload_len body)) (TooLarge (payload_len body))) _ (λ _.
     through (refuse_some (first_collision (known h) new) Collision) _ (λ _.
     entered_stored header h (Landed old (map id_of new)) body refl))
 
-land_stored : (header : Header) (h : List Entry) (name : List ℕ) (draft : Id) → Stores (land header h name draft)
-land_stored header h name draft =
+land_stored : (header : Header) (h : List Entry) (caller name : List ℕ) (draft : Id) (moment : ℕ) → Stores (land header h caller name draft moment)
+land_stored header h caller name draft moment =
     through (ok_or (head h name) NoBookmark) _ (λ old.
     through (refuse_if (not (is_known (known h) draft)) (NoChangeset draft)) _ (λ _.
     through (ok_or (fork (known h) old draft) NoRoot) _ (λ f.
     through (refuse_if (nat_lt most_range (length f.range)) (TooFarBehind (length f.range))) _ (λ _.
     through (refuse_if (length f.stack == 0) AlreadyIn) _ (λ _.
     through (refuse_if (nat_lt most_stack (length f.stack)) (StackTooLong (length f.stack))) _ (λ _.
+    through (refuse_some (option_map id_of (find is_merge f.stack)) MergeInStack) _ (λ _.
+    through (refuse_some (option_map id_of (find is_merge f.range)) MergeInRange) _ (λ _.
     through (refuse_some (clash (touched_paths f.stack) (touched_paths f.range)) (λ pair. Clash pair.0 pair.1)) _ (λ _.
-    enter_landing_stored header h name old draft (rewrite f.stack old))))))))
+    enter_landing_stored header h (told h caller) name old draft (rewrite f.stack old moment) (moment_of f.stack moment))))))))))
 
 by_ask_stored : (header : Header) (h : List Entry) (ask : Ask) → Stores (by_ask header h ask)
 by_ask_stored header h (PutContent bytes) = put_content_stored header h bytes
+by_ask_stored header h (PutWhole body pieces) = record { each = tt }
 by_ask_stored header h (PutChangeset bytes) = put_changeset_stored header h bytes
-by_ask_stored header h (SetBookmark name from to) = set_bookmark_stored header h name from to
-by_ask_stored header h (LandDraft name draft) = land_stored header h name draft
+by_ask_stored header h (SetBookmark caller name from to) = set_bookmark_stored header h caller name from to
+by_ask_stored header h (LandDraft caller name draft moment) = land_stored header h caller name draft moment
 
 pub judge_stored : (header : Header) (h : List Entry) (ask : Ask) → MakesStored (judge header h ask)
 judge_stored header h ask = (through (refuse_if (is_down h) Down) _ (λ _. by_ask_stored header h ask)).each
 
-pub follows_granted : (header : Header) (h : List Entry) (ask : Ask) (granted : Granted) (body : Body) → is_ask ask ≡ true → is_stored body ≡ true → judge header h ask ≡ Ok (record { granted = granted; made = Some body }) → MayFollow header h body
+pub follows_granted : (header : Header) (h : List Entry) (ask : Ask) (granted : Granted) (body : Body) → is_ask h ask ≡ true → is_stored body ≡ true → judge header h ask ≡ Ok (record { granted = granted; made = Some body }) → MayFollow header h body
 follows_granted header h ask granted (Fault breaking) a s e = absurd (true≢false (sym s))
 follows_granted header h ask granted (Content x n) a s e = (ask, granted, a, e)
+follows_granted header h ask granted (Whole x n parts) a s e = (ask, granted, a, e)
+follows_granted header h ask granted (Policy caller text) a s e = (ask, granted, a, e)
 follows_granted header h ask granted (Change c) a s e = (ask, granted, a, e)
 follows_granted header h ask granted (Book move) a s e = (ask, granted, a, e)
 follows_granted header h ask granted (Land landing) a s e = (ask, granted, a, e)

@@ -11,16 +11,16 @@ use Rattle.sha2.specs.Sha256.{sha256}
 use Rattle.byte_fields.specs.Bytes.{Id, first_some, last_of, last_some}
 use Rattle.changeset_model.specs.Changeset.{Changeset, id_of, sets_of, touched_paths, most_content}
 use Rattle.changeset_model.specs.Decoding.{decoded}
-use Rattle.history_model.specs.History.{Body, Content, Change, Book, Land, Fault, Entry, Known, with_id, each_id_once, is_down, changesets_in, known, is_known, content_len}
+use Rattle.history_model.specs.History.{Body, Content, Whole, Change, Book, Land, Policy, Fault, Entry, Known, with_id, each_id_once, is_down, changesets_in, known, is_known, content_len}
 use Rattle.history_model.specs.Chain.{HasParents, IsChain, chain}
-use Rattle.std.specs.List.{AllByRecursion, last_or}
+use Rattle.std.specs.List.{AllByRecursion, last_or, concat}
 use Rattle.byte_fields.proofs.Lists.{weaker}
 use Rattle.history_model.proofs.Chains.{chain_is_right}
 use Rattle.std.proofs.lemmas.Grind.{flat_map-append}
 use Rattle.history_model.specs.Bookmark.{moved_to, head}
-use Rattle.history_model.specs.Pushrebase.{Fork, fork, clash, on_parent, rewrite}
+use Rattle.history_model.specs.Pushrebase.{Fork, fork, clash, on_parent, rewrite, moment_of}
 use Rattle.history_model.specs.Journal.{Header, payload_len, most_payload, size, is_full}
-use Rattle.reply_model.specs.Reply.{Ask, PutContent, PutChangeset, SetBookmark, LandDraft, Refusal, Down, TooLong, Full, Merge, NoParent, Collision, NoChangeset, Moved, NoBookmark, NoRoot, TooFarBehind, AlreadyIn, StackTooLong, Clash, TooLarge, Granted, ContentPut, ChangesetPut, BookmarkSet, Landed, Judged, ◌>>=◌, refuse_if, refuse_some, unchanged, entered, accepted, content_refusal, collides, first_collision, most_range, most_stack, by_ask, judge}
+use Rattle.reply_model.specs.Reply.{Ask, PutContent, PutWhole, PutChangeset, SetBookmark, LandDraft, Refusal, Down, TooLong, Full, Merge, NoParent, Unresolved, unresolved_of, MergeInStack, MergeInRange, is_merge, told, parts_of, WholePut, Collision, NoChangeset, Moved, NoBookmark, NoRoot, TooFarBehind, AlreadyIn, StackTooLong, Clash, TooLarge, Granted, ContentPut, ChangesetPut, BookmarkSet, Landed, Judged, ◌>>=◌, refuse_if, refuse_some, unchanged, entered, accepted, content_refusal, collides, first_collision, most_range, most_stack, by_ask, judge}
 use Rattle.reply_model.specs.Legal.{MayFollow, GoesOn, IsLegal}
 use Rattle.byte_fields.proofs.Booleans.{not_false as not_not, or_turned as or_swap, same_some as some_same}
 use Rattle.byte_fields.proofs.Lists.{option_or-assoc as or_assoc}
@@ -107,9 +107,11 @@ has_parents before (k ∷ ks) h g =
 -- the ids that an entry builds on are known
 abbrev pub Fact : List Known → Body → Type 0
 Fact ks (Content x n) = Unit {0}
+Fact ks (Whole x n parts) = Unit {0}
+Fact ks (Policy caller text) = Unit {0}
 Fact ks (Change c) = AllByRecursion (λ p. is_known ks p ≡ true) c.parents
 Fact ks (Book move) = IfSome move.to (λ x. is_known ks x ≡ true)
-Fact ks (Land landing) = (is_known ks landing.old ≡ true) × (stack : List Changeset) × (landing.new ≡ rewrite stack landing.old)
+Fact ks (Land landing) = (is_known ks landing.old ≡ true) × (stack : List Changeset) × (moment : ℕ) × (landing.new ≡ rewrite stack landing.old moment)
 Fact ks (Fault breaking) = Unit {0}
 
 abbrev MakesFact : List Known → Result Judged Refusal → Type 0
@@ -185,33 +187,37 @@ sound_ask header h heads (PutChangeset bytes) =
     through (brought h) (refuse_if (nat_lt 1 (length c.parents)) Merge) _ (λ _ _.
     through (brought h) (refuse_some (find (λ p. not (is_known (known h) p)) c.parents) NoParent) _ (λ u e.
     through (brought h) (refuse_some (first_some (λ e. content_refusal e (content_len h e.1.content)) (sets_of c)) (λ refusal. refusal)) _ (λ _ _.
+    through (brought h) (refuse_some (unresolved_of (known h) c c.parents) Unresolved) _ (λ _ _.
     through (brought h) (refuse_if (collides (known h) c) (Collision (id_of c))) _ (λ _ _.
     either (brought h) (is_known (known h) (id_of c)) _ _ (sound_none (brought h) (ChangesetPut (id_of c))) (sound_entered (brought h) header h (ChangesetPut (id_of c)) (Change c)
-    (weaker (λ p. is_known (known h) p ≡ true) (λ p. is_known (brought h) p ≡ true) (each_known (brought h)) c.parents (all_known (known h) c.parents (none_refused _ NoParent u e)))))))))
-sound_ask header h heads (SetBookmark name from to) =
+    (weaker (λ p. is_known (known h) p ≡ true) (λ p. is_known (brought h) p ≡ true) (each_known (brought h)) c.parents (all_known (known h) c.parents (none_refused _ NoParent u e))))))))))
+sound_ask header h heads (PutWhole body pieces) = record { each = tt }
+sound_ask header h heads (SetBookmark caller name from to) =
     through (brought h) (refuse_some (find (λ x. not (is_known (known h) x)) (option_to_list to)) NoChangeset) _ (λ u e.
     through (brought h) (refuse_if (not (option_eq bytes_eq (head h name) from)) (Moved (head h name))) _ (λ _ _.
-    either (brought h) (option_eq bytes_eq from to) _ _ (sound_none (brought h) BookmarkSet) (sound_entered (brought h) header h BookmarkSet (Book (record { name = name; from = from; to = to }))
+    either (brought h) (option_eq bytes_eq from to) _ _ (sound_none (brought h) BookmarkSet) (sound_entered (brought h) header h BookmarkSet (Book (record { name = name; from = from; to = to; caller = told h caller }))
     (target to (none_refused _ NoChangeset u e)))))
   where
     target : (to : Option Id) → find (λ x. not (is_known (known h) x)) (option_to_list to) ≡ None → IfSome to (λ x. is_known (brought h) x ≡ true)
     target None e = tt
     target (Some x) e = each_known (brought h) x (all_known (known h) (x ∷ []) e).0
-sound_ask header h heads (LandDraft name draft) =
+sound_ask header h heads (LandDraft caller name draft moment) =
     through (brought h) (ok_or (head h name) NoBookmark) _ (λ old e.
     through (brought h) (refuse_if (not (is_known (known h) draft)) (NoChangeset draft)) _ (λ _ _.
     through (brought h) (ok_or (fork (known h) old draft) NoRoot) _ (λ f _.
     through (brought h) (refuse_if (nat_lt most_range (length f.range)) (TooFarBehind (length f.range))) _ (λ _ _.
     through (brought h) (refuse_if (length f.stack == 0) AlreadyIn) _ (λ _ _.
     through (brought h) (refuse_if (nat_lt most_stack (length f.stack)) (StackTooLong (length f.stack))) _ (λ _ _.
+    through (brought h) (refuse_some (option_map id_of (find is_merge f.stack)) MergeInStack) _ (λ _ _.
+    through (brought h) (refuse_some (option_map id_of (find is_merge f.range)) MergeInRange) _ (λ _ _.
     through (brought h) (refuse_some (clash (touched_paths f.stack) (touched_paths f.range)) (λ pair. Clash pair.0 pair.1)) _ (λ _ _.
     through (brought h) (refuse_if (nat_lt most_payload (payload_len (landed old f))) (TooLarge (payload_len (landed old f)))) _ (λ _ _.
-    through (brought h) (refuse_some (first_collision (known h) (rewrite f.stack old)) Collision) _ (λ _ _.
-    sound_entered (brought h) header h (Landed old (map id_of (rewrite f.stack old))) (landed old f)
-    (head_known (brought h) (head h name) old (was_some (head h name) NoBookmark old e) (heads name), f.stack, refl))))))))))
+    through (brought h) (refuse_some (first_collision (known h) (rewrite f.stack old moment)) Collision) _ (λ _ _.
+    sound_entered (brought h) header h (Landed old (map id_of (rewrite f.stack old moment))) (landed old f)
+    (head_known (brought h) (head h name) old (was_some (head h name) NoBookmark old e) (heads name), f.stack, moment, refl))))))))))))
   where
     landed : Id → Fork → Body
-    landed old f = Land (record { name = name; old = old; draft = draft; new = rewrite f.stack old })
+    landed old f = Land (record { name = name; old = old; draft = draft; new = rewrite f.stack old moment; moment = moment_of f.stack moment; caller = told h caller })
 
 sound_judge : (header : Header) (h : List Entry) → HeadsKnown h → (ask : Ask) → Sound (brought h) (judge header h ask)
 sound_judge header h heads ask = through (brought h) (refuse_if (is_down h) Down) _ (λ _ _. sound_ask header h heads ask)
@@ -221,6 +227,8 @@ fact_of header h heads body ask granted e = subst (MakesFact (brought h)) e (sou
 
 pub fact_of_next : (header : Header) (h : List Entry) → HeadsKnown h → (body : Body) → MayFollow header h body → Fact (brought h) body
 fact_of_next header h heads (Content x n) m = tt
+fact_of_next header h heads (Whole x n parts) m = tt
+fact_of_next header h heads (Policy caller text) m = tt
 fact_of_next header h heads (Change c) m = fact_of header h heads (Change c) m.0 m.1 m.3
 fact_of_next header h heads (Book move) m = fact_of header h heads (Book move) m.0 m.1 m.3
 fact_of_next header h heads (Land landing) m = fact_of header h heads (Land landing) m.0 m.1 m.3
@@ -228,17 +236,19 @@ fact_of_next header h heads (Fault breaking) m = tt
 
 -- ---- parents and heads after one more entry
 
-rewrite_parents : (ks : List Known) (stack : List Changeset) (head : Id) → is_known ks head ≡ true → ParentsFirst ks (map with_id (rewrite stack head))
-rewrite_parents ks [] head h = tt
-rewrite_parents ks (c ∷ cs) head h =
-    let new = on_parent head c in
-    ((h, tt), rewrite_parents (ks ++ with_id new ∷ []) cs (id_of new) (known_last ks (with_id new)))
+rewrite_parents : (ks : List Known) (stack : List Changeset) (head : Id) (moment : ℕ) → is_known ks head ≡ true → ParentsFirst ks (map with_id (rewrite stack head moment))
+rewrite_parents ks [] head moment h = tt
+rewrite_parents ks (c ∷ cs) head moment h =
+    let new = on_parent head moment c in
+    ((h, tt), rewrite_parents (ks ++ with_id new ∷ []) cs (id_of new) moment (known_last ks (with_id new)))
 
 parents_of_next : (ks : List Known) (body : Body) → Fact ks body → ParentsFirst ks (map with_id (changesets_in body))
 parents_of_next ks (Content x n) fact = tt
+parents_of_next ks (Whole x n parts) fact = tt
+parents_of_next ks (Policy caller text) fact = tt
 parents_of_next ks (Change c) fact = (fact, tt)
 parents_of_next ks (Book move) fact = tt
-parents_of_next ks (Land landing) fact = subst (λ new. ParentsFirst ks (map with_id new)) (sym fact.2) (rewrite_parents ks fact.1 landing.old fact.0)
+parents_of_next ks (Land landing) fact = subst (λ new. ParentsFirst ks (map with_id new)) (sym fact.3) (rewrite_parents ks fact.1 landing.old fact.2 fact.0)
 parents_of_next ks (Fault breaking) fact = tt
 
 pub brought-push : (h : List Entry) (e : Entry) → brought (h ++ e ∷ []) ≡ brought h ++ map with_id (changesets_in e.body)
@@ -262,6 +272,8 @@ moved_by false to t e = absurd cc
 
 target_known : (ks : List Known) (body : Body) → Fact ks body → (name : List ℕ) (t : Option Id) → moved_to name body ≡ Some t → IfSome t (λ x. is_known (ks ++ map with_id (changesets_in body)) x ≡ true)
 target_known ks (Content x n) fact name t e = absurd cc
+target_known ks (Whole x n parts) fact name t e = absurd cc
+target_known ks (Policy caller text) fact name t e = absurd cc
 target_known ks (Change c) fact name t e = absurd cc
 target_known ks (Fault breaking) fact name t e = absurd cc
 target_known ks (Book move) fact name t e =

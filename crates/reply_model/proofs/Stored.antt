@@ -1,18 +1,20 @@
 -- The stored entries of a history tell of it what the history tells, but for its faults.
 use Rattle.std.proofs.Common.{◌≡◌, ℕ, ◌+◌, Bool, true, false, cond, not, List, [], ◌∷◌, ◌++◌, map, length, refl, sym, ap, subst, ◌∙◌}
-use Rattle.std.specs.Prelude.{flat_map, Option, None, Some, Ok, ◌==◌, nat_lt, is_some, find, bytes_eq, ok_or, sum_by}
+use Rattle.std.specs.List.{list_any, concat}
+use Rattle.changeset_model.specs.Version.{is_second}
+use Rattle.std.specs.Prelude.{flat_map, ◌&&◌, option_map, is_none, Option, None, Some, Ok, ◌==◌, nat_lt, is_some, find, bytes_eq, ok_or, sum_by}
 use mathlib.Core.Bool.{true≢false}
 use Rattle.std.specs.Option.{option_or, option_flatten, option_eq, option_to_list}
 use Rattle.std.proofs.lemmas.List.{map-append, append-nil}
 use Rattle.sha2.specs.Sha256.{sha256}
-use Rattle.byte_fields.specs.Bytes.{Id, first_some, last_some}
+use Rattle.byte_fields.specs.Bytes.{Id, first_some, last_some, are_bytes}
 use Rattle.changeset_model.specs.Changeset.{Changeset, id_of, sets_of, touched_paths, most_content}
 use Rattle.changeset_model.specs.Decoding.{decoded}
-use Rattle.history_model.specs.History.{Body, Content, Change, Book, Land, Fault, Entry, with_id, each_id_once, is_stored, unnumbered, bodies, stored, is_down, changesets_in, known, is_known, length_in, content_len}
+use Rattle.history_model.specs.History.{Body, Content, Whole, Change, Book, Land, Policy, Fault, Entry, with_id, each_id_once, is_stored, unnumbered, bodies, stored, is_down, changesets_in, known, is_known, length_in, content_len, is_whole_with, is_policy}
 use Rattle.history_model.specs.Bookmark.{moved_to, head}
-use Rattle.history_model.specs.Pushrebase.{fork, clash, rewrite}
+use Rattle.history_model.specs.Pushrebase.{fork, clash, rewrite, moment_of}
 use Rattle.history_model.specs.Journal.{Header, record_len, payload_len, most_payload, size}
-use Rattle.reply_model.specs.Reply.{Ask, PutContent, PutChangeset, SetBookmark, LandDraft, Down, TooLong, Full, Merge, NoParent, Collision, NoChangeset, Moved, NoBookmark, NoRoot, TooFarBehind, AlreadyIn, StackTooLong, Clash, TooLarge, Granted, ContentPut, ChangesetPut, BookmarkSet, Landed, Judged, ◌>>=◌, refuse_if, refuse_some, unchanged, entered, put_content, accepted, content_refusal, collides, put_changeset, set_bookmark, first_collision, most_range, most_stack, enter_landing, land, by_ask, judge}
+use Rattle.reply_model.specs.Reply.{Ask, PutContent, PutWhole, PutChangeset, SetBookmark, LandDraft, is_ask, are_pieces, ids_in, is_parts_len, BadParts, OldFormat, NoPiece, NotAPiece, parts_of, put_whole, WholePut, Down, TooLong, Full, Merge, NoParent, Unresolved, unresolved_of, MergeInStack, MergeInRange, is_merge, told, Collision, NoChangeset, Moved, NoBookmark, NoRoot, TooFarBehind, AlreadyIn, StackTooLong, Clash, TooLarge, Granted, ContentPut, ChangesetPut, BookmarkSet, Landed, Judged, ◌>>=◌, refuse_if, refuse_some, unchanged, entered, put_content, accepted, content_refusal, collides, put_changeset, set_bookmark, first_collision, most_range, most_stack, enter_landing, land, by_ask, judge}
 use Rattle.reply_model.specs.Legal.{MayFollow, GoesOn, IsLegal}
 use Rattle.reply_model.proofs.Histories.{bodies-append}
 use Rattle.reply_model.proofs.Parents.{or_none}
@@ -88,48 +90,68 @@ put_content-stored header h bytes =
     (λ i. refuse_if (nat_lt most_content (length bytes)) (TooLong (length bytes)) >>= λ _.
     cond (is_some (content_len-stored h (sha256 bytes) i)) (unchanged (ContentPut (sha256 bytes))) (entered-stored header h (ContentPut (sha256 bytes)) (Content (sha256 bytes) (length bytes)) i))
 
+told-stored : (h : List Entry) (caller : List ℕ) → told (stored h) caller ≡ told h caller
+told-stored h caller = ap (λ bs. cond (list_any is_policy bs) (Some caller) None) (bodies-stored h)
+
 put_changeset-stored : (header : Header) (h : List Entry) (bytes : List ℕ) → put_changeset header (stored h) bytes ≡ put_changeset header h bytes
 put_changeset-stored header h bytes =
     (λ i. accepted (decoded bytes) >>= λ c.
     refuse_if (nat_lt 1 (length c.parents)) Merge >>= λ _.
     refuse_some (find (λ p. not (is_known (known-stored h i) p)) c.parents) NoParent >>= λ _.
     refuse_some (first_some (λ e. content_refusal e (content_len-stored h e.1.content i)) (sets_of c)) (λ refusal. refusal) >>= λ _.
+    refuse_some (unresolved_of (known-stored h i) c c.parents) Unresolved >>= λ _.
     refuse_if (collides (known-stored h i) c) (Collision (id_of c)) >>= λ _.
     cond (is_known (known-stored h i) (id_of c)) (unchanged (ChangesetPut (id_of c))) (entered-stored header h (ChangesetPut (id_of c)) (Change c) i))
 
-set_bookmark-stored : (header : Header) (h : List Entry) (name : List ℕ) (from to : Option Id) → set_bookmark header (stored h) name from to ≡ set_bookmark header h name from to
-set_bookmark-stored header h name from to =
+set_bookmark-stored : (header : Header) (h : List Entry) (caller name : List ℕ) (from to : Option Id) → set_bookmark header (stored h) caller name from to ≡ set_bookmark header h caller name from to
+set_bookmark-stored header h caller name from to =
     (λ i. refuse_some (find (λ x. not (is_known (known-stored h i) x)) (option_to_list to)) NoChangeset >>= λ _.
     refuse_if (not (option_eq bytes_eq (head-stored h name i) from)) (Moved (head-stored h name i)) >>= λ _.
-    cond (option_eq bytes_eq from to) (unchanged BookmarkSet) (entered-stored header h BookmarkSet (Book (record { name = name; from = from; to = to })) i))
+    cond (option_eq bytes_eq from to) (unchanged BookmarkSet) (entered-stored header h BookmarkSet (Book (record { name = name; from = from; to = to; caller = told-stored h caller i })) i))
 
-enter_landing-stored : (header : Header) (h : List Entry) (name : List ℕ) (old draft : Id) (new : List Changeset) → enter_landing header (stored h) name old draft new ≡ enter_landing header h name old draft new
-enter_landing-stored header h name old draft new =
-    let body : Body = Land (record { name = name; old = old; draft = draft; new = new }) in
+enter_landing-stored : (header : Header) (h : List Entry) (caller : Option (List ℕ)) (name : List ℕ) (old draft : Id) (new : List Changeset) (moment : Option ℕ) → enter_landing header (stored h) caller name old draft new moment ≡ enter_landing header h caller name old draft new moment
+enter_landing-stored header h caller name old draft new moment =
+    let body : Body = Land (record { name = name; old = old; draft = draft; new = new; moment = moment; caller = caller }) in
     (λ i. refuse_if (nat_lt most_payload (payload_len body)) (TooLarge (payload_len body)) >>= λ _.
     refuse_some (first_collision (known-stored h i) new) Collision >>= λ _.
     entered-stored header h (Landed old (map id_of new)) body i)
 
-land-stored : (header : Header) (h : List Entry) (name : List ℕ) (draft : Id) → land header (stored h) name draft ≡ land header h name draft
-land-stored header h name draft =
+land-stored : (header : Header) (h : List Entry) (caller name : List ℕ) (draft : Id) (moment : ℕ) → land header (stored h) caller name draft moment ≡ land header h caller name draft moment
+land-stored header h caller name draft moment =
     (λ i. ok_or (head-stored h name i) NoBookmark >>= λ old.
     refuse_if (not (is_known (known-stored h i) draft)) (NoChangeset draft) >>= λ _.
     ok_or (fork (known-stored h i) old draft) NoRoot >>= λ f.
     refuse_if (nat_lt most_range (length f.range)) (TooFarBehind (length f.range)) >>= λ _.
     refuse_if (length f.stack == 0) AlreadyIn >>= λ _.
     refuse_if (nat_lt most_stack (length f.stack)) (StackTooLong (length f.stack)) >>= λ _.
+    refuse_some (option_map id_of (find is_merge f.stack)) MergeInStack >>= λ _.
+    refuse_some (option_map id_of (find is_merge f.range)) MergeInRange >>= λ _.
     refuse_some (clash (touched_paths f.stack) (touched_paths f.range)) (λ pair. Clash pair.0 pair.1) >>= λ _.
-    enter_landing-stored header h name old draft (rewrite f.stack old) i)
+    enter_landing-stored header h (told-stored h caller i) name old draft (rewrite f.stack old moment) (moment_of f.stack moment) i)
 
 by_ask-stored : (header : Header) (h : List Entry) (ask : Ask) → by_ask header (stored h) ask ≡ by_ask header h ask
 by_ask-stored header h (PutContent bytes) = put_content-stored header h bytes
+by_ask-stored header h (PutWhole body pieces) = refl
 by_ask-stored header h (PutChangeset bytes) = put_changeset-stored header h bytes
-by_ask-stored header h (SetBookmark name from to) = set_bookmark-stored header h name from to
-by_ask-stored header h (LandDraft name draft) = land-stored header h name draft
+by_ask-stored header h (SetBookmark caller name from to) = set_bookmark-stored header h caller name from to
+by_ask-stored header h (LandDraft caller name draft moment) = land-stored header h caller name draft moment
 
 -- what a history without a breaking fault grants, its stored entries grant
 pub judge-stored : (header : Header) (h : List Entry) (ask : Ask) → is_down h ≡ false → judge header (stored h) ask ≡ judge header h ask
 judge-stored header h ask up = (λ i. refuse_if ((is_down-stored h ∙ sym up) i) Down >>= λ _. by_ask-stored header h ask i)
+
+are_pieces-stored : (h : List Entry) (xs : List Id) (pieces : List (List ℕ)) → are_pieces (stored h) xs pieces ≡ are_pieces h xs pieces
+are_pieces-stored h [] [] = refl
+are_pieces-stored h [] (piece ∷ pieces) = refl
+are_pieces-stored h (x ∷ xs) [] = refl
+are_pieces-stored h (x ∷ xs) (piece ∷ pieces) = (λ i. (are_bytes piece && bytes_eq (sha256 piece) x && option_eq (λ n m. n == m) (content_len-stored h x i) (Some (length piece))) && are_pieces-stored h xs pieces i)
+
+pub is_ask-stored : (h : List Entry) (ask : Ask) → is_ask (stored h) ask ≡ is_ask h ask
+is_ask-stored h (PutContent bytes) = refl
+is_ask-stored h (PutWhole body pieces) = ap (λ b. are_bytes body && b) (are_pieces-stored h (ids_in body) pieces)
+is_ask-stored h (PutChangeset bytes) = refl
+is_ask-stored h (SetBookmark caller name from to) = refl
+is_ask-stored h (LandDraft caller name draft moment) = refl
 
 -- ---- legality
 
@@ -143,10 +165,12 @@ granted_is_up header h ask judged granted = up_where_granted header h ask judged
 
 pub follows_stored : (header : Header) (h : List Entry) (body : Body) → is_stored body ≡ true → MayFollow header h body → MayFollow header (stored h) body
 follows_stored header h (Fault breaking) s m = absurd (true≢false (sym s))
-follows_stored header h (Content x n) s m = (m.0, m.1, m.2, judge-stored header h m.0 (granted_is_up header h m.0 _ m.3) ∙ m.3)
-follows_stored header h (Change c) s m = (m.0, m.1, m.2, judge-stored header h m.0 (granted_is_up header h m.0 _ m.3) ∙ m.3)
-follows_stored header h (Book move) s m = (m.0, m.1, m.2, judge-stored header h m.0 (granted_is_up header h m.0 _ m.3) ∙ m.3)
-follows_stored header h (Land landing) s m = (m.0, m.1, m.2, judge-stored header h m.0 (granted_is_up header h m.0 _ m.3) ∙ m.3)
+follows_stored header h (Content x n) s m = (m.0, m.1, is_ask-stored h m.0 ∙ m.2, judge-stored header h m.0 (granted_is_up header h m.0 _ m.3) ∙ m.3)
+follows_stored header h (Whole x n parts) s m = (m.0, m.1, is_ask-stored h m.0 ∙ m.2, judge-stored header h m.0 (granted_is_up header h m.0 _ m.3) ∙ m.3)
+follows_stored header h (Policy caller text) s m = (m.0, m.1, is_ask-stored h m.0 ∙ m.2, judge-stored header h m.0 (granted_is_up header h m.0 _ m.3) ∙ m.3)
+follows_stored header h (Change c) s m = (m.0, m.1, is_ask-stored h m.0 ∙ m.2, judge-stored header h m.0 (granted_is_up header h m.0 _ m.3) ∙ m.3)
+follows_stored header h (Book move) s m = (m.0, m.1, is_ask-stored h m.0 ∙ m.2, judge-stored header h m.0 (granted_is_up header h m.0 _ m.3) ∙ m.3)
+follows_stored header h (Land landing) s m = (m.0, m.1, is_ask-stored h m.0 ∙ m.2, judge-stored header h m.0 (granted_is_up header h m.0 _ m.3) ∙ m.3)
 
 pub stored-push : (before : List Entry) (e : Entry) → stored (before ++ e ∷ []) ≡ stored before ++ map unnumbered (cond (is_stored e.body) (e.body ∷ []) [])
 stored-push before e = ap (map unnumbered) (bodies-append before (e ∷ [])) ∙ map-append unnumbered (bodies before) (bodies (e ∷ []))
@@ -154,6 +178,8 @@ stored-push before e = ap (map unnumbered) (bodies-append before (e ∷ [])) ∙
 goes_by : (header : Header) (before later : List Entry) (b : Body) → MayFollow header before b → GoesOn header (stored before ++ map unnumbered (cond (is_stored b) (b ∷ []) [])) (stored later) → GoesOn header (stored before) (map unnumbered (cond (is_stored b) (b ∷ bodies later) (bodies later)))
 goes_by header before later (Fault breaking) m rest = subst (λ h. GoesOn header h (stored later)) (append-nil (stored before)) rest
 goes_by header before later (Content x n) m rest = (follows_stored header before (Content x n) refl m, rest)
+goes_by header before later (Whole x n parts) m rest = (follows_stored header before (Whole x n parts) refl m, rest)
+goes_by header before later (Policy caller text) m rest = (follows_stored header before (Policy caller text) refl m, rest)
 goes_by header before later (Change c) m rest = (follows_stored header before (Change c) refl m, rest)
 goes_by header before later (Book move) m rest = (follows_stored header before (Book move) refl m, rest)
 goes_by header before later (Land landing) m rest = (follows_stored header before (Land landing) refl m, rest)

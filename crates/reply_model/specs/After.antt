@@ -6,24 +6,31 @@
 --     IsNode ks bytes      a node of the definitions' manifests of some known changeset
 --     NodesCollide ks x      two different ones of them have the digest x
 --     SeesMore old who new      the seat has seen more, and made no entry
+--     FailedAs judged entry      of what is judged, nothing was made, or all of it, which then wasn't sealed
+--     calm_by who h      the entries that a seat made, but for its breaking faults
+--     stands_of who made      what a call made that stands at its place: the entry, and a fault that isn't breaking
 --     Grows old who before made new      the front before a call and after it, and the history between at which the call is answered
 --     After header old who call answer new      the front before a call that is answered so, and after it
-use Rattle.std.specs.Prelude.{Contains, ◌≡◌, ◌≢◌, ℕ, ◌==◌, Bool, true, false, IsTrue, IsSome, List, [], ◌++◌, map, filter, Option, None, Some, option_map, option_to_list, Ok, Err}
+use Rattle.std.specs.Prelude.{Contains, ◌≡◌, ◌≢◌, ℕ, ◌⊎◌, not, Bool, true, false, IsTrue, IsSome, List, [], ◌∷◌, ◌++◌, map, filter, Option, None, Some, option_map, option_to_list, Result, Ok, Err}
 use mathlib.Core.List.{IsPrefix}
 use Rattle.sha2.specs.Sha256.{sha256}
 use Rattle.byte_fields.specs.Bytes.{Id}
-use Rattle.history_model.specs.History.{Body, Fault, Entry, Known, entries_by, known, is_known, content_len}
-use Rattle.history_model.specs.Chain.{line}
+use Rattle.history_model.specs.History.{Body, Fault, Entry, Known, is_breaking, entries_by, is_down, known, is_known, content_len, whole_parts}
+use Rattle.history_model.specs.Past.{past}
 use Rattle.history_model.specs.Journal.{Header}
-use Rattle.reply_model.specs.Reply.{Ask, Refusal, Granted, judge, Question, HeadOf, ContentOf, ChangesetOf, LogFrom, FsnodeOf, UnodeOf, HistoryOf, Seen, Absent, AbsentChangeset, Sees}
+use Rattle.reply_model.specs.Reply.{Ask, Refusal, Granted, judge, PutWhole, are_pieces, parts_of, Question, HeadOf, ContentOf, ChangesetOf, LogFrom, FsnodeOf, UnodeOf, HistoryOf, CopiesOf, PathLogOf, DeletedOf, Seen, Absent, AbsentChangeset, Sees}
 use Rattle.history_model.specs.Tree.{files_of}
 use Rattle.manifest_model.specs.Fsnode.{fsnode, fsnode_id}
-use Rattle.manifest_model.specs.Unode.{unode, unode_id}
+use Rattle.manifest_model.specs.Unode.{unode_id}
+use Rattle.manifest_model.specs.Merged.{unode_at}
+use Rattle.manifest_model.specs.Deleted.{deleted, deleted_id}
 use Rattle.manifest_model.specs.Manifests.{nodes_of}
 
 pub data Call : Type 0 where
   -- a change, a read, and a request to derive a changeset's manifests
   Asks : Ask → Call
+  -- contents are to be joined, of which these are the ids. What is read of them isn't asked
+  Joins : (body : List ℕ) → Call
   Looks : Question → Call
   Derives : (id : Id) → Call
 
@@ -56,9 +63,13 @@ AsksManifest (LogFrom n) = ⊥
 AsksManifest (FsnodeOf x d) = Unit {0}
 AsksManifest (UnodeOf x p) = Unit {0}
 AsksManifest (HistoryOf x p) = Unit {0}
+AsksManifest (CopiesOf x) = ⊥
+AsksManifest (PathLogOf x p) = Unit {0}
+AsksManifest (DeletedOf x d) = Unit {0}
 
 abbrev pub ReadsManifest : Call → Type 0
 ReadsManifest (Asks ask) = ⊥
+ReadsManifest (Joins body) = ⊥
 ReadsManifest (Looks question) = AsksManifest question
 ReadsManifest (Derives x) = Unit {0}
 
@@ -73,20 +84,37 @@ nothing = record { entry = None; fault = None }
 abbrev pub only_fault : Bool → Made
 only_fault breaking = record { entry = None; fault = Some breaking }
 
+abbrev pub FailedAs : Option Body → Option Body → Type 0
+FailedAs judged entry = (IsSome judged × (entry ≡ None)) ⊎ (entry ≡ judged)
+
+-- what is asked where these contents are joined, with bytes that were read of them. Where a refusal comes before they are read, any bytes will do
+abbrev pub IsJoining : Result (List Id) Refusal → List Entry → List (List ℕ) → Type 0
+IsJoining (Ok parts) h pieces = are_pieces h parts pieces ≡ true
+IsJoining (Err refusal) h pieces = Unit {0}
+
+-- these contents may be read
+abbrev pub MayRead : Header → List Entry → List ℕ → List Id → Type 0
+MayRead header h body parts = (is_down h ≡ false) × (parts_of header h body ≡ Ok parts)
+
 abbrev pub Answers : Header → List Entry → Call → Answer → Made → Type 0
 -- the answers of the repository of one thread
 Answers header h (Asks ask) (Grants granted) made = (made.fault ≡ None) × (judge header h ask ≡ Ok (record { granted = granted; made = made.entry }))
 Answers header h (Asks ask) (Refuses refusal) made = (made ≡ nothing) × (judge header h ask ≡ Err refusal)
+Answers header h (Joins body) (Grants granted) made = (made.fault ≡ None) × (pieces : List (List ℕ)) × IsJoining (parts_of header h body) h pieces × (judge header h (PutWhole body pieces) ≡ Ok (record { granted = granted; made = made.entry }))
+Answers header h (Joins body) (Refuses refusal) made = (made ≡ nothing) × (pieces : List (List ℕ)) × IsJoining (parts_of header h body) h pieces × (judge header h (PutWhole body pieces) ≡ Err refusal)
 Answers header h (Looks question) (Shows seen) made = (made ≡ nothing) × Sees h question (Ok seen)
 Answers header h (Looks question) (Lacks absent) made = (made ≡ nothing) × Sees h question (Err absent)
 Answers header h (Derives x) (Roots fs un) made =
-    (made ≡ nothing) × IsTrue (is_known (known h) x) × (fs ≡ fsnode_id (fsnode (files_of (known h) x) [])) × (un ≡ unode_id (unode (line (known h) x) []))
+    (made ≡ nothing) × IsTrue (is_known (known h) x) × (fs ≡ fsnode_id (fsnode (files_of (known h) x) [])) × (un ≡ unode_id (unode_at (past (known h) x) []))
 Answers header h (Derives x) (Lacks absent) made = (made ≡ nothing) × (absent ≡ AbsentChangeset x) × (is_known (known h) x ≡ false)
--- the disk failed: a change that would have made an entry met a breaking fault, and the read of a known content another fault
-Answers header h (Asks ask) DiskFault made = (made ≡ only_fault true) × (granted : Granted) × (body : Body) × (judge header h ask ≡ Ok (record { granted = granted; made = Some body }))
+-- The disk failed. A change met a breaking fault before its entry was made, or after that, when it was to be sealed with what stood before it. The read of a known content met another fault
+Answers header h (Asks ask) DiskFault made = (made.fault ≡ Some true) × (granted : Granted) × (judged : Option Body) × (judge header h ask ≡ Ok (record { granted = granted; made = judged })) × FailedAs judged made.entry
+Answers header h (Joins body) DiskFault made = (made.fault ≡ Some true) × (pieces : List (List ℕ)) × (granted : Granted) × (judged : Option Body) × IsJoining (parts_of header h body) h pieces × (judge header h (PutWhole body pieces) ≡ Ok (record { granted = granted; made = judged })) × FailedAs judged made.entry
 Answers header h (Looks (ContentOf x)) ReadFault made = (made ≡ only_fault false) × IsSome (content_len h x)
--- the disk gave other bytes
-Answers header h (Looks (ContentOf x)) (BadBytes wanted found) made = (made ≡ nothing) × IsSome (content_len h x) × (wanted ≡ x) × (found ≢ x)
+Answers header h (Joins body) ReadFault made = (made ≡ only_fault false) × (parts : List Id) × MayRead header h body parts
+-- the disk gave other bytes, of a whole or of one of its parts
+Answers header h (Looks (ContentOf x)) (BadBytes wanted found) made = (made ≡ nothing) × IsSome (content_len h x) × Contains (x ∷ whole_parts h x) wanted × (found ≢ wanted)
+Answers header h (Joins body) (BadBytes wanted found) made = (made ≡ nothing) × (parts : List Id) × MayRead header h body parts × Contains parts wanted × (found ≢ wanted)
 -- want of memory
 Answers header h call Memory made = made ≡ nothing
 -- manifests whose nodes can't be told apart
@@ -116,11 +144,26 @@ pub record SeesMore (old : List Entry) (who : ℕ) (new : List Entry) : Type 0 w
   pub begins : IsPrefix old new
   pub own : entries_by who new ≡ entries_by who old
 
--- The new front is a history that the old front begins, in which the seat made at most one entry more: first the history before it, in which the seat made no other, and then the entry, or the fault.
+abbrev pub calm_by : ℕ → List Entry → List Entry
+calm_by who h = filter (λ e. not (is_breaking e.body)) (entries_by who h)
+
+-- a breaking fault may come later
+abbrev pub calm_fault : Option Bool → Option Body
+calm_fault None = None
+calm_fault (Some true) = None
+calm_fault (Some false) = Some (Fault false)
+
+abbrev pub stands_of : ℕ → Made → List Entry
+stands_of who made = map (entry_by who) (option_to_list made.entry ++ option_to_list (calm_fault made.fault))
+
+-- The new front is a history that the old front begins, in which the seat made at most one entry more, its breaking faults left aside: first the history before it, in which the seat made no other, then the entry, and then what others made while the seat waited for it to be sealed. After a fault that isn't breaking nothing comes.
 pub record Grows (old : List Entry) (who : ℕ) (before : List Entry) (made : Made) (new : List Entry) : Type 0 where
   pub begins : IsPrefix old before
-  pub own : entries_by who before ≡ entries_by who old
-  pub new_is : new ≡ before ++ entries_of who made
+  pub own : calm_by who before ≡ calm_by who old
+  pub stands : IsPrefix (before ++ stands_of who made) new
+  pub only : calm_by who new ≡ calm_by who (before ++ stands_of who made)
+  pub last : made.fault ≡ Some false → new ≡ before ++ stands_of who made
+  pub failed : made.fault ≡ Some true → is_down new ≡ true
 
 -- the answer is one at some history on the way from the old front to the new one
 pub record After (header : Header) (old : List Entry) (who : ℕ) (call : Call) (answer : Answer) (new : List Entry) : Type 0 where

@@ -2,39 +2,63 @@
 --     judge header h ask      of a change: what it is granted and the entry, if it makes one, or the first refusal that applies
 --     seen_changeset h x, seen_log h n, seen_fsnode h x d, seen_unode h x p, seen_history h x p      of a read: what is seen, or what is absent
 --     Sees h question result      of every read. A content may be any bytes of its length whose SHA-256 (FIPS 180-4) is its id
-use Rattle.std.specs.Prelude.{◌≡◌, ℕ, Bool, not, ◌&&◌, ◌||◌, ◌==◌, nat_lt, if◌then◌else◌, List, [], ◌∷◌, ◌++◌, length, take, drop, map, find, bytes_eq, Option, None, Some, ok_or, Result, Ok, Err, MatchOption, is_some}
-use Rattle.std.specs.List.{list_any, list_all}
+use Rattle.std.specs.Prelude.{◌≡◌, ℕ, ◌*◌, Bool, true, false, not, ◌&&◌, ◌||◌, ◌==◌, nat_lt, nat_le, zero, suc, ◌/◌, ◌%◌, ◌^◌, if◌then◌else◌, List, [], ◌∷◌, ◌++◌, length, take, drop, map, find, bytes_eq, Option, None, Some, option_map, ok_or, Result, Ok, Err, MatchOption, is_some, is_none}
+use Rattle.std.specs.List.{list_any, list_all, concat}
 use Rattle.std.specs.Option.{option_eq, option_to_list}
 use Rattle.sha2.specs.Sha256.{sha256}
 use Rattle.byte_fields.specs.Bytes.{Id, first_some, IsContent, are_bytes, is_bytes}
 use Rattle.changeset_model.specs.Path.{Path}
-use Rattle.changeset_model.specs.Changeset.{File, Changeset, spelling, id_of, sets_of, touched_paths, most_content}
+use Rattle.changeset_model.specs.Version.{is_second}
+use Rattle.changeset_model.specs.Changeset.{File, CopySource, Changeset, spelling, id_of, sets_of, copies_of, touched_paths, most_content}
 use Rattle.changeset_model.specs.Decoding.{DecodeFault, decoded}
 use Rattle.changeset_model.specs.Decoding as reading
-use Rattle.history_model.specs.History.{Body, Content, Change, Book, Land, Entry, stored, is_down, Known, with_id, known, is_known, changeset_of, content_len}
-use Rattle.history_model.specs.Chain.{line}
+use Rattle.history_model.specs.History.{Body, Content, Whole, Change, Book, Land, Entry, stored, is_down, Known, with_id, known, is_known, changeset_of, content_len, is_whole, holds_policy}
+use Rattle.history_model.specs.Past.{past}
+use Rattle.history_model.specs.Merge.{unresolved}
 use Rattle.history_model.specs.Tree.{files_of, is_file, is_dir}
 use Rattle.history_model.specs.Bookmark.{is_name, head}
-use Rattle.history_model.specs.Pushrebase.{fork, clash, rewrite}
+use Rattle.history_model.specs.Pushrebase.{fork, clash, rewrite, moment_of}
 use Rattle.history_model.specs.Journal.{Header, payload_len, most_payload, size, is_full}
 use Rattle.manifest_model.specs.Fsnode.{fsnode, fsnode_bytes}
-use Rattle.manifest_model.specs.Unode.{unode, unode_bytes}
-use Rattle.manifest_model.specs.FileHistory.{file_history}
+use Rattle.manifest_model.specs.Unode.{unode_bytes}
+use Rattle.manifest_model.specs.Merged.{unode_at, history_of}
+use Rattle.manifest_model.specs.Deleted.{has_deleted, deleted, deleted_bytes, path_log}
 
 -- ---- changes
 
 pub data Ask : Type 0 where
   PutContent : (bytes : List ℕ) → Ask
+  -- the ids of contents, one after another, and the bytes that were read of them
+  PutWhole : (body : List ℕ) (pieces : List (List ℕ)) → Ask
   PutChangeset : (bytes : List ℕ) → Ask
-  SetBookmark : (name : List ℕ) (from to : Option Id) → Ask
-  LandDraft : (name : List ℕ) (draft : Id) → Ask
+  SetBookmark : (caller name : List ℕ) (from to : Option Id) → Ask
+  LandDraft : (caller name : List ℕ) (draft : Id) (moment : ℕ) → Ask
 
--- what may be asked: bytes, names that follow the rule, and ids of 32 bytes
-abbrev pub is_ask : Ask → Bool
-is_ask (PutContent bytes) = are_bytes bytes
-is_ask (PutChangeset bytes) = are_bytes bytes
-is_ask (SetBookmark name from to) = is_name name && list_all (is_bytes 32) (option_to_list from ++ option_to_list to)
-is_ask (LandDraft name draft) = is_name name && is_bytes 32 draft
+-- as many ids, of 32 bytes each
+abbrev pub split_ids : ℕ → List ℕ → List Id
+split_ids zero bytes = []
+split_ids (suc n) bytes = take 32 bytes ∷ split_ids n (drop 32 bytes)
+
+abbrev pub ids_in : List ℕ → List Id
+ids_in body = split_ids (length body / 32) body
+
+-- bytes of the digest and the length of the content with this id
+abbrev pub is_piece : List Entry → Id → List ℕ → Bool
+is_piece h x bytes = are_bytes bytes && bytes_eq (sha256 bytes) x && option_eq (λ n m. n == m) (content_len h x) (Some (length bytes))
+
+abbrev pub are_pieces : List Entry → List Id → List (List ℕ) → Bool
+are_pieces h [] [] = true
+are_pieces h [] (piece ∷ pieces) = false
+are_pieces h (x ∷ xs) [] = false
+are_pieces h (x ∷ xs) (piece ∷ pieces) = is_piece h x piece && are_pieces h xs pieces
+
+-- what may be asked at h: bytes, names that follow the rule, ids of 32 bytes, a moment of 64 bits, and pieces that were read of the contents
+abbrev pub is_ask : List Entry → Ask → Bool
+is_ask h (PutContent bytes) = are_bytes bytes
+is_ask h (PutWhole body pieces) = are_bytes body && are_pieces h (ids_in body) pieces
+is_ask h (PutChangeset bytes) = are_bytes bytes
+is_ask h (SetBookmark caller name from to) = is_name caller && is_name name && list_all (is_bytes 32) (option_to_list from ++ option_to_list to)
+is_ask h (LandDraft caller name draft moment) = is_name caller && is_name name && is_bytes 32 draft && nat_lt moment (2 ^ 64)
 
 pub data Refusal : Type 0 where
   Down : Refusal
@@ -42,9 +66,14 @@ pub data Refusal : Type 0 where
   BadEncoding : (at : ℕ) → Refusal
   SelfConflict : (short long : Path) → Refusal
   Merge : Refusal
+  BadParts : (length : ℕ) → Refusal
+  OldFormat : Refusal
+  NoPiece : (id : Id) → Refusal
+  NotAPiece : (id : Id) → Refusal
   NoParent : (id : Id) → Refusal
   NoContent : (path : Path) (id : Id) → Refusal
   WrongSize : (path : Path) (wanted found : ℕ) → Refusal
+  Unresolved : (path : Path) → Refusal
   Collision : (id : Id) → Refusal
   NoChangeset : (id : Id) → Refusal
   Moved : (found : Option Id) → Refusal
@@ -53,12 +82,15 @@ pub data Refusal : Type 0 where
   TooFarBehind : (distance : ℕ) → Refusal
   AlreadyIn : Refusal
   StackTooLong : (count : ℕ) → Refusal
+  MergeInStack : (id : Id) → Refusal
+  MergeInRange : (id : Id) → Refusal
   Clash : (left right : Path) → Refusal
   TooLarge : (length : ℕ) → Refusal
   Full : (size length : ℕ) → Refusal
 
 pub data Granted : Type 0 where
   ContentPut : (id : Id) → Granted
+  WholePut : (id : Id) (size : ℕ) → Granted
   ChangesetPut : (id : Id) → Granted
   BookmarkSet : Granted
   -- the head before, and the ids of the new changesets
@@ -98,6 +130,29 @@ put_content header h bytes = do
       then unchanged (ContentPut (sha256 bytes))
       else entered header h (ContentPut (sha256 bytes)) (Content (sha256 bytes) (length bytes))
 
+abbrev pub most_parts : ℕ
+most_parts = 64
+
+-- one id or more, and no part of one
+abbrev pub is_parts_len : ℕ → Bool
+is_parts_len n = (n % 32 == 0) && nat_le 32 n && nat_le n (32 * most_parts)
+
+-- the contents that are to be joined, which the refusals before they are read leave
+abbrev pub parts_of : Header → List Entry → List ℕ → Result (List Id) Refusal
+parts_of header h body = do
+  _ ← refuse_if (not (is_parts_len (length body))) (BadParts (length body))
+  _ ← refuse_if (not (is_second header.version)) OldFormat
+  _ ← refuse_some (find (λ x. is_none (content_len h x)) (ids_in body)) NoPiece
+  _ ← refuse_some (find (is_whole h) (ids_in body)) NotAPiece
+  Ok (ids_in body)
+
+abbrev pub put_whole : Header → List Entry → List ℕ → List (List ℕ) → Result Judged Refusal
+put_whole header h body pieces = do
+  parts ← parts_of header h body
+  if is_some (content_len h (sha256 (concat pieces)))
+      then unchanged (WholePut (sha256 (concat pieces)) (length (concat pieces)))
+      else entered header h (WholePut (sha256 (concat pieces)) (length (concat pieces))) (Whole (sha256 (concat pieces)) (length (concat pieces)) parts)
+
 abbrev pub upload_refusal : DecodeFault → Refusal
 upload_refusal (reading.TooLong n) = TooLong n
 upload_refusal (reading.BadEncoding at) = BadEncoding at
@@ -116,22 +171,33 @@ content_refusal e (Some found) = if found == e.1.size then None else Some (Wrong
 abbrev pub collides : List Known → Changeset → Bool
 collides ks c = list_any (λ k. bytes_eq k.id (id_of c) && not (bytes_eq (spelling k.changeset) (spelling c))) ks
 
+-- where a merge leaves its parents' trees against one another
+abbrev pub unresolved_of : List Known → Changeset → List Id → Option Path
+unresolved_of ks c [] = None
+unresolved_of ks c (p ∷ []) = None
+unresolved_of ks c (p ∷ q ∷ ps) = unresolved c (files_of ks p) (files_of ks q)
+
 abbrev pub put_changeset : Header → List Entry → List ℕ → Result Judged Refusal
 put_changeset header h bytes = do
   c ← accepted (decoded bytes)
   _ ← refuse_if (nat_lt 1 (length c.parents)) Merge
   _ ← refuse_some (find (λ p. not (is_known (known h) p)) c.parents) NoParent
   _ ← refuse_some (first_some (λ e. content_refusal e (content_len h e.1.content)) (sets_of c)) (λ refusal. refusal)
+  _ ← refuse_some (unresolved_of (known h) c c.parents) Unresolved
   _ ← refuse_if (collides (known h) c) (Collision (id_of c))
   if is_known (known h) (id_of c)
       then unchanged (ChangesetPut (id_of c))
       else entered header h (ChangesetPut (id_of c)) (Change c)
 
-abbrev pub set_bookmark : Header → List Entry → List ℕ → Option Id → Option Id → Result Judged Refusal
-set_bookmark header h name from to = do
+-- an entry tells its caller where a policy is held
+abbrev pub told : List Entry → List ℕ → Option (List ℕ)
+told h caller = if holds_policy h then Some caller else None
+
+abbrev pub set_bookmark : Header → List Entry → List ℕ → List ℕ → Option Id → Option Id → Result Judged Refusal
+set_bookmark header h caller name from to = do
   _ ← refuse_some (find (λ x. not (is_known (known h) x)) (option_to_list to)) NoChangeset
   _ ← refuse_if (not (option_eq bytes_eq (head h name) from)) (Moved (head h name))
-  if option_eq bytes_eq from to then unchanged BookmarkSet else entered header h BookmarkSet (Book (record { name = name; from = from; to = to }))
+  if option_eq bytes_eq from to then unchanged BookmarkSet else entered header h BookmarkSet (Book (record { name = name; from = from; to = to; caller = told h caller }))
 
 -- the first of these that is, by its id, another changeset than one known or one before it
 abbrev pub first_collision : List Known → List Changeset → Option Id
@@ -145,29 +211,36 @@ abbrev pub most_stack : ℕ
 most_stack = 100
 
 -- the landing of a rewritten stack
-abbrev pub enter_landing : Header → List Entry → List ℕ → Id → Id → List Changeset → Result Judged Refusal
-enter_landing header h name old draft new =
-    let body = Land (record { name = name; old = old; draft = draft; new = new }) in do
+abbrev pub enter_landing : Header → List Entry → Option (List ℕ) → List ℕ → Id → Id → List Changeset → Option ℕ → Result Judged Refusal
+enter_landing header h caller name old draft new moment =
+    let body = Land (record { name = name; old = old; draft = draft; new = new; moment = moment; caller = caller }) in do
       _ ← refuse_if (nat_lt most_payload (payload_len body)) (TooLarge (payload_len body))
       _ ← refuse_some (first_collision (known h) new) Collision
       entered header h (Landed old (map id_of new)) body
 
-abbrev pub land : Header → List Entry → List ℕ → Id → Result Judged Refusal
-land header h name draft = do
+abbrev pub is_merge : Changeset → Bool
+is_merge c = nat_lt 1 (length c.parents)
+
+abbrev pub land : Header → List Entry → List ℕ → List ℕ → Id → ℕ → Result Judged Refusal
+land header h caller name draft moment = do
   old ← ok_or (head h name) NoBookmark
   _ ← refuse_if (not (is_known (known h) draft)) (NoChangeset draft)
   f ← ok_or (fork (known h) old draft) NoRoot
   _ ← refuse_if (nat_lt most_range (length f.range)) (TooFarBehind (length f.range))
   _ ← refuse_if (length f.stack == 0) AlreadyIn
   _ ← refuse_if (nat_lt most_stack (length f.stack)) (StackTooLong (length f.stack))
+  _ ← refuse_some (option_map id_of (find is_merge f.stack)) MergeInStack
+  _ ← refuse_some (option_map id_of (find is_merge f.range)) MergeInRange
   _ ← refuse_some (clash (touched_paths f.stack) (touched_paths f.range)) (λ pair. Clash pair.0 pair.1)
-  enter_landing header h name old draft (rewrite f.stack old)
+  enter_landing header h (told h caller) name old draft (rewrite f.stack old moment) (moment_of f.stack moment)
 
 abbrev pub by_ask : Header → List Entry → Ask → Result Judged Refusal
 by_ask header h (PutContent bytes) = put_content header h bytes
+-- contents aren't joined yet
+by_ask header h (PutWhole body pieces) = Err OldFormat
 by_ask header h (PutChangeset bytes) = put_changeset header h bytes
-by_ask header h (SetBookmark name from to) = set_bookmark header h name from to
-by_ask header h (LandDraft name draft) = land header h name draft
+by_ask header h (SetBookmark caller name from to) = set_bookmark header h caller name from to
+by_ask header h (LandDraft caller name draft moment) = land header h caller name draft moment
 
 abbrev pub judge : Header → List Entry → Ask → Result Judged Refusal
 judge header h ask = do
@@ -184,6 +257,9 @@ pub data Question : Type 0 where
   FsnodeOf : (id : Id) (dir : Path) → Question
   UnodeOf : (id : Id) (path : Path) → Question
   HistoryOf : (id : Id) (path : Path) → Question
+  CopiesOf : (id : Id) → Question
+  PathLogOf : (id : Id) (path : Path) → Question
+  DeletedOf : (id : Id) (path : Path) → Question
 
 pub data Seen : Type 0 where
   SeenHead : Option Id → Seen
@@ -191,6 +267,8 @@ pub data Seen : Type 0 where
   -- a page of stored entries, and how many there are in all
   SeenLog : (page : List Entry) (total : ℕ) → Seen
   SeenIds : List Id → Seen
+  -- the paths that a changeset sets as copies, by rising paths, each with what it was copied from
+  SeenCopies : List (Path × CopySource) → Seen
 
 pub data Absent : Type 0 where
   AbsentContent : (id : Id) → Absent
@@ -225,13 +303,30 @@ seen_fsnode h x d = do
 abbrev pub seen_unode : List Entry → Id → Path → Result Seen Absent
 seen_unode h x p = do
   _ ← present (known h) x p
-  Ok (SeenBytes (unode_bytes (unode (line (known h) x) p)))
+  Ok (SeenBytes (unode_bytes (unode_at (past (known h) x) p)))
 
 abbrev pub seen_history : List Entry → Id → Path → Result Seen Absent
 seen_history h x p = do
   _ ← present (known h) x p
   _ ← refuse_if (is_dir (files_of (known h) x) p) NotAFile
-  Ok (SeenIds (file_history (line (known h) x) p))
+  Ok (SeenIds (history_of (known h) x p))
+
+abbrev pub seen_copies : List Entry → Id → Result Seen Absent
+seen_copies h x = do
+  c ← ok_or (changeset_of (known h) x) (AbsentChangeset x)
+  Ok (SeenCopies (copies_of c))
+
+abbrev pub seen_path_log : List Entry → Id → Path → Result Seen Absent
+seen_path_log h x p = do
+  _ ← refuse_if (not (is_known (known h) x)) (AbsentChangeset x)
+  _ ← refuse_if (length (path_log (past (known h) x) p) == 0) NoPath
+  Ok (SeenIds (path_log (past (known h) x) p))
+
+abbrev pub seen_deleted : List Entry → Id → Path → Result Seen Absent
+seen_deleted h x d = do
+  _ ← refuse_if (not (is_known (known h) x)) (AbsentChangeset x)
+  _ ← refuse_if (not (has_deleted (past (known h) x) d)) NoPath
+  Ok (SeenBytes (deleted_bytes (deleted (past (known h) x) d)))
 
 -- the history fixes each answer but a content's bytes
 abbrev pub Sees : List Entry → Question → Result Seen Absent → Type 0
@@ -243,3 +338,6 @@ Sees h (LogFrom n) result = result ≡ Ok (seen_log h n)
 Sees h (FsnodeOf x d) result = result ≡ seen_fsnode h x d
 Sees h (UnodeOf x p) result = result ≡ seen_unode h x p
 Sees h (HistoryOf x p) result = result ≡ seen_history h x p
+Sees h (CopiesOf x) result = result ≡ seen_copies h x
+Sees h (PathLogOf x p) result = result ≡ seen_path_log h x p
+Sees h (DeletedOf x d) result = result ≡ seen_deleted h x d

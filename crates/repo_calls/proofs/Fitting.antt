@@ -1,6 +1,6 @@
 -- A change is granted what it asks for.
 use Rattle.std.proofs.Common.{◌≡◌, ◌≤◌, ℕ, true, false, Bool, cond, List, [], ◌∷◌, map, length, refl, sym, subst, arith}
-use Rattle.std.specs.Prelude.{Option, Some, Result, Ok, Err, is_some, find, bytes_eq, nat_lt, ok_or, ◌==◌, not}
+use Rattle.std.specs.Prelude.{Option, Some, Result, Ok, Err, is_some, find, bytes_eq, nat_lt, ok_or, ◌==◌, not, option_map}
 use Rattle.std.specs.Option.{option_eq, option_to_list}
 use Rattle.std.proofs.lemmas.Bool.{ltb-false}
 use Rattle.std.proofs.lemmas.List.{length-map}
@@ -10,9 +10,9 @@ use Rattle.changeset_model.specs.Changeset.{Changeset, id_of, sets_of, touched_p
 use Rattle.changeset_model.specs.Decoding.{decoded}
 use Rattle.history_model.specs.History.{Body, Content, Change, Book, Land, Entry, is_down, known, is_known, content_len}
 use Rattle.history_model.specs.Bookmark.{head}
-use Rattle.history_model.specs.Pushrebase.{fork, clash, rewrite, on_parent}
+use Rattle.history_model.specs.Pushrebase.{fork, clash, rewrite, on_parent, moment_of}
 use Rattle.history_model.specs.Journal.{Header, payload_len, most_payload, size, is_full}
-use Rattle.reply_model.specs.Reply.{Down, Merge, NoParent, content_refusal, collides, Collision, NoChangeset, Moved, TooLarge, first_collision, NoBookmark, NoRoot, TooFarBehind, AlreadyIn, StackTooLong, Clash, most_range, most_stack, Ask, PutContent, PutChangeset, SetBookmark, LandDraft, Refusal, Granted, ContentPut, ChangesetPut, BookmarkSet, Landed, Judged, ◌>>=◌, Full, refuse_if, refuse_some, unchanged, entered, put_content, accepted, put_changeset, set_bookmark, enter_landing, land, by_ask, judge}
+use Rattle.reply_model.specs.Reply.{Down, Merge, NoParent, Unresolved, unresolved_of, MergeInStack, MergeInRange, is_merge, told, content_refusal, collides, Collision, NoChangeset, Moved, TooLarge, first_collision, NoBookmark, NoRoot, TooFarBehind, AlreadyIn, StackTooLong, Clash, most_range, most_stack, Ask, PutContent, PutWhole, PutChangeset, SetBookmark, LandDraft, Refusal, Granted, ContentPut, ChangesetPut, BookmarkSet, Landed, Judged, ◌>>=◌, Full, refuse_if, refuse_some, unchanged, entered, put_content, accepted, put_changeset, set_bookmark, enter_landing, land, by_ask, judge}
 use Rattle.repo_calls.specs.Replying.{Fits}
 
 abbrev FitsIn : Ask → Result Judged Refusal → Type 0
@@ -49,51 +49,55 @@ changeset_fits header h bytes =
     through ask (refuse_if (nat_lt 1 (length c.parents)) Merge) _ (λ _ _.
     through ask (refuse_some (find (λ p. not (is_known (known h) p)) c.parents) NoParent) _ (λ _ _.
     through ask (refuse_some (first_some (λ e. content_refusal e (content_len h e.1.content)) (sets_of c)) (λ refusal. refusal)) _ (λ _ _.
+    through ask (refuse_some (unresolved_of (known h) c c.parents) Unresolved) _ (λ _ _.
     through ask (refuse_if (collides (known h) c) (Collision (id_of c))) _ (λ _ _.
-    either ask (is_known (known h) (id_of c)) _ _ (one ask (ChangesetPut (id_of c)) tt) (entering header h ask (ChangesetPut (id_of c)) (Change c) tt))))))
+    either ask (is_known (known h) (id_of c)) _ _ (one ask (ChangesetPut (id_of c)) tt) (entering header h ask (ChangesetPut (id_of c)) (Change c) tt)))))))
 
-bookmark_fits : (header : Header) (h : List Entry) (name : List ℕ) (from to : Option Id) → Granting (SetBookmark name from to) (set_bookmark header h name from to)
-bookmark_fits header h name from to =
-    let ask : Ask = SetBookmark name from to in
+bookmark_fits : (header : Header) (h : List Entry) (caller name : List ℕ) (from to : Option Id) → Granting (SetBookmark caller name from to) (set_bookmark header h caller name from to)
+bookmark_fits header h caller name from to =
+    let ask : Ask = SetBookmark caller name from to in
     through ask (refuse_some (find (λ x. not (is_known (known h) x)) (option_to_list to)) NoChangeset) _ (λ _ _.
     through ask (refuse_if (not (option_eq bytes_eq (head h name) from)) (Moved (head h name))) _ (λ _ _.
-    either ask (option_eq bytes_eq from to) _ _ (one ask BookmarkSet tt) (entering header h ask BookmarkSet (Book (record { name = name; from = from; to = to })) tt)))
+    either ask (option_eq bytes_eq from to) _ _ (one ask BookmarkSet tt) (entering header h ask BookmarkSet (Book (record { name = name; from = from; to = to; caller = told h caller })) tt)))
 
-pub length-rewrite : (stack : List Changeset) (head : Id) → length (rewrite stack head) ≡ length stack
-length-rewrite [] head = refl
-length-rewrite (c ∷ cs) head = let rest = length-rewrite cs (id_of (on_parent head c)) in omega arith
+pub length-rewrite : (stack : List Changeset) (head : Id) (moment : ℕ) → length (rewrite stack head moment) ≡ length stack
+length-rewrite [] head moment = refl
+length-rewrite (c ∷ cs) head moment = let rest = length-rewrite cs (id_of (on_parent head moment c)) moment in omega arith
 
 passed : (b : Bool) (e : Refusal) (x : Unit {0}) → refuse_if b e ≡ Ok x → b ≡ false
 passed true e x same = absurd cc
 passed false e x same = refl
 
-landing_fits : (header : Header) (h : List Entry) (name : List ℕ) (old draft : Id) (new : List Changeset) → length new ≤ most_stack → Granting (LandDraft name draft) (enter_landing header h name old draft new)
-landing_fits header h name old draft new few =
-    let ask : Ask = LandDraft name draft in
-    let body : Body = Land (record { name = name; old = old; draft = draft; new = new }) in
+landing_fits : (header : Header) (h : List Entry) (caller name : List ℕ) (old draft : Id) (new : List Changeset) (asked : ℕ) (moment : Option ℕ) → length new ≤ most_stack → Granting (LandDraft caller name draft asked) (enter_landing header h (told h caller) name old draft new moment)
+landing_fits header h caller name old draft new asked moment few =
+    let ask : Ask = LandDraft caller name draft asked in
+    let body : Body = Land (record { name = name; old = old; draft = draft; new = new; moment = moment; caller = told h caller }) in
     let ids : length (map id_of new) ≤ most_stack = subst (λ n. n ≤ most_stack) (sym (length-map new id_of)) few in
     through ask (refuse_if (nat_lt most_payload (payload_len body)) (TooLarge (payload_len body))) _ (λ _ _.
     through ask (refuse_some (first_collision (known h) new) Collision) _ (λ _ _.
     entering header h ask (Landed old (map id_of new)) body ids))
 
-land_fits : (header : Header) (h : List Entry) (name : List ℕ) (draft : Id) → Granting (LandDraft name draft) (land header h name draft)
-land_fits header h name draft =
-    let ask : Ask = LandDraft name draft in
+land_fits : (header : Header) (h : List Entry) (caller name : List ℕ) (draft : Id) (moment : ℕ) → Granting (LandDraft caller name draft moment) (land header h caller name draft moment)
+land_fits header h caller name draft moment =
+    let ask : Ask = LandDraft caller name draft moment in
     through ask (ok_or (head h name) NoBookmark) _ (λ old _.
     through ask (refuse_if (not (is_known (known h) draft)) (NoChangeset draft)) _ (λ _ _.
     through ask (ok_or (fork (known h) old draft) NoRoot) _ (λ f _.
     through ask (refuse_if (nat_lt most_range (length f.range)) (TooFarBehind (length f.range))) _ (λ _ _.
     through ask (refuse_if (length f.stack == 0) AlreadyIn) _ (λ _ _.
     through ask (refuse_if (nat_lt most_stack (length f.stack)) (StackTooLong (length f.stack))) _ (λ x e.
+    through ask (refuse_some (option_map id_of (find is_merge f.stack)) MergeInStack) _ (λ _ _.
+    through ask (refuse_some (option_map id_of (find is_merge f.range)) MergeInRange) _ (λ _ _.
     through ask (refuse_some (clash (touched_paths f.stack) (touched_paths f.range)) (λ pair. Clash pair.0 pair.1)) _ (λ _ _.
     let few : length f.stack ≤ most_stack = ltb-false most_stack (length f.stack) (passed (nat_lt most_stack (length f.stack)) (StackTooLong (length f.stack)) x e) in
-    landing_fits header h name old draft (rewrite f.stack old) (subst (λ n. n ≤ most_stack) (sym (length-rewrite f.stack old)) few))))))))
+    landing_fits header h caller name old draft (rewrite f.stack old moment) moment (moment_of f.stack moment) (subst (λ n. n ≤ most_stack) (sym (length-rewrite f.stack old moment)) few))))))))))
 
 ask_fits : (header : Header) (h : List Entry) (ask : Ask) → Granting ask (by_ask header h ask)
 ask_fits header h (PutContent bytes) = content_fits header h bytes
 ask_fits header h (PutChangeset bytes) = changeset_fits header h bytes
-ask_fits header h (SetBookmark name from to) = bookmark_fits header h name from to
-ask_fits header h (LandDraft name draft) = land_fits header h name draft
+ask_fits header h (PutWhole body pieces) = record { each = tt }
+ask_fits header h (SetBookmark caller name from to) = bookmark_fits header h caller name from to
+ask_fits header h (LandDraft caller name draft moment) = land_fits header h caller name draft moment
 
 pub judged_fits : (header : Header) (h : List Entry) (ask : Ask) (granted : Granted) (made : Option Body) → judge header h ask ≡ Ok (record { granted = granted; made = made }) → Fits ask granted
 judged_fits header h ask granted made e = subst (FitsIn ask) e (through ask (refuse_if (is_down h) Down) _ (λ _ _. ask_fits header h ask)).each

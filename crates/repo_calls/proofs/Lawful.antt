@@ -1,13 +1,15 @@
 -- The relations of a repository that is served alone and of one that others share are such as a seat may have.
 use Rattle.std.proofs.Common.{◌≡◌, ◌≤◌, ◌-◌, ℕ, List, ◌++◌, length, take, drop, arith, length-drop, refl, sym, ap, subst, ◌∙◌}
-use Rattle.std.specs.Prelude.{Option, None, Some, ok_or, Result, Ok, Err, MatchOption}
+use Rattle.std.specs.Prelude.{Option, None, Some, not, ◌==◌, ok_or, Result, Ok, Err, MatchOption}
 use Rattle.std.proofs.lemmas.List.{length-take}
 use Rattle.byte_fields.specs.Bytes.{Id, IsContent}
-use Rattle.history_model.specs.History.{Entry, stored, known, changeset_of, content_len}
+use Rattle.history_model.specs.History.{Entry, stored, known, is_known, changeset_of, content_len}
+use Rattle.history_model.specs.Past.{past}
+use Rattle.manifest_model.specs.Deleted.{has_deleted, path_log}
 use Rattle.history_model.specs.Tree.{files_of, is_file, is_dir}
 use Rattle.history_model.specs.Journal.{Header}
-use Rattle.reply_model.specs.After.{Call, Asks, Looks, Derives, Answer, Grants, Refuses, Shows, Lacks, Roots, DiskFault, ReadFault, BadBytes, NodeCollision, Memory, Made, nothing, Answers, Replies, Grows, After, entries_of}
-use Rattle.reply_model.specs.Reply.{◌>>=◌, page_len, refuse_if, present, Question, HeadOf, ContentOf, ChangesetOf, LogFrom, FsnodeOf, UnodeOf, HistoryOf, Seen, Absent, AbsentContent, AbsentChangeset, NotADir, NotAFile, SeenBytes, Sees}
+use Rattle.reply_model.specs.After.{Call, Asks, Joins, Looks, Derives, Answer, Grants, Refuses, Shows, Lacks, Roots, DiskFault, ReadFault, BadBytes, NodeCollision, Memory, Made, nothing, Answers, Replies, Grows, After, entries_of}
+use Rattle.reply_model.specs.Reply.{◌>>=◌, page_len, refuse_if, present, Question, HeadOf, ContentOf, ChangesetOf, LogFrom, FsnodeOf, UnodeOf, HistoryOf, CopiesOf, PathLogOf, DeletedOf, Seen, Absent, AbsentContent, AbsentChangeset, NoPath, NotADir, NotAFile, SeenBytes, Sees}
 use Rattle.repo_calls.specs.Replying.{Shown, MakesNothing, IsReplying}
 use Rattle.repo_calls.proofs.Fitting.{judged_fits}
 
@@ -22,6 +24,16 @@ answers_nothing header h (Asks ask) ReadFault made none a = absurd none
 answers_nothing header h (Asks ask) (BadBytes w f) made none a = absurd a
 answers_nothing header h (Asks ask) (NodeCollision z) made none a = a.0
 answers_nothing header h (Asks ask) Memory made none a = a
+answers_nothing header h (Joins body) (Grants g) made none a = absurd none
+answers_nothing header h (Joins body) (Refuses r) made none a = a.0
+answers_nothing header h (Joins body) (Shows s) made none a = absurd a
+answers_nothing header h (Joins body) (Lacks b) made none a = absurd a
+answers_nothing header h (Joins body) (Roots f u) made none a = absurd a
+answers_nothing header h (Joins body) DiskFault made none a = absurd none
+answers_nothing header h (Joins body) ReadFault made none a = absurd none
+answers_nothing header h (Joins body) (BadBytes w f) made none a = a.0
+answers_nothing header h (Joins body) (NodeCollision z) made none a = a.0
+answers_nothing header h (Joins body) Memory made none a = a
 answers_nothing header h (Derives x) (Grants g) made none a = absurd none
 answers_nothing header h (Derives x) (Refuses r) made none a = absurd a
 answers_nothing header h (Derives x) (Shows s) made none a = absurd a
@@ -46,12 +58,16 @@ answers_nothing header h (Looks (LogFrom n)) (BadBytes w f) made none a = absurd
 answers_nothing header h (Looks (FsnodeOf c p)) (BadBytes w f) made none a = absurd a
 answers_nothing header h (Looks (UnodeOf c p)) (BadBytes w f) made none a = absurd a
 answers_nothing header h (Looks (HistoryOf c p)) (BadBytes w f) made none a = absurd a
+answers_nothing header h (Looks (CopiesOf c)) (BadBytes w f) made none a = absurd a
+answers_nothing header h (Looks (PathLogOf c p)) (BadBytes w f) made none a = absurd a
+answers_nothing header h (Looks (DeletedOf c p)) (BadBytes w f) made none a = absurd a
 answers_nothing header h (Looks q) (NodeCollision z) made none a = a.0
 answers_nothing header h (Looks q) Memory made none a = a
 
 -- any call may be answered by want of memory
 wants : (header : Header) (h : List Entry) (call : Call) → Answers header h call Memory nothing
 wants header h (Asks ask) = refl
+wants header h (Joins body) = refl
 wants header h (Derives x) = refl
 wants header h (Looks question) = refl
 
@@ -87,6 +103,14 @@ seen_is h (UnodeOf x p) result e =
     subst (ShownIn (UnodeOf x p)) (sym e) (through (UnodeOf x p) (present (known h) x p) _ (λ _. record { each = tt })).each
 seen_is h (HistoryOf x p) result e =
     subst (ShownIn (HistoryOf x p)) (sym e) (through (HistoryOf x p) (present (known h) x p) _ (λ _. through (HistoryOf x p) (refuse_if (is_dir (files_of (known h) x) p) NotAFile) _ (λ _. record { each = tt }))).each
+seen_is h (CopiesOf x) result e =
+    subst (ShownIn (CopiesOf x)) (sym e) (through (CopiesOf x) (ok_or (changeset_of (known h) x) (AbsentChangeset x)) _ (λ c. record { each = tt })).each
+seen_is h (PathLogOf x p) result e =
+    subst (ShownIn (PathLogOf x p)) (sym e)
+    (through (PathLogOf x p) (refuse_if (not (is_known (known h) x)) (AbsentChangeset x)) _ (λ _. through (PathLogOf x p) (refuse_if (length (path_log (past (known h) x) p) == 0) NoPath) _ (λ _. record { each = tt }))).each
+seen_is h (DeletedOf x d) result e =
+    subst (ShownIn (DeletedOf x d)) (sym e)
+    (through (DeletedOf x d) (refuse_if (not (is_known (known h) x)) (AbsentChangeset x)) _ (λ _. through (DeletedOf x d) (refuse_if (not (has_deleted (past (known h) x) d)) NoPath) _ (λ _. record { each = tt }))).each
 
 answers_shown : (header : Header) (h : List Entry) (question : Question) (seen : Seen) (made : Made) → Answers header h (Looks question) (Shows seen) made → Shown question seen
 answers_shown header h (HeadOf name) seen made a = seen_is h (HeadOf name) (Ok seen) a.1
@@ -96,6 +120,9 @@ answers_shown header h (LogFrom n) seen made a = seen_is h (LogFrom n) (Ok seen)
 answers_shown header h (FsnodeOf x d) seen made a = seen_is h (FsnodeOf x d) (Ok seen) a.1
 answers_shown header h (UnodeOf x p) seen made a = seen_is h (UnodeOf x p) (Ok seen) a.1
 answers_shown header h (HistoryOf x p) seen made a = seen_is h (HistoryOf x p) (Ok seen) a.1
+answers_shown header h (CopiesOf x) seen made a = seen_is h (CopiesOf x) (Ok seen) a.1
+answers_shown header h (PathLogOf x p) seen made a = seen_is h (PathLogOf x p) (Ok seen) a.1
+answers_shown header h (DeletedOf x p) seen made a = seen_is h (DeletedOf x p) (Ok seen) a.1
 
 pub alone : IsReplying Replies
 alone = record {

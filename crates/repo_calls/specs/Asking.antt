@@ -2,12 +2,14 @@
 --     question_seen question      a read;  place_of dir      a path, or the root where there is none
 --     stored_answer result      the answer to a change
 --     fault_answer fault, bytes_answer result      the answer of a read that sees nothing, and of one that sees bytes
+--     copy_seen copy, copies_seen copies      a path that is set as a copy, with what it was copied from
 --     IsAnswer result answer      the answer that a read gives. A page of the log tells less than the definitions' page
 --     reads_file question      the read asks the disk
 --     is_disk_fault result, is_read_fault result, is_bad_bytes result, is_early result      which answer it is
-use Rattle.std.specs.Prelude.{◌≡◌, ℕ, Bool, true, false, List, [], Option, None, Some, Vec, Result, Ok, Err}
+use Rattle.std.specs.Prelude.{◌≡◌, ℕ, Bool, true, false, List, [], map, Option, None, Some, Vec, Result, Ok, Err}
 use Rattle.std.specs.Borrow.{Bor}
 use Rattle.changeset_model.specs.Path.{Path}
+use Rattle.changeset_model.specs.Changeset.{CopySource}
 use Rattle.history_model.specs.History.{Entry}
 use Rattle.reply_model.specs.After as answers
 use Rattle.reply_model.specs.After.{Answer}
@@ -15,6 +17,7 @@ use Rattle.reply_model.specs.Log.{lines_of}
 use Rattle.reply_model.specs.Reply as reply
 use Rattle.repo_calls.specs.declared.ask.Granted.{Granted}
 use Rattle.repo_calls.specs.Calls.{granted_seen, refused, lines_seen}
+use Rattle.repo_calls.specs.declared.copies.CopiedPath.{CopiedPath}
 use Rattle.repo_calls.specs.declared.calls.Question.{Question}
 use Rattle.repo_calls.specs.declared.calls.Question.TheVariants as questions
 use Rattle.repo_calls.specs.declared.calls.Seen.{Seen}
@@ -36,6 +39,7 @@ question_seen (questions.Log from) = reply.LogFrom from
 question_seen (questions.Fsnode id dir) = reply.FsnodeOf id (place_of dir)
 question_seen (questions.Unode id path) = reply.UnodeOf id (place_of path)
 question_seen (questions.History id path) = reply.HistoryOf id path.now
+question_seen (questions.Copies id) = reply.CopiesOf id
 
 abbrev pub stored_answer : Result Granted ChangeFault → Answer
 stored_answer (Ok granted) = answers.Grants (granted_seen granted)
@@ -62,11 +66,18 @@ abbrev pub bytes_answer : {A : Type 0} → Result (Vec ℕ A) AskFault → Answe
 bytes_answer (Ok bytes) = answers.Shows (reply.SeenBytes bytes.items)
 bytes_answer (Err fault) = fault_answer fault
 
+abbrev pub copy_seen : CopiedPath → Path × CopySource
+copy_seen copy = (copy.to, record { parent = copy.parent; path = copy.from })
+
+abbrev pub copies_seen : List CopiedPath → List (Path × CopySource)
+copies_seen copies = map copy_seen copies
+
 abbrev pub IsAnswer : Result Seen AskFault → Answer → Type 0
 IsAnswer (Ok (seen.Head head)) answer = answer ≡ answers.Shows (reply.SeenHead head)
 IsAnswer (Ok (seen.Bytes bytes)) answer = answer ≡ answers.Shows (reply.SeenBytes bytes.items)
 IsAnswer (Ok (seen.Log page)) answer = (entries : List Entry) × (answer ≡ answers.Shows (reply.SeenLog entries page.total)) × (lines_seen page.entries.items ≡ lines_of entries)
 IsAnswer (Ok (seen.Ids ids)) answer = answer ≡ answers.Shows (reply.SeenIds ids.items)
+IsAnswer (Ok (seen.Copies copies)) answer = answer ≡ answers.Shows (reply.SeenCopies (copies_seen copies.items))
 IsAnswer (Err fault) answer = answer ≡ fault_answer fault
 
 abbrev pub reads_file : Question → Bool
@@ -77,6 +88,7 @@ reads_file (questions.Log from) = false
 reads_file (questions.Fsnode id dir) = false
 reads_file (questions.Unode id path) = false
 reads_file (questions.History id path) = false
+reads_file (questions.Copies id) = false
 
 abbrev pub is_read_fault : {T : Type 0} → Result T AskFault → Bool
 is_read_fault (Ok x) = false

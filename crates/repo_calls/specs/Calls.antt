@@ -1,5 +1,5 @@
 -- What is asked of a repository and what it answers, as questions and answers of the definitions.
---     ask_seen ask      a change
+--     ask_seen ask      a change. Who asks isn't told yet
 --     granted_seen granted, refused e, change_answer result      its answer
 --     content_answer, changeset_answer, bookmark_answer, landing_answer      the answer to each change
 --     line_seen entry, lines_seen entries      what the log tells of an entry
@@ -7,6 +7,7 @@ use Rattle.std.specs.Prelude.{List, map, Result, Ok, Err}
 use Rattle.byte_fields.specs.Bytes.{Id}
 use Rattle.reply_model.specs.Reply as reply
 use Rattle.reply_model.specs.Log.{LogLine, ContentLine, ChangesetLine, BookmarkLine, LandingLine}
+use Rattle.reply_model.specs.Opening.{nobody}
 use Rattle.reply_model.specs.After.{Answer, Grants, Refuses, Memory}
 use Rattle.repo_calls.specs.declared.ask.Ask.{Ask}
 use Rattle.repo_calls.specs.declared.ask.Ask.TheVariants as asks
@@ -21,8 +22,8 @@ use Rattle.repo_calls.specs.declared.log.LogEntry.TheVariants as entries
 abbrev pub ask_seen : Ask → reply.Ask
 ask_seen (asks.PutContent bytes) = reply.PutContent bytes.now
 ask_seen (asks.PutChangeset bytes) = reply.PutChangeset bytes.now
-ask_seen (asks.SetBookmark name from to) = reply.SetBookmark name.now from to
-ask_seen (asks.Land name draft) = reply.LandDraft name.now draft
+ask_seen (asks.SetBookmark name from to) = reply.SetBookmark nobody name.now from to
+ask_seen (asks.Land name draft moment) = reply.LandDraft nobody name.now draft moment
 
 abbrev pub granted_seen : Granted → reply.Granted
 granted_seen (grants.Content id) = reply.ContentPut id
@@ -75,8 +76,8 @@ landing_answer (Err e) = refused e
 abbrev pub line_seen : LogEntry → LogLine
 line_seen (entries.Content id size) = ContentLine id size
 line_seen (entries.Changeset id) = ChangesetLine id
-line_seen (entries.Bookmark name from to) = BookmarkLine (record { name = name; from = from; to = to })
-line_seen (entries.Landing name old draft ids) = LandingLine name old draft ids.items
+line_seen (entries.Bookmark name from to caller) = BookmarkLine (record { name = name; from = from; to = to; caller = caller })
+line_seen (entries.Landing name old draft moment ids caller) = LandingLine caller name old draft moment ids.items
 
 abbrev pub lines_seen : List LogEntry → List LogLine
 lines_seen es = map line_seen es

@@ -15,10 +15,12 @@ pub enum Ask<'a> {
         from: Option<Id>,
         to: Option<Id>,
     },
-    /// Lands a draft on a bookmark: what follows the root in the draft's chain is put onto the bookmark's head.
+    /// Lands a draft on a bookmark: what follows the root in the draft's chain is put onto the bookmark's head. The moment is
+    /// the new date of what is of the second version, in seconds since 1970-01-01 00:00 UTC.
     Land {
         name: &'a BookName,
         draft: Id,
+        moment: u64,
     },
 }
 

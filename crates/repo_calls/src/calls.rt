@@ -2,7 +2,7 @@
 ghost use Rattle.std.specs.Prelude.{◌≡◌};
 ghost use Rattle.repo_calls.specs.declared.calls.AskFault.TheVariants.{Memory};
 
-use crate::{LogPage, Refusal};
+use crate::{CopiedPath, LogPage, Refusal};
 use object_id::Id;
 use repo_path::{BookName, RepoPath};
 use std::alloc::{AllocError, AllocFailed};
@@ -25,6 +25,8 @@ pub enum Question<'a> {
     Unode(Id, Option<&'a RepoPath>),
     /// The history of a file in a changeset's tree.
     History(Id, &'a RepoPath),
+    /// What a changeset sets as copies.
+    Copies(Id),
 }
 
 /// What a read sees.
@@ -35,6 +37,8 @@ pub enum Seen {
     Log(LogPage),
     /// The changesets that set a file, the newest first.
     Ids(Vec<Id>),
+    /// What a changeset sets as copies, by rising paths.
+    Copies(Vec<CopiedPath>),
 }
 
 /// Why a change isn't answered by what it is granted.

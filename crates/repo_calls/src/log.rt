@@ -19,13 +19,19 @@ pub enum LogEntry {
         name: BookName,
         from: Option<Id>,
         to: Option<Id>,
+        /// Who moved it, told where a policy was held.
+        caller: Option<BookName>,
     },
     /// A draft was landed: the head before, and the new changesets in the order of the stack.
     Landing {
         name: BookName,
         old: Id,
         draft: Id,
+        /// When it was landed, told where a changeset is of the second version.
+        moment: Option<u64>,
         ids: Vec<Id>,
+        /// Who landed it, told where a policy was held.
+        caller: Option<BookName>,
     },
 }
 

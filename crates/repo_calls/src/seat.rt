@@ -27,23 +27,23 @@ pub trait Seat {
 
     ghost home: { Self → Home };
 
-    /// How a call is answered: the header, the front before, the seat's number, the call, the
-    /// answer, and the front after.
-    ghost replies: { Relation };
+    /// How a call of a seat that belongs there is answered: the header, the front before, the
+    /// seat's number, the call, the answer, and the front after.
+    ghost replies: { Home → Relation };
 
     /// Makes a change.
     fn change(&mut self, alloc: Global, ask: &Ask) -> Result<Granted, ChangeFault>
-        ensures reply { replies (header self.old) (front self.old) (number self.old) (Asks (ask_seen ask.now)) (stored_answer result) (front self.new) }
+        ensures reply { replies (home self.old) (header self.old) (front self.old) (number self.old) (Asks (ask_seen ask.now)) (stored_answer result) (front self.new) }
         ensures header { header self.new ≡ header self.old }
         ensures number { number self.new ≡ number self.old }
         ensures home { home self.new ≡ home self.old };
 
     /// Answers a read.
     fn look(&mut self, alloc: Global, question: &Question) -> Result<Seen, AskFault>
-        ensures reply { (answer : Answer) × IsAnswer result answer × replies (header self.old) (front self.old) (number self.old) (Looks (question_seen question.now)) answer (front self.new) }
+        ensures reply { (answer : Answer) × IsAnswer result answer × replies (home self.old) (header self.old) (front self.old) (number self.old) (Looks (question_seen question.now)) answer (front self.new) }
         ensures header { header self.new ≡ header self.old }
         ensures number { number self.new ≡ number self.old }
         ensures home { home self.new ≡ home self.old };
 
-    ghost lawful: { IsReplying replies };
+    ghost lawful: { (place : Home) → IsReplying (replies place) };
 }

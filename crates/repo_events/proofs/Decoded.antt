@@ -8,11 +8,13 @@ use Rattle.history_model.specs.Payload.{payload_body}
 use Rattle.repo_events.specs.declared.body.Body.{Body}
 use Rattle.repo_events.specs.declared.payload_fault.PayloadFault.{PayloadFault}
 use Rattle.repo_events.specs.Decodes.{Decodes}
-use Rattle.repo_events.specs.Entries.{body_of}
+use Rattle.repo_events.specs.Entries.{body_of, parts_in}
 use Rattle.repo_events.proofs.Accepted.{payload_ok}
 
 measured : (b : model.Body) (content : List ℕ) → IsContentOf b content → length (payload b content) ≡ payload_len b
 measured (model.Content x n) content is = let same = is.1 in omega arith
+measured (model.Whole x n parts) content is = refl
+measured (model.Policy caller text) content is = refl
 measured (model.Change c) content is = refl
 measured (model.Book move) content is = refl
 measured (model.Land landing) content is = refl
@@ -31,3 +33,7 @@ length_of bytes (Err fault) fits read = tt
 pub counted_of : (bytes : List ℕ) (r : Result Body PayloadFault) → IsBytes bytes → Decodes r (payload_body bytes) → IfOk r (λ b. length (model.changesets_in (body_of b)) < 2 ^ 16)
 counted_of bytes (Ok b) fits read = (payload_ok bytes (body_of b) fits read).1
 counted_of bytes (Err fault) fits read = tt
+
+pub parted_of : (bytes : List ℕ) (r : Result Body PayloadFault) → IsBytes bytes → Decodes r (payload_body bytes) → IfOk r (λ b. length (parts_in (body_of b)) < 2 ^ 16)
+parted_of bytes (Ok b) fits read = (payload_ok bytes (body_of b) fits read).2
+parted_of bytes (Err fault) fits read = tt

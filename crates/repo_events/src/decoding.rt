@@ -5,16 +5,17 @@ ghost use Rattle.history_model.specs.History.{changesets_in};
 ghost use Rattle.history_model.specs.Journal.{IsPayload, payload_len};
 ghost use Rattle.history_model.specs.Payload as payload;
 ghost use Rattle.repo_events.specs.Decodes.{Decodes};
-ghost use Rattle.repo_events.specs.Entries.{body_of};
+ghost use Rattle.repo_events.specs.Entries.{body_of, moment_field, parts_in};
 
 use crate::body::{Body, Landing, Move};
 use crate::limits::MOST_PAYLOAD;
 use crate::mark;
-use crate::parts::{commit_of, commits_at, name_at, optional_at};
+use crate::parts::{commit_of, commits_at, ids_at, moment_at, name_at, optional_at};
 use crate::payload_fault::PayloadFault;
 use byte_fields::FieldFault;
-use byte_fields::fields::{id_at, u16_at};
+use byte_fields::fields::{id_at, u16_at, u64_at};
 use object_id::Id;
+use repo_path::BookName;
 use std::alloc::Global;
 
 /// The entry that a payload stands for.
@@ -24,6 +25,7 @@ pub fn decode_payload(alloc: Global, bytes: &[u8]) -> Result<Body, PayloadFault>
     ensures spelled { IfOk result (λ body. IsPayload (body_of body) bytes.now) }
     ensures measured { IfOk result (λ body. payload_len (body_of body) ≡ length bytes.now) }
     ensures counted { IfOk result (λ body. length (changesets_in (body_of body)) < 2 ^ 16) }
+    ensures parted { IfOk result (λ body. length (parts_in (body_of body)) < 2 ^ 16) }
 {
     read_all(alloc, bytes)
 }
@@ -64,10 +66,38 @@ fn body_at(alloc: Global, bytes: &[u8]) -> Result<(Body, &[u8]), FieldFault>
             Some(commit) => Ok((Body::Change(commit), &[])),
             None => Err(FieldFault::Bad { left: rest.len() }),
         },
-        [mark::MOVE, rest @ ..] => move_at(alloc, rest),
-        [mark::LANDING, rest @ ..] => landing_at(alloc, rest),
+        [mark::MOVE, rest @ ..] => move_at(alloc, None, rest),
+        [mark::LANDING, rest @ ..] => landing_at(alloc, None, false, rest),
+        [mark::DATED_LANDING, rest @ ..] => landing_at(alloc, None, true, rest),
+        [mark::WHOLE, rest @ ..] => whole_at(alloc, rest),
+        [mark::CALLER, rest @ ..] => called_at(alloc, rest),
         _ => Err(FieldFault::Bad { left: bytes.len() }),
     }
+}
+
+// A caller, and what stands behind it.
+fn called_at(alloc: Global, bytes: &[u8]) -> Result<(Body, &[u8]), FieldFault>
+    ensures { Reads (λ x. (body_of x.0, x.1.now)) result (payload.wrapper bytes.now) }
+{
+    let (caller, rest) = name_at(alloc, bytes)?;
+    match rest {
+        [mark::MOVE, fields @ ..] => move_at(alloc, Some(caller), fields),
+        [mark::LANDING, fields @ ..] => landing_at(alloc, Some(caller), false, fields),
+        [mark::DATED_LANDING, fields @ ..] => landing_at(alloc, Some(caller), true, fields),
+        [mark::POLICY, text @ ..] => policy_of(alloc, caller, text),
+        _ => Err(FieldFault::Bad { left: rest.len() }),
+    }
+}
+
+fn policy_of<'a>(
+    alloc: Global,
+    caller: BookName,
+    text: &'a [u8],
+) -> Result<(Body, &'a [u8]), FieldFault>
+    ensures { Reads (λ x. (body_of x.0, x.1.now)) result (payload.policy caller text.now) }
+{
+    let text = Vec::from_slice(alloc, text)?;
+    Ok((Body::Policy { caller, text }, &[]))
 }
 
 fn content_of(content: &[u8]) -> Body
@@ -79,8 +109,27 @@ fn content_of(content: &[u8]) -> Body
     }
 }
 
-fn move_at(alloc: Global, bytes: &[u8]) -> Result<(Body, &[u8]), FieldFault>
-    ensures { Reads (λ x. (body_of x.0, x.1.now)) result (payload.book bytes.now) }
+fn whole_at(alloc: Global, bytes: &[u8]) -> Result<(Body, &[u8]), FieldFault>
+    ensures { Reads (λ x. (body_of x.0, x.1.now)) result (payload.whole bytes.now) }
+{
+    let (id, rest) = id_at(bytes)?;
+    let (length, rest) = u64_at(rest)?;
+    let (count, rest) = u16_at(rest)?;
+    let (parts, rest) = ids_at(alloc, count, rest)?;
+    let whole = Body::Whole {
+        id: Id::from_bytes(id),
+        length,
+        parts,
+    };
+    Ok((whole, rest))
+}
+
+fn move_at(
+    alloc: Global,
+    caller: Option<BookName>,
+    bytes: &[u8],
+) -> Result<(Body, &[u8]), FieldFault>
+    ensures { Reads (λ x. (body_of x.0, x.1.now)) result (payload.book caller bytes.now) }
 {
     let (name, rest) = name_at(alloc, bytes)?;
     let (from, rest) = match optional_at(rest) {
@@ -91,15 +140,27 @@ fn move_at(alloc: Global, bytes: &[u8]) -> Result<(Body, &[u8]), FieldFault>
         Ok(read) => read,
         Err(fault) => return Err(fault.into()),
     };
-    Ok((Body::Book(Move { name, from, to }), rest))
+    let movement = Move {
+        name,
+        from,
+        to,
+        caller,
+    };
+    Ok((Body::Book(movement), rest))
 }
 
-fn landing_at(alloc: Global, bytes: &[u8]) -> Result<(Body, &[u8]), FieldFault>
-    ensures { Reads (λ x. (body_of x.0, x.1.now)) result (payload.landing bytes.now) }
+fn landing_at(
+    alloc: Global,
+    caller: Option<BookName>,
+    dated: bool,
+    bytes: &[u8],
+) -> Result<(Body, &[u8]), FieldFault>
+    ensures { Reads (λ x. (body_of x.0, x.1.now)) result (payload.landing caller (moment_field dated) bytes.now) }
 {
     let (name, rest) = name_at(alloc, bytes)?;
     let (old, rest) = id_at(rest)?;
     let (draft, rest) = id_at(rest)?;
+    let (moment, rest) = moment_at(dated, rest)?;
     let (count, rest) = u16_at(rest)?;
     let (new, rest) = commits_at(alloc, count, rest)?;
     let landing = Landing {
@@ -107,6 +168,8 @@ fn landing_at(alloc: Global, bytes: &[u8]) -> Result<(Body, &[u8]), FieldFault>
         old: Id::from_bytes(old),
         draft: Id::from_bytes(draft),
         new,
+        moment,
+        caller,
     };
     Ok((Body::Land(landing), rest))
 }

@@ -1,13 +1,15 @@
 //! The payloads of entries, and the frames that a journal takes. Numbers stand high byte first.
 ghost use Rattle.std.specs.Prelude.{◌≡◌, ◌<◌, ◌^◌, ◌∷◌, [], ◌++◌, length, map, IfOk, OnOk};
 ghost use Rattle.std.specs.List.{concat};
+ghost use Rattle.std.specs.Option.{option_copied};
 ghost use Rattle.std.specs.Int.{w8, w32};
 ghost use Rattle.byte_fields.specs.Bytes.{sized};
 ghost use Rattle.changeset_model.specs.Changeset.{spelling};
 ghost use Rattle.bonsai.specs.Encodings.{encodings};
+ghost use Rattle.history_model.specs.History as model;
 ghost use Rattle.history_model.specs.History.{changesets_in};
-ghost use Rattle.history_model.specs.Journal.{framed, optional_id, payload};
-ghost use Rattle.repo_events.specs.Entries.{commits_length, landing_head, body_of};
+ghost use Rattle.history_model.specs.Journal.{framed, landing_mark, moment_bytes, optional_id, payload};
+ghost use Rattle.repo_events.specs.Entries.{caller_bytes, landing_head, body_of, parts_in};
 
 use crate::body::{Body, Landing, Move};
 use crate::limits::FRAME;
@@ -18,11 +20,12 @@ use repo_path::BookName;
 use std::alloc::{AllocError, Global};
 
 /// The payload of an entry behind its length in 32 bits, and a closed gate after it. `content` has the bytes of a
-/// content, and isn't looked at for other entries. A payload has fewer than 4,294,967,296 bytes, and a landing at most
-/// 65,535 new changesets.
+/// content, and isn't looked at for other entries. A payload has fewer than 4,294,967,296 bytes, a landing at most
+/// 65,535 new changesets, and a whole at most 65,535 parts.
 pub fn encode_entry(alloc: Global, body: &Body, content: &[u8]) -> Result<Vec<u8>, AllocError>
     requires short { length (payload (body_of body.now) content.now) < 2 ^ 32 }
     requires counted { length (changesets_in (body_of body.now)) < 2 ^ 16 }
+    requires parted { length (parts_in (body_of body.now)) < 2 ^ 16 }
     ensures { IfOk result (λ frame. frame.items ≡ framed (payload (body_of body.now) content.now)) }
 {
     let length = stored_length(body, content);
@@ -53,12 +56,17 @@ fn stored_length(body: &Body, content: &[u8]) -> u32
 {
     match body {
         Body::Content { id: _, length: _ } => 1 + content.len() as u32,
-        Body::Change(_) | Body::Book(_) | Body::Land(_) => body.payload_length() as u32,
+        Body::Whole { .. }
+        | Body::Change(_)
+        | Body::Book(_)
+        | Body::Land(_)
+        | Body::Policy { .. } => body.payload_length() as u32,
     }
 }
 
 fn put_payload(out: &mut Vec<u8>, body: &Body, content: &[u8]) -> Result<(), AllocError>
-    requires { length (changesets_in (body_of body.now)) < 2 ^ 16 }
+    requires counted { length (changesets_in (body_of body.now)) < 2 ^ 16 }
+    requires parted { length (parts_in (body_of body.now)) < 2 ^ 16 }
     ensures { OnOk result (out.new.items ≡ out.old.items ++ payload (body_of body.now) content.now) }
 {
     match body {
@@ -66,6 +74,50 @@ fn put_payload(out: &mut Vec<u8>, body: &Body, content: &[u8]) -> Result<(), All
         Body::Change(commit) => encode_into(out, commit.changeset()),
         Body::Book(movement) => put_move(out, movement),
         Body::Land(landing) => put_landing(out, landing),
+        Body::Whole { id, length, parts } => put_whole(out, id, *length, parts.as_slice()),
+        Body::Policy { caller, text } => put_policy(out, caller, text.as_slice()),
+    }
+}
+
+fn put_whole(out: &mut Vec<u8>, id: &Id, total: u64, parts: &[Id]) -> Result<(), AllocError>
+    requires { length parts.now < 2 ^ 16 }
+    ensures { OnOk result (out.new.items ≡ out.old.items ++ payload (model.Whole id.now total parts.now) []) }
+{
+    out.push(mark::WHOLE)?;
+    out.extend_from_slice(id.as_bytes())?;
+    out.extend_from_slice(&total.to_be_bytes())?;
+    out.extend_from_slice(&(parts.len() as u16).to_be_bytes())?;
+    put_ids(out, parts)
+}
+
+fn put_ids(out: &mut Vec<u8>, ids: &[Id]) -> Result<(), AllocError>
+    ensures { OnOk result (out.new.items ≡ out.old.items ++ concat ids.now) }
+{
+    for id in ids {
+        out.extend_from_slice(id.as_bytes())?;
+    }
+    Ok(())
+}
+
+fn put_policy(out: &mut Vec<u8>, caller: &BookName, text: &[u8]) -> Result<(), AllocError>
+    ensures { OnOk result (out.new.items ≡ out.old.items ++ payload (model.Policy caller.now text.now) []) }
+{
+    out.push(mark::CALLER)?;
+    put_name(out, caller)?;
+    out.push(mark::POLICY)?;
+    out.extend_from_slice(text)
+}
+
+// A caller who is told, before the rest.
+fn put_caller(out: &mut Vec<u8>, caller: Option<&BookName>) -> Result<(), AllocError>
+    ensures { OnOk result (out.new.items ≡ out.old.items ++ caller_bytes (option_copied caller.entry)) }
+{
+    match caller {
+        None => Ok(()),
+        Some(name) => {
+            out.push(mark::CALLER)?;
+            put_name(out, name)
+        }
     }
 }
 
@@ -79,6 +131,7 @@ fn put_content(out: &mut Vec<u8>, content: &[u8]) -> Result<(), AllocError>
 fn put_move(out: &mut Vec<u8>, movement: &Move) -> Result<(), AllocError>
     ensures { OnOk result (out.new.items ≡ out.old.items ++ payload (body_of (Body.Book movement.now)) []) }
 {
+    put_caller(out, movement.caller.as_ref())?;
     out.push(mark::MOVE)?;
     put_name(out, &movement.name)?;
     put_optional(out, movement.from)?;
@@ -112,25 +165,65 @@ fn put_landing(out: &mut Vec<u8>, landing: &Landing) -> Result<(), AllocError>
     ensures { OnOk result (out.new.items ≡ out.old.items ++ payload (body_of (Body.Land landing.now)) []) }
 {
     let count = landing.new.len() as u16;
-    put_landing_head(out, &landing.name, landing.old, landing.draft, count)?;
+    let head = LandingHead {
+        caller: landing.caller.as_ref(),
+        name: &landing.name,
+        old: landing.old,
+        draft: landing.draft,
+        moment: landing.moment,
+    };
+    put_landing_head(out, &head, count)?;
     put_commits(out, landing.new.as_slice())
+}
+
+/// What a landing tells beside its changesets.
+#[derive(Clone, Copy)]
+pub struct LandingHead<'a> {
+    /// Who lands it, told where a policy is held.
+    pub caller: Option<&'a BookName>,
+    pub name: &'a BookName,
+    /// The head before.
+    pub old: Id,
+    pub draft: Id,
+    /// When it is landed, told where a changeset is of the second version.
+    pub moment: Option<u64>,
 }
 
 /// What a landing's payload has before its changesets, of which there are so many.
 pub(crate) fn put_landing_head(
     out: &mut Vec<u8>,
-    name: &BookName,
-    old: Id,
-    draft: Id,
+    head: &LandingHead<'_>,
     count: u16,
 ) -> Result<(), AllocError>
-    ensures { OnOk result (out.new.items ≡ out.old.items ++ landing_head name.now old draft count) }
+    ensures { OnOk result (out.new.items ≡ out.old.items ++ landing_head (option_copied head.now.caller) head.now.name.now head.now.old head.now.draft head.now.moment count) }
 {
-    out.push(mark::LANDING)?;
-    put_name(out, name)?;
-    out.extend_from_slice(old.as_bytes())?;
-    out.extend_from_slice(draft.as_bytes())?;
+    put_caller(out, head.caller)?;
+    put_landing_mark(out, head.moment)?;
+    put_name(out, head.name)?;
+    out.extend_from_slice(head.old.as_bytes())?;
+    out.extend_from_slice(head.draft.as_bytes())?;
+    put_moment(out, head.moment)?;
     out.extend_from_slice(&count.to_be_bytes())
+}
+
+fn put_landing_mark(out: &mut Vec<u8>, moment: Option<u64>) -> Result<(), AllocError>
+    ensures { OnOk result (out.new.items ≡ out.old.items ++ landing_mark moment ∷ []) }
+{
+    let mark = match moment {
+        None => mark::LANDING,
+        Some(_) => mark::DATED_LANDING,
+    };
+    out.push(mark)?;
+    Ok(())
+}
+
+fn put_moment(out: &mut Vec<u8>, moment: Option<u64>) -> Result<(), AllocError>
+    ensures { OnOk result (out.new.items ≡ out.old.items ++ moment_bytes moment) }
+{
+    match moment {
+        None => Ok(()),
+        Some(moment) => out.extend_from_slice(&moment.to_be_bytes()),
+    }
 }
 
 // The spellings, each behind its length.

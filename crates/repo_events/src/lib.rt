@@ -13,7 +13,7 @@ pub mod payload_fault;
 
 pub use body::{Body, Landing, Move};
 pub use decoding::decode_payload;
-pub use encoding::{encode_entry, frame_payload};
+pub use encoding::{LandingHead, encode_entry, frame_payload};
 pub use landing::{begin_landing, landing_length};
 pub use limits::{FRAME, MOST_PAYLOAD, MOST_STACK};
 pub use payload_fault::PayloadFault;

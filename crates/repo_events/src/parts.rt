@@ -2,15 +2,16 @@
 ghost use Rattle.std.specs.Prelude.{◌≡◌, IfOk, IfErr};
 ghost use Rattle.std.specs.Result.{result_ok};
 ghost use Rattle.byte_fields.specs.Gives.{Gives};
-ghost use Rattle.byte_fields.specs.Reading.{keeping, times};
+ghost use Rattle.byte_fields.specs.Reading.{id, keeping, times};
 ghost use Rattle.byte_fields.specs.Reads.{Reads};
 ghost use Rattle.byte_fields.specs.declared.field_fault.FieldFault.TheVariants.{Memory};
 ghost use Rattle.changeset_model.specs.Decoding.{decoded};
 ghost use Rattle.history_model.specs.Bookmark.{is_name};
 ghost use Rattle.history_model.specs.Payload as payload;
+ghost use Rattle.repo_events.specs.Entries.{moment_field};
 
 use bonsai::{Commit, DecodeFault};
-use byte_fields::fields::{bytes_at, id_at, u8_at, u32_at};
+use byte_fields::fields::{bytes_at, id_at, u8_at, u32_at, u64_at};
 use byte_fields::{BadField, FieldFault};
 use object_id::Id;
 use repo_path::{BookName, NameFault};
@@ -111,4 +112,34 @@ pub(crate) fn commits_at(
         rest = after;
     }
     Ok((commits, rest))
+}
+
+/// The moment of a landing that is dated, and none of one that isn't.
+pub(crate) fn moment_at(dated: bool, bytes: &[u8]) -> Result<(Option<u64>, &[u8]), BadField>
+    ensures { Gives (λ x. (x.0, x.1.now)) result (moment_field dated bytes.now) }
+{
+    if !dated {
+        return Ok((None, bytes));
+    }
+    let (moment, rest) = u64_at(bytes)?;
+    Ok((Some(moment), rest))
+}
+
+/// So many ids.
+pub(crate) fn ids_at(
+    alloc: Global,
+    count: u16,
+    bytes: &[u8],
+) -> Result<(Vec<Id>, &[u8]), FieldFault>
+    ensures { Reads (λ x. (x.0.items, x.1.now)) result (times count id bytes.now) }
+{
+    let room = usize::from(count).min(bytes.len() / 32);
+    let mut ids = Vec::with_capacity(alloc, room)?;
+    let mut rest = bytes;
+    for _ in 0..count {
+        let (part, after) = id_at(rest)?;
+        ids.push(Id::from_bytes(part))?;
+        rest = after;
+    }
+    Ok((ids, rest))
 }

@@ -3,6 +3,7 @@ ghost use Rattle.std.specs.Prelude.{◌≡◌, ◌↔◌, ◌+◌, ◌-◌, ◌�
 ghost use Rattle.std.specs.Option.{ForSome};
 ghost use Rattle.ports.specs.Faults.{Counts};
 ghost use Rattle.disk_model.specs.Images.{IsImage};
+ghost use Rattle.changeset_model.specs.Version.{First};
 ghost use Rattle.history_model.specs.Journal.{is_header};
 ghost use Rattle.disk_model.specs.Meaning.{IsLong};
 ghost use Rattle.disk_model.specs.Calls.{Kept, LeavesOnly, Looked};
@@ -45,7 +46,7 @@ impl Journal {
     /// A journal of a file with this capacity, whose closing gate stands directly before `size`. Nothing
     /// waits.
     pub fn new(alloc: Global, capacity: u64, size: u64, opening: Opening) -> Self
-        requires header { IsTrue (is_header (record { capacity = capacity })) }
+        requires header { IsTrue (is_header (record { capacity = capacity; version = First })) }
         requires some { EMPTY_SIZE ≤ size }
         requires fits { size ≤ capacity }
         ensures { result ≡ record { capacity = capacity; size = size; broken = false; opening = opening; pending = no_records } }

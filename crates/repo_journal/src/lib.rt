@@ -19,7 +19,7 @@ pub mod step;
 
 pub use create::init;
 pub use fault::{AppendFault, DiskFault, InitFault, ScanFault};
-pub use header::{EMPTY_SIZE, FIRST_GATE, LEAST_CAPACITY, MARK, MOST_CAPACITY};
+pub use header::{EMPTY_SIZE, FIRST_GATE, LEAST_CAPACITY, MARK, MOST_CAPACITY, SECOND_MARK};
 pub use journal::Journal;
 pub use opening::Opening;
 pub use pending::Pending;

@@ -12,6 +12,7 @@ use Rattle.history_model.specs.History.{Known, is_known}
 use Rattle.bonsai.specs.declared.change.Change as changes
 use Rattle.bonsai.specs.declared.change.Change.TheVariants as change
 use Rattle.bonsai.specs.declared.kind.FileKind as kinds
+use Rattle.bonsai.specs.declared.copy_source.CopySource as sources
 use Rattle.bonsai.specs.Kinds.{kind_view}
 use Rattle.bonsai.specs.View.{change_view, edit_view, edits_view}
 use Rattle.bonsai.specs.declared.edit.Edit as edits
@@ -34,7 +35,7 @@ apart_test a b apart = by (a == b) refl
     by true e = absurd (apart ((Decides-eqb a b).0 e))
     by false e = e
 
-module _ (lengths : Id → Option ℕ) (path : Path) (c : changes.Change) (content : Id) (kind : kinds.FileKind) (size : ℕ) (is : c ≡ change.Set content kind size) where
+module _ (lengths : Id → Option ℕ) (path : Path) (c : changes.Change) (content : Id) (kind : kinds.FileKind) (size : ℕ) (copied : Option sources.CopySource) (is : c ≡ change.Set content kind size copied) where
   of_set : (o : Option ℕ) → lengths content ≡ o → edit_refusal lengths (path, change_view c) ≡ reply.content_refusal (path, record { content = content; kind = kind_view kind; size = size }) o
   of_set o e = ap (λ c. edit_refusal lengths (path, change_view c)) is ∙ ap (reply.content_refusal (path, record { content = content; kind = kind_view kind; size = size })) e
 

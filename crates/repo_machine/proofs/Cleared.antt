@@ -4,12 +4,12 @@ use Rattle.std.specs.Prelude.{◌||◌, ◌&&◌, flat_map, sum_by, Option}
 use Rattle.std.specs.Option.{option_or, option_flatten}
 use Rattle.std.proofs.lemmas.List.{map-append}
 use Rattle.byte_fields.specs.Bytes.{Id, first_some, last_some}
-use Rattle.history_model.specs.History.{Body, Content, Change, Book, Land, Fault, Entry, with_id, each_id_once, is_stored, is_breaking, unnumbered, bodies, stored, is_down, changesets_in, known, length_in, content_len}
+use Rattle.history_model.specs.History.{Body, Content, Whole, Change, Book, Land, Policy, Fault, Entry, with_id, each_id_once, is_stored, is_breaking, unnumbered, bodies, stored, is_down, changesets_in, known, length_in, content_len}
 use Rattle.history_model.specs.Bookmark.{moved_to, head}
 use Rattle.history_model.specs.Journal.{Header, record_len, size}
-use Rattle.reply_model.specs.Reply.{Ask, Judged, judge}
+use Rattle.reply_model.specs.Reply.{Ask, is_ask, Judged, judge}
 use Rattle.reply_model.specs.Legal.{MayFollow, GoesOn, IsLegal}
-use Rattle.reply_model.proofs.Stored.{judge-stored, granted_is_up}
+use Rattle.reply_model.proofs.Stored.{judge-stored, is_ask-stored, granted_is_up}
 use Rattle.std.specs.Prelude.{Ok}
 use Rattle.repo_machine.specs.Seats.{cleared}
 
@@ -57,12 +57,17 @@ judge-cleared header h ask judged e =
     let up = granted_is_up header h ask judged e in
     sym (judge-stored header (cleared h) ask (is_down-cleared h ∙ up)) ∙ ap (λ g. judge header g ask) (stored-cleared h) ∙ judge-stored header h ask up ∙ e
 
+is_ask-cleared : (h : List Entry) (ask : Ask) → is_ask (cleared h) ask ≡ is_ask h ask
+is_ask-cleared h ask = sym (is_ask-stored (cleared h) ask) ∙ ap (λ g. is_ask g ask) (stored-cleared h) ∙ is_ask-stored h ask
+
 pub follows_cleared : (header : Header) (h : List Entry) (body : Body) → MayFollow header h body → MayFollow header (cleared h) body
 follows_cleared header h (Fault breaking) m = ap (λ b. breaking && b) (is_down-cleared h) ∙ m
-follows_cleared header h (Content x n) m = (m.0, m.1, m.2, judge-cleared header h m.0 _ m.3)
-follows_cleared header h (Change c) m = (m.0, m.1, m.2, judge-cleared header h m.0 _ m.3)
-follows_cleared header h (Book move) m = (m.0, m.1, m.2, judge-cleared header h m.0 _ m.3)
-follows_cleared header h (Land landing) m = (m.0, m.1, m.2, judge-cleared header h m.0 _ m.3)
+follows_cleared header h (Content x n) m = (m.0, m.1, is_ask-cleared h m.0 ∙ m.2, judge-cleared header h m.0 _ m.3)
+follows_cleared header h (Whole x n parts) m = (m.0, m.1, is_ask-cleared h m.0 ∙ m.2, judge-cleared header h m.0 _ m.3)
+follows_cleared header h (Change c) m = (m.0, m.1, is_ask-cleared h m.0 ∙ m.2, judge-cleared header h m.0 _ m.3)
+follows_cleared header h (Book move) m = (m.0, m.1, is_ask-cleared h m.0 ∙ m.2, judge-cleared header h m.0 _ m.3)
+follows_cleared header h (Land landing) m = (m.0, m.1, is_ask-cleared h m.0 ∙ m.2, judge-cleared header h m.0 _ m.3)
+follows_cleared header h (Policy caller text) m = (m.0, m.1, is_ask-cleared h m.0 ∙ m.2, judge-cleared header h m.0 _ m.3)
 
 goes_cleared : (header : Header) (before h : List Entry) → GoesOn header before h → GoesOn header (cleared before) (cleared h)
 goes_cleared header before [] g = tt

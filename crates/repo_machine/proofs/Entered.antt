@@ -9,7 +9,7 @@ use Rattle.reply_model.proofs.Lines.{known-append}
 use Rattle.repo_machine.proofs.Growing.{head-push, content_len-push}
 use Rattle.std.proofs.lemmas.List.Folds.{list_any-append}
 use Rattle.byte_fields.specs.Bytes.{Id}
-use Rattle.history_model.specs.History.{Body, Content, Change, Book, Land, Fault, Entry, Known, is_down, is_stored, is_breaking, known, content_len}
+use Rattle.history_model.specs.History.{Body, Content, Whole, Change, Book, Land, Policy, Fault, Entry, Known, is_down, is_stored, is_breaking, known, content_len}
 use Rattle.history_model.specs.Bookmark.{head}
 use Rattle.history_model.specs.Journal.{Header, payload_len, record_len}
 use Rattle.history_model.specs.Journal as journal
@@ -28,6 +28,8 @@ record_length h who body stored = size-push h (entry_by who body) ∙ ap (λ b. 
 
 stored_stands : (body : Body) → is_stored body ≡ true → is_breaking body ≡ false
 stored_stands (Content x n) e = refl
+stored_stands (Whole x n parts) e = refl
+stored_stands (Policy caller text) e = refl
 stored_stands (Change c) e = refl
 stored_stands (Book move) e = refl
 stored_stands (Land landing) e = refl

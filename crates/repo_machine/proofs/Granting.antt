@@ -12,7 +12,7 @@ use Rattle.repo_machine.specs.Entering.{IsNew, IsPrepared, Prevents, Enters, Jud
 use Rattle.repo_machine.specs.Landings.{IsRefusal}
 use Rattle.repo_machine.proofs.Judging.{entered_made, prevented}
 
-module _ (header : Header) (h : List Entry) (room : Room) (who : ℕ) (ask : Ask) (asks : is_ask ask ≡ true) (granted : Granted) where
+module _ (header : Header) (h : List Entry) (room : Room) (who : ℕ) (ask : Ask) (asks : is_ask h ask ≡ true) (granted : Granted) where
   pub judges_made : (body : Body) → judge header h ask ≡ entered header h granted body → IsNew h body → (j : JudgedChange) → IsPrepared header h room who granted body j → Judges header h room who ask j
   judges_made body judged new j p = record {
     by = p.by;

@@ -16,7 +16,7 @@ use Rattle.std.proofs.lemmas.Map.Text.{is_eq-slice_cmp}
 use Rattle.std.proofs.lemmas.Slice.Eq.{bytes_eq-Decides}
 use Rattle.byte_fields.specs.Bytes.{Id, last_of, last_some}
 use Rattle.changeset_model.specs.Changeset.{id_of}
-use Rattle.history_model.specs.History.{Body, Content, Change, Book, Land, Fault, Entry}
+use Rattle.history_model.specs.History.{Body, Content, Whole, Change, Book, Land, Policy, Fault, Entry}
 use Rattle.history_model.specs.Bookmark.{moved_to, head}
 use Rattle.repo_machine.specs.Counting.{names_in, names, bookmarks}
 use Rattle.byte_fields.proofs.Booleans.{neither}
@@ -25,6 +25,8 @@ use Rattle.byte_fields.proofs.Booleans.{neither}
 
 unnamed_by : (name : List ℕ) (body : Body) (rest : List (List ℕ)) → is_member bytes_eq (names_in body ++ rest) name ≡ false → (moved_to name body ≡ None) × (is_member bytes_eq rest name ≡ false)
 unnamed_by name (Content x n) rest e = (refl, e)
+unnamed_by name (Whole x n parts) rest e = (refl, e)
+unnamed_by name (Policy caller text) rest e = (refl, e)
 unnamed_by name (Change c) rest e = (refl, e)
 unnamed_by name (Book move) rest e = let both = neither (bytes_eq name move.name) (is_member bytes_eq rest name) e in (ap (λ b. cond b (Some move.to) None) both.0, both.1)
 unnamed_by name (Land landing) rest e = let both = neither (bytes_eq name landing.name) (is_member bytes_eq rest name) e in (ap (λ b. cond b (Some (option_map id_of (last_of landing.new))) None) both.0, both.1)

@@ -10,7 +10,7 @@ use Rattle.history_model.specs.History.{Body, Content, Book, Entry, is_down, kno
 use Rattle.history_model.specs.Bookmark.{head}
 use Rattle.history_model.specs.Journal.{Header, payload_len, is_full}
 use Rattle.history_model.specs.Journal as journal
-use Rattle.reply_model.specs.Reply.{PutContent, SetBookmark, ContentPut, BookmarkSet, TooLong, NoChangeset, Moved, refuse_some, Full, Down, Ask, Granted, Refusal, Judged, by_ask, judge, refuse_if, unchanged, entered, put_content, ◌>>=◌}
+use Rattle.reply_model.specs.Reply.{told, PutContent, SetBookmark, ContentPut, BookmarkSet, TooLong, NoChangeset, Moved, refuse_some, Full, Down, Ask, Granted, Refusal, Judged, by_ask, judge, refuse_if, unchanged, entered, put_content, ◌>>=◌}
 use Rattle.reply_model.specs.After.{Answer, Asks, Grants, Refuses, Memory, nothing, Replies, entry_by, entries_of}
 use Rattle.repo_calls.specs.declared.refusal.Refusal as refusal
 use Rattle.repo_calls.specs.declared.refusal.Refusal.TheVariants as refusals
@@ -69,12 +69,12 @@ judged_long header h bytes up long =
 
 -- ---- a bookmark
 
-module _ (header : Header) (h : List Entry) (name : List ℕ) (from to : Option Id) (up : is_down h ≡ false) where
+module _ (header : Header) (h : List Entry) (caller name : List ℕ) (from to : Option Id) (up : is_down h ≡ false) where
   abbrev unknown : Option Id
   unknown = find (λ x. not (is_known (known h) x)) (option_to_list to)
 
   abbrev moving : Result Judged Refusal
-  moving = cond (option_eq bytes_eq from to) (unchanged BookmarkSet) (entered header h BookmarkSet (Book (record { name = name; from = from; to = to })))
+  moving = cond (option_eq bytes_eq from to) (unchanged BookmarkSet) (entered header h BookmarkSet (Book (record { name = name; from = from; to = to; caller = told h caller })))
 
   abbrev from_head : Bool → Result Judged Refusal
   from_head same = refuse_if (not same) (Moved (head h name)) >>= λ _. moving
@@ -82,20 +82,20 @@ module _ (header : Header) (h : List Entry) (name : List ℕ) (from to : Option 
   abbrev to_target : Option Id → Result Judged Refusal
   to_target none = refuse_some none NoChangeset >>= λ _. from_head (option_eq bytes_eq (head h name) from)
 
-  pub judged_unknown : (x : Id) → unknown ≡ Some x → judge header h (SetBookmark name from to) ≡ Err (NoChangeset x)
-  judged_unknown x e = judged_up header h (SetBookmark name from to) up ∙ ap to_target e
+  pub judged_unknown : (x : Id) → unknown ≡ Some x → judge header h (SetBookmark caller name from to) ≡ Err (NoChangeset x)
+  judged_unknown x e = judged_up header h (SetBookmark caller name from to) up ∙ ap to_target e
 
-  known_target : unknown ≡ None → judge header h (SetBookmark name from to) ≡ from_head (option_eq bytes_eq (head h name) from)
-  known_target e = judged_up header h (SetBookmark name from to) up ∙ ap to_target e
+  known_target : unknown ≡ None → judge header h (SetBookmark caller name from to) ≡ from_head (option_eq bytes_eq (head h name) from)
+  known_target e = judged_up header h (SetBookmark caller name from to) up ∙ ap to_target e
 
-  pub judged_moved : unknown ≡ None → option_eq bytes_eq (head h name) from ≡ false → judge header h (SetBookmark name from to) ≡ Err (Moved (head h name))
+  pub judged_moved : unknown ≡ None → option_eq bytes_eq (head h name) from ≡ false → judge header h (SetBookmark caller name from to) ≡ Err (Moved (head h name))
   judged_moved e other = known_target e ∙ ap from_head other
 
-  pub judged_same : unknown ≡ None → option_eq bytes_eq (head h name) from ≡ true → option_eq bytes_eq from to ≡ true → judge header h (SetBookmark name from to) ≡ unchanged BookmarkSet
-  judged_same e there same = known_target e ∙ ap from_head there ∙ ap (λ b. cond b (unchanged BookmarkSet) (entered header h BookmarkSet (Book (record { name = name; from = from; to = to })))) same
+  pub judged_same : unknown ≡ None → option_eq bytes_eq (head h name) from ≡ true → option_eq bytes_eq from to ≡ true → judge header h (SetBookmark caller name from to) ≡ unchanged BookmarkSet
+  judged_same e there same = known_target e ∙ ap from_head there ∙ ap (λ b. cond b (unchanged BookmarkSet) (entered header h BookmarkSet (Book (record { name = name; from = from; to = to; caller = told h caller })))) same
 
-  pub judged_moving : unknown ≡ None → option_eq bytes_eq (head h name) from ≡ true → option_eq bytes_eq from to ≡ false → judge header h (SetBookmark name from to) ≡ entered header h BookmarkSet (Book (record { name = name; from = from; to = to }))
-  judged_moving e there apart = known_target e ∙ ap from_head there ∙ ap (λ b. cond b (unchanged BookmarkSet) (entered header h BookmarkSet (Book (record { name = name; from = from; to = to })))) apart
+  pub judged_moving : unknown ≡ None → option_eq bytes_eq (head h name) from ≡ true → option_eq bytes_eq from to ≡ false → judge header h (SetBookmark caller name from to) ≡ entered header h BookmarkSet (Book (record { name = name; from = from; to = to; caller = told h caller }))
+  judged_moving e there apart = known_target e ∙ ap from_head there ∙ ap (λ b. cond b (unchanged BookmarkSet) (entered header h BookmarkSet (Book (record { name = name; from = from; to = to; caller = told h caller })))) apart
 
 -- ---- refusals
 

@@ -23,7 +23,7 @@ known_one h who c = by (is_known (known h) (id_of c)) refl
     by false e = adds_it (known h) c e ∙ sym (known-change h who c e)
 
 abbrev landing_of : Landing → List Changeset → Landing
-landing_of l cs = record { name = l.name; old = l.old; draft = l.draft; new = cs }
+landing_of l cs = record { name = l.name; old = l.old; draft = l.draft; new = cs; moment = l.moment; caller = l.caller }
 
 known_all : (h : List Entry) (who : ℕ) (l : Landing) (cs : List Changeset) → adding (known h) cs ≡ known (h ++ entry_by who (Land (landing_of l cs)) ∷ [])
 known_all h who l [] = sym (known-append h (entry_by who (Land (landing_of l [])) ∷ []) ∙ append-nil (known h))

@@ -43,11 +43,11 @@ module _ (ks : List model.Known) (es : List Entry) (within : AllByRecursion (IsW
   news : map (changeset_at (ks ++ more)) l.numbers.items ≡ new
   news = ap (λ ks. map (changeset_at ks) l.numbers.items) (sym grown) ∙ noted
 
-  pub history_landed : history_of ks' after ≡ history_of ks es ++ entry_by who (model.Land (record { name = l.name; old = l.old; draft = l.draft; new = new })) ∷ []
+  pub history_landed : history_of ks' after ≡ history_of ks es ++ entry_by who (model.Land (record { name = l.name; old = l.old; draft = l.draft; new = new; moment = l.moment; caller = l.caller })) ∷ []
   history_landed =
       ap (λ ks. history_of ks after) grown
       ∙ history_pushed ks es within (record { who = who; «record» = Land l }) seen same after grows more
-      ∙ (λ i. history_of ks es ++ entry_by who (model.Land (record { name = l.name; old = l.old; draft = l.draft; new = news i })) ∷ [])
+      ∙ (λ i. history_of ks es ++ entry_by who (model.Land (record { name = l.name; old = l.old; draft = l.draft; new = news i; moment = l.moment; caller = l.caller })) ∷ [])
 
   pub within_landed : AllByRecursion (λ n. n < length ks') l.numbers.items → AllByRecursion (IsWithin (length ks')) after
   within_landed fits =
@@ -55,9 +55,9 @@ module _ (ks : List model.Known) (es : List Entry) (within : AllByRecursion (IsW
       (within_pushed ks es within (record { who = who; «record» = Land l }) seen same after grows more (subst (λ ks. AllByRecursion (λ n. n < length ks) l.numbers.items) grown fits))
 
 -- they can be added
-pub can_as : (header : Header) (h : List model.Entry) (name : List ℕ) (draft : Id) (l : model.Landing) → IsLandable header h name draft l → CanAdd (model.known h) l.new
-can_as header h name draft l able =
-    subst (CanAdd (model.known h)) (sym able.rewritten) (can_add (model.known h) able.fork_is.stack l.old able.old_known (subst (AreAlone (model.known h)) able.rewritten able.alone))
+pub can_as : (header : Header) (h : List model.Entry) (name : List ℕ) (draft : Id) (moment : ℕ) (l : model.Landing) → IsLandable header h name draft moment l → CanAdd (model.known h) l.new
+can_as header h name draft moment l able =
+    subst (CanAdd (model.known h)) (sym able.rewritten) (can_add (model.known h) able.fork_is.stack l.old moment able.old_known (subst (AreAlone (model.known h)) able.rewritten able.alone))
 
 pub outer_rules : (a b c : Bool) → (a && b && c) ≡ true → (a && c) ≡ true
 outer_rules true true c e = e
@@ -66,12 +66,14 @@ outer_rules false b c e = absurd (cc)
 
 abbrev granted_old : Id → reply.Granted → Id
 granted_old none (reply.ContentPut x) = none
+granted_old none (reply.WholePut x n) = none
 granted_old none (reply.ChangesetPut x) = none
 granted_old none reply.BookmarkSet = none
 granted_old none (reply.Landed old ids) = old
 
 abbrev granted_ids : reply.Granted → List Id
 granted_ids (reply.ContentPut x) = []
+granted_ids (reply.WholePut x n) = []
 granted_ids (reply.ChangesetPut x) = []
 granted_ids reply.BookmarkSet = []
 granted_ids (reply.Landed old ids) = ids

@@ -174,7 +174,7 @@ last_id : (cs : List Changeset) → (length cs ≡ 0 → ⊥) → (x : Id) × (o
 last_id [] some = absurd (some refl)
 last_id (c ∷ cs) some = last_some c cs
 
-module _ (header : Header) (h : List Entry) (who : ℕ) (l : Landing) (name : List ℕ) (draft : Id) (able : IsLandable header h name draft l) (after : List Entry) (grows : after ≡ h ++ entry_by who (Land l) ∷ []) (legal : IsLegal header after) where
+module _ (header : Header) (h : List Entry) (who : ℕ) (l : Landing) (name : List ℕ) (draft : Id) (moment : ℕ) (able : IsLandable header h name draft moment l) (after : List Entry) (grows : after ≡ h ++ entry_by who (Land l) ∷ []) (legal : IsLegal header after) where
   last : (x : Id) × (option_map id_of (last_of l.new) ≡ Some x)
   last = last_id l.new (λ none. (let some = able.some in omega arith))
 
@@ -192,7 +192,7 @@ module _ (header : Header) (h : List Entry) (who : ℕ) (l : Landing) (name : Li
       let of_head = changesets (chain (known h) l.old) in
       ap (λ cs. tree cs p)
       (ap changesets chain_now ∙ changesets-append (chain (known h) l.old) (map with_id l.new) ∙ ap (λ (cs : List Changeset). of_head ++ cs) (changesets-with_id l.new ∙ able.rewritten))
-      ∙ tree-landed of_head able.fork_is.stack l.old p
+      ∙ tree-landed of_head able.fork_is.stack l.old moment p
 
   tree_before : (p : Path) → Contains (touched_paths able.fork_is.stack) p → tree (changesets (chain (known h) l.old)) p ≡ tree (changesets (chain (known h) able.fork_is.root.id)) p
   tree_before p touched =

@@ -11,17 +11,21 @@ use Rattle.history_model.specs.Journal.{Header}
 use Rattle.history_model.specs.Repository.{Repository}
 use Rattle.reply_model.specs.Reply as reply
 use Rattle.reply_model.specs.Reply.{LandDraft, judge, refuse_if, ◌>>=◌}
+use Rattle.reply_model.specs.Opening.{nobody}
 use Rattle.reply_model.proofs.Parents.{grown, brought}
 use Rattle.changeset_store.specs.declared.fork.Fork as store
 use Rattle.changeset_store.specs.Fork.{IsFork, fork_between}
 use Rattle.repo_calls.specs.declared.refusal.Refusal.{Refusal}
 use Rattle.repo_calls.specs.declared.refusal.Refusal.TheVariants as refusals
+use Rattle.bonsai.specs.Making.{KeepOnParents}
 use Rattle.repo_machine.specs.Plans.{IsPlan}
 use Rattle.repo_machine.specs.Indexes.{AreIndexes}
-use Rattle.repo_machine.specs.Landings.{IsRefusal, forking, lengths_checked, paths_checked}
+use Rattle.repo_machine.specs.Landings.{IsRefusal, IsLandingRefusal, forking, lengths_checked, merges_checked, paths_checked}
 use Rattle.changeset_store.proofs.KnownOnce.{is_known-once}
 use Rattle.repo_machine.proofs.Uploading.{known_as}
-use Rattle.repo_machine.proofs.LandingSteps.{is_short, none_refused, no_bookmark, fork_refused, lengths_refused, paths_refused}
+use Rattle.repo_machine.proofs.Forks.{no_merges, stack_keeps}
+use Rattle.repo_machine.proofs.Putting.{legal_as}
+use Rattle.repo_machine.proofs.LandingSteps.{is_short, stack_in_line, range_in_line, none_refused, no_bookmark, fork_refused, lengths_refused, paths_refused}
 use Rattle.reply_model.proofs.Parents.{head_known as from_some}
 
 fork_some_by : (there : Bool) (draft : Id) (found : Option Fork) (f : Fork) → (refuse_if (not there) (reply.NoChangeset draft) >>= λ _. ok_or found reply.NoRoot) ≡ Ok f → found ≡ Some f
@@ -47,27 +51,30 @@ module _ {header : Header} {h : List Entry} {ks : List Known} {heads : List ℕ 
         ∙ from_some (brought h) (head h name) old (ap (λ r. head r.history name) is ∙ at) ((grown header h k.legal).heads name)
 
     module _ (draft : Id) where
-      pub no_head : head r.history name ≡ None → IsRefusal (judge r.header r.history (LandDraft name draft)) refusals.NoBookmark
-      no_head none = no_bookmark r.header r.history name draft up none
+      pub no_head : head r.history name ≡ None → IsLandingRefusal r.header r.history name draft refusals.NoBookmark
+      no_head none moment = no_bookmark r.header r.history nobody name draft moment up none
 
-      pub fork_refused_as : (e : Refusal) → IsRefusal (forking ks old draft) e → IsRefusal (judge r.header r.history (LandDraft name draft)) e
-      fork_refused_as e refusal = fork_refused r.header r.history name draft up old at e (subst (λ ks. IsRefusal (forking ks old draft) e) (known_as k r is) refusal)
+      pub fork_refused_as : (e : Refusal) → IsRefusal (forking ks old draft) e → IsLandingRefusal r.header r.history name draft e
+      fork_refused_as e refusal moment = fork_refused r.header r.history nobody name draft moment up old at e (subst (λ ks. IsRefusal (forking ks old draft) e) (known_as k r is) refusal)
 
       module _ (f : store.Fork) (is_fork : IsFork ks f) (forks : forking ks old draft ≡ Ok (fork_between ks f)) where
         forks_as : forking (known r.history) old draft ≡ Ok (fork_between (known r.history) f)
         forks_as = subst (λ ks. forking ks old draft ≡ Ok (fork_between ks f)) (known_as k r is) forks
 
-        pub lengths_refused_as : (e : Refusal) → IsRefusal (lengths_checked (fork_between ks f)) e → IsRefusal (judge r.header r.history (LandDraft name draft)) e
-        lengths_refused_as e refusal =
-            lengths_refused r.header r.history name draft up old at (fork_between (known r.history) f) forks_as e (subst (λ ks. IsRefusal (lengths_checked (fork_between ks f)) e) (known_as k r is) refusal)
+        pub lengths_refused_as : (e : Refusal) → IsRefusal (lengths_checked (fork_between ks f)) e → IsLandingRefusal r.header r.history name draft e
+        lengths_refused_as e refusal moment =
+            lengths_refused r.header r.history nobody name draft moment up old at (fork_between (known r.history) f) forks_as e (subst (λ ks. IsRefusal (lengths_checked (fork_between ks f)) e) (known_as k r is) refusal)
 
         module _ (short : lengths_checked (fork_between ks f) ≡ Ok tt) where
           short_as : lengths_checked (fork_between (known r.history) f) ≡ Ok tt
           short_as = subst (λ ks. lengths_checked (fork_between ks f) ≡ Ok tt) (known_as k r is) short
 
-          pub paths_refused_as : (e : Refusal) → IsRefusal (paths_checked (fork_between ks f)) e → IsRefusal (judge r.header r.history (LandDraft name draft)) e
-          paths_refused_as e refusal =
-              paths_refused r.header r.history name draft up old at (fork_between (known r.history) f) forks_as short_as e (subst (λ ks. IsRefusal (paths_checked (fork_between ks f)) e) (known_as k r is) refusal)
+          in_line : merges_checked (fork_between (known r.history) f) ≡ Ok tt
+          in_line = no_merges r.header r.history (legal_as k r is) f
+
+          pub paths_refused_as : (e : Refusal) → IsRefusal (paths_checked (fork_between ks f)) e → IsLandingRefusal r.header r.history name draft e
+          paths_refused_as e refusal moment =
+              paths_refused r.header r.history nobody name draft moment up old at (fork_between (known r.history) f) forks_as short_as in_line e (subst (λ ks. IsRefusal (paths_checked (fork_between ks f)) e) (known_as k r is) refusal)
 
           pub planned : (name' : List ℕ) → name' ≡ name → (stack : List Changeset) → stack ≡ (fork_between ks f).stack → (touched : List Path) → touched ≡ touched_paths (fork_between ks f).stack → paths_checked (fork_between ks f) ≡ Ok tt → IsPlan r.history name draft (record { name = name'; draft = draft; old = old; stack = stack; touched = touched })
           planned name' named stack stack_is touched touched_is apart =
@@ -85,6 +92,13 @@ module _ {header : Header} {h : List Entry} {ks : List Known} {heads : List ℕ 
                 near = lengths.near;
                 some = lengths.some;
                 few = lengths.few;
+                stack_in_line = stack_in_line (fork_between (known r.history) f) in_line;
+                range_in_line = range_in_line (fork_between (known r.history) f) in_line;
                 apart = none_refused _ _ apart_as;
                 touched_is = touched_is ∙ ap touched_paths (sym stack_is);
               }
+
+        -- the copy sources of the stack are kept on the head
+        pub stack_keeps_as : (stack : List Changeset) → stack ≡ (fork_between ks f).stack → KeepOnParents stack
+        stack_keeps_as stack stack_is =
+            subst KeepOnParents (sym (stack_is ∙ ap (λ ks. (fork_between ks f).stack) (known_as k r is))) (stack_keeps r.header r.history (legal_as k r is) f)

@@ -1,6 +1,6 @@
 -- What the steps of a landing give, and what is judged by them.
-use Rattle.std.proofs.Common.{◌≡◌, ℕ, ◌<◌, ◌≤◌, lt-ltb, le-ltb, Bool, true, false, List, length, map, inl, inr, refl, sym, ap, ◌∙◌, arith}
-use Rattle.std.specs.Prelude.{Option, None, Some, Result, Ok, Err, not, nat_lt, ◌==◌, ok_or}
+use Rattle.std.proofs.Common.{◌≡◌, ℕ, ◌<◌, ◌≤◌, lt-ltb, le-ltb, Bool, true, false, List, length, map, inl, inr, refl, sym, ap, subst, ◌∙◌, arith}
+use Rattle.std.specs.Prelude.{Option, None, Some, Result, Ok, Err, not, nat_lt, ◌==◌, ok_or, find, option_map}
 use Rattle.std.proofs.lemmas.Bool.{eq-eqb}
 use Rattle.std.proofs.lemmas.Bool.Decides.{Decides-eqb, nat_tests}
 use mathlib.Core.Bool.{true≢false}
@@ -9,16 +9,17 @@ use Rattle.changeset_model.specs.Changeset.{Changeset, id_of}
 use Rattle.history_model.specs.History as model
 use Rattle.history_model.specs.History.{Entry, Known, Land, is_down, known, is_known}
 use Rattle.history_model.specs.Bookmark.{head}
-use Rattle.history_model.specs.Pushrebase.{Fork, fork, rewrite}
+use Rattle.history_model.specs.Pushrebase.{Fork, fork, rewrite, moment_of}
 use Rattle.history_model.specs.Journal.{Header, payload_len, most_payload}
 use Rattle.reply_model.specs.Reply as reply
-use Rattle.reply_model.specs.Reply.{◌>>=◌, refuse_if, refuse_some, most_range, most_stack, first_collision, LandDraft, Judged, judge, entered, enter_landing, land}
+use Rattle.reply_model.specs.Reply.{◌>>=◌, refuse_if, refuse_some, most_range, most_stack, is_merge, told, first_collision, LandDraft, Judged, judge, entered, enter_landing, land}
 use Rattle.reply_model.specs.After.{Refuses}
 use Rattle.repo_calls.specs.Calls.{refused}
 use Rattle.repo_calls.specs.declared.refusal.Refusal.{Refusal}
 use Rattle.repo_calls.specs.declared.refusal.Refusal.TheVariants as refusals
-use Rattle.repo_machine.specs.Landings.{IsRefusal, Checked, forking, lengths_checked, paths_checked, payload_checked, collisions_checked}
-use Rattle.repo_machine.proofs.Judging.{judged_up}
+use Rattle.reply_model.specs.Opening.{nobody}
+use Rattle.repo_machine.specs.Landings.{IsRefusal, IsLandingRefusal, Checked, forking, lengths_checked, merges_checked, paths_checked, payload_checked, collisions_checked}
+use Rattle.repo_machine.proofs.Judging.{judged_up, refused_down}
 
 -- ---- lengths
 
@@ -115,6 +116,22 @@ pub none_refused : {X : Type 0} (found : Option X) (make : X → reply.Refusal) 
 none_refused None make e = refl
 none_refused (Some x) make e = absurd cc
 
+-- ---- merges
+
+line_by : (stack range : Option Changeset) → (refuse_some (option_map id_of stack) reply.MergeInStack >>= λ _. refuse_some (option_map id_of range) reply.MergeInRange) ≡ Ok tt → (stack ≡ None) × (range ≡ None)
+line_by None None e = (refl, refl)
+line_by None (Some c) e = absurd cc
+line_by (Some c) range e = absurd cc
+
+pub stack_in_line : (f : Fork) → merges_checked f ≡ Ok tt → find is_merge f.stack ≡ None
+stack_in_line f e = (line_by (find is_merge f.stack) (find is_merge f.range) e).0
+
+pub range_in_line : (f : Fork) → merges_checked f ≡ Ok tt → find is_merge f.range ≡ None
+range_in_line f e = (line_by (find is_merge f.stack) (find is_merge f.range) e).1
+
+pub in_line_again : (f : Fork) → find is_merge f.stack ≡ None → find is_merge f.range ≡ None → merges_checked f ≡ Ok tt
+in_line_again f stack range = (λ i. refuse_some (option_map id_of (stack i)) reply.MergeInStack >>= λ _. refuse_some (option_map id_of (range i)) reply.MergeInRange)
+
 -- ---- the payload
 
 pub too_large : (l : model.Landing) (n : ℕ) → n ≡ payload_len (Land l) → most_payload < n → IsRefusal (payload_checked l) (refusals.TooLarge n)
@@ -131,16 +148,27 @@ three (Ok a) (Ok b) (Err e) rest = refl
 three (Ok a) (Err e) third rest = refl
 three (Err e) second third rest = refl
 
+both : (first second : Checked) (rest : Result Judged reply.Refusal) → (first >>= λ _. (second >>= λ _. rest)) ≡ ((first >>= λ _. second) >>= λ _. rest)
+both (Ok a) (Ok b) rest = refl
+both (Ok a) (Err e) rest = refl
+both (Err e) second rest = refl
+
 two : (first : Checked) (found : Result Fork reply.Refusal) (rest : Fork → Result Judged reply.Refusal) → (first >>= λ _. (found >>= rest)) ≡ ((first >>= λ _. found) >>= rest)
 two (Ok a) found rest = refl
 two (Err e) found rest = refl
 
-module _ (header : Header) (h : List Entry) (name : List ℕ) (draft : Id) (up : is_down h ≡ false) where
+module _ (header : Header) (h : List Entry) (caller name : List ℕ) (draft : Id) (moment : ℕ) (up : is_down h ≡ false) where
+  abbrev ask : reply.Ask
+  ask = LandDraft caller name draft moment
+
   abbrev after_paths : Id → Fork → Result Judged reply.Refusal
-  after_paths old f = enter_landing header h name old draft (rewrite f.stack old)
+  after_paths old f = enter_landing header h (told h caller) name old draft (rewrite f.stack old moment) (moment_of f.stack moment)
+
+  abbrev after_merges : Id → Fork → Result Judged reply.Refusal
+  after_merges old f = paths_checked f >>= λ _. after_paths old f
 
   abbrev after_lengths : Id → Fork → Result Judged reply.Refusal
-  after_lengths old f = paths_checked f >>= λ _. after_paths old f
+  after_lengths old f = merges_checked f >>= λ _. after_merges old f
 
   abbrev after_fork : Id → Fork → Result Judged reply.Refusal
   after_fork old f = lengths_checked f >>= λ _. after_lengths old f
@@ -148,52 +176,57 @@ module _ (header : Header) (h : List Entry) (name : List ℕ) (draft : Id) (up :
   abbrev after_head : Id → Result Judged reply.Refusal
   after_head old = forking (known h) old draft >>= after_fork old
 
-  in_order : (old : Id) (f : Fork) → (refuse_if (nat_lt most_range (length f.range)) (reply.TooFarBehind (length f.range)) >>= λ _. (refuse_if (length f.stack == 0) reply.AlreadyIn >>= λ _. (refuse_if (nat_lt most_stack (length f.stack)) (reply.StackTooLong (length f.stack)) >>= λ _. after_lengths old f))) ≡ after_fork old f
-  in_order old f = three (refuse_if (nat_lt most_range (length f.range)) (reply.TooFarBehind (length f.range))) (refuse_if (length f.stack == 0) reply.AlreadyIn) (refuse_if (nat_lt most_stack (length f.stack)) (reply.StackTooLong (length f.stack))) (after_lengths old f)
+  in_order : (old : Id) (f : Fork) → (refuse_if (nat_lt most_range (length f.range)) (reply.TooFarBehind (length f.range)) >>= λ _. (refuse_if (length f.stack == 0) reply.AlreadyIn >>= λ _. (refuse_if (nat_lt most_stack (length f.stack)) (reply.StackTooLong (length f.stack)) >>= λ _.
+      (refuse_some (option_map id_of (find is_merge f.stack)) reply.MergeInStack >>= λ _. (refuse_some (option_map id_of (find is_merge f.range)) reply.MergeInRange >>= λ _. after_merges old f))))) ≡ after_fork old f
+  in_order old f =
+      (λ i. refuse_if (nat_lt most_range (length f.range)) (reply.TooFarBehind (length f.range)) >>= λ _. (refuse_if (length f.stack == 0) reply.AlreadyIn >>= λ _. (refuse_if (nat_lt most_stack (length f.stack)) (reply.StackTooLong (length f.stack)) >>= λ _.
+      both (refuse_some (option_map id_of (find is_merge f.stack)) reply.MergeInStack) (refuse_some (option_map id_of (find is_merge f.range)) reply.MergeInRange) (after_merges old f) i)))
+      ∙ three (refuse_if (nat_lt most_range (length f.range)) (reply.TooFarBehind (length f.range))) (refuse_if (length f.stack == 0) reply.AlreadyIn) (refuse_if (nat_lt most_stack (length f.stack)) (reply.StackTooLong (length f.stack))) (after_lengths old f)
 
-  judged_head : (found : Option Id) → head h name ≡ found → judge header h (LandDraft name draft) ≡ (ok_or found reply.NoBookmark >>= after_head)
+  judged_head : (found : Option Id) → head h name ≡ found → judge header h ask ≡ (ok_or found reply.NoBookmark >>= after_head)
   judged_head found e =
-      judged_up header h (LandDraft name draft) up
+      judged_up header h ask up
       ∙ (λ i. ok_or (e i) reply.NoBookmark >>= λ old. (refuse_if (not (is_known (known h) draft)) (reply.NoChangeset draft) >>= λ _. (ok_or (fork (known h) old draft) reply.NoRoot >>= λ f. in_order old f i)))
       ∙ (λ i. ok_or found reply.NoBookmark >>= λ old. two (refuse_if (not (is_known (known h) draft)) (reply.NoChangeset draft)) (ok_or (fork (known h) old draft) reply.NoRoot) (after_fork old) i)
 
-  pub no_bookmark : head h name ≡ None → IsRefusal (judge header h (LandDraft name draft)) refusals.NoBookmark
+  pub no_bookmark : head h name ≡ None → IsRefusal (judge header h ask) refusals.NoBookmark
   no_bookmark none = inr (reply.NoBookmark, judged_head None none, refl)
 
   module _ (old : Id) (e : head h name ≡ Some old) where
-    pub fork_refused : (refusal : Refusal) → IsRefusal (forking (known h) old draft) refusal → IsRefusal (judge header h (LandDraft name draft)) refusal
+    pub fork_refused : (refusal : Refusal) → IsRefusal (forking (known h) old draft) refusal → IsRefusal (judge header h ask) refusal
     fork_refused refusal (inl memory) = inl memory
     fork_refused refusal (inr (r, is, same)) = inr (r, judged_head (Some old) e ∙ ap (λ x. x >>= after_fork old) is, same)
 
     module _ (f : Fork) (forks : forking (known h) old draft ≡ Ok f) where
-      judged_fork : judge header h (LandDraft name draft) ≡ after_fork old f
+      judged_fork : judge header h ask ≡ after_fork old f
       judged_fork = judged_head (Some old) e ∙ ap (λ x. x >>= after_fork old) forks
 
-      pub lengths_refused : (refusal : Refusal) → IsRefusal (lengths_checked f) refusal → IsRefusal (judge header h (LandDraft name draft)) refusal
+      pub lengths_refused : (refusal : Refusal) → IsRefusal (lengths_checked f) refusal → IsRefusal (judge header h ask) refusal
       lengths_refused refusal (inl memory) = inl memory
       lengths_refused refusal (inr (r, is, same)) = inr (r, judged_fork ∙ ap (λ x. x >>= λ _. after_lengths old f) is, same)
 
-      module _ (short : lengths_checked f ≡ Ok tt) where
-        judged_lengths : judge header h (LandDraft name draft) ≡ after_lengths old f
-        judged_lengths = judged_fork ∙ ap (λ x. x >>= λ _. after_lengths old f) short
+      module _ (short : lengths_checked f ≡ Ok tt) (in_line : merges_checked f ≡ Ok tt) where
+        judged_merges : judge header h ask ≡ after_merges old f
+        judged_merges = judged_fork ∙ ap (λ x. x >>= λ _. after_lengths old f) short ∙ ap (λ x. x >>= λ _. after_merges old f) in_line
 
-        pub paths_refused : (refusal : Refusal) → IsRefusal (paths_checked f) refusal → IsRefusal (judge header h (LandDraft name draft)) refusal
+        pub paths_refused : (refusal : Refusal) → IsRefusal (paths_checked f) refusal → IsRefusal (judge header h ask) refusal
         paths_refused refusal (inl memory) = inl memory
-        paths_refused refusal (inr (r, is, same)) = inr (r, judged_lengths ∙ ap (λ x. x >>= λ _. after_paths old f) is, same)
+        paths_refused refusal (inr (r, is, same)) = inr (r, judged_merges ∙ ap (λ x. x >>= λ _. after_paths old f) is, same)
 
-        pub judged_planned : paths_checked f ≡ Ok tt → judge header h (LandDraft name draft) ≡ enter_landing header h name old draft (rewrite f.stack old)
-        judged_planned apart = judged_lengths ∙ ap (λ x. x >>= λ _. after_paths old f) apart
+        pub judged_planned : paths_checked f ≡ Ok tt → judge header h ask ≡ enter_landing header h (told h caller) name old draft (rewrite f.stack old moment) (moment_of f.stack moment)
+        judged_planned apart = judged_merges ∙ ap (λ x. x >>= λ _. after_paths old f) apart
+
+-- after a breaking fault
+pub down_as : (header : Header) (h : List Entry) (name : List ℕ) (draft : Id) (e : Refusal) → (e ≡ refusals.Down) × (is_down h ≡ true) → IsLandingRefusal header h name draft e
+down_as header h name draft e down moment = subst (IsRefusal (judge header h (LandDraft nobody name draft moment))) (sym down.0) (refused_down header h (LandDraft nobody name draft moment) down.1)
 
 -- entering it
-module _ (header : Header) (h : List Entry) (ask : reply.Ask) (name : List ℕ) (old draft : Id) (new : List Changeset) (judged : judge header h ask ≡ enter_landing header h name old draft new) where
-  abbrev landing : model.Landing
-  landing = record { name = name; old = old; draft = draft; new = new }
-
+module _ (header : Header) (h : List Entry) (ask : reply.Ask) (landing : model.Landing) (judged : judge header h ask ≡ enter_landing header h landing.caller landing.name landing.old landing.draft landing.new landing.moment) where
   abbrev after_collisions : Result Judged reply.Refusal
-  after_collisions = entered header h (reply.Landed old (map id_of new)) (Land landing)
+  after_collisions = entered header h (reply.Landed landing.old (map id_of landing.new)) (Land landing)
 
   abbrev after_payload : Result Judged reply.Refusal
-  after_payload = collisions_checked (known h) new >>= λ _. after_collisions
+  after_payload = collisions_checked (known h) landing.new >>= λ _. after_collisions
 
   pub payload_refused : (refusal : Refusal) → IsRefusal (payload_checked landing) refusal → IsRefusal (judge header h ask) refusal
   payload_refused refusal (inl memory) = inl memory
@@ -203,9 +236,9 @@ module _ (header : Header) (h : List Entry) (ask : reply.Ask) (name : List ℕ) 
     judged_payload : judge header h ask ≡ after_payload
     judged_payload = judged ∙ ap (λ x. x >>= λ _. after_payload) short
 
-    pub collision_refused : (refusal : Refusal) → IsRefusal (collisions_checked (known h) new) refusal → IsRefusal (judge header h ask) refusal
+    pub collision_refused : (refusal : Refusal) → IsRefusal (collisions_checked (known h) landing.new) refusal → IsRefusal (judge header h ask) refusal
     collision_refused refusal (inl memory) = inl memory
     collision_refused refusal (inr (r, is, same)) = inr (r, judged_payload ∙ ap (λ x. x >>= λ _. after_collisions) is, same)
 
-    pub judged_landing : collisions_checked (known h) new ≡ Ok tt → judge header h ask ≡ after_collisions
+    pub judged_landing : collisions_checked (known h) landing.new ≡ Ok tt → judge header h ask ≡ after_collisions
     judged_landing apart = judged_payload ∙ ap (λ x. x >>= λ _. after_collisions) apart

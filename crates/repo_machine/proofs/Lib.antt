@@ -9,6 +9,9 @@ pub mod Checks
 pub mod Uploading
 pub mod Logging
 pub mod LandingSteps
+pub mod Forks
+pub mod Dating
+pub mod Copying
 pub mod LandingPaths
 pub mod KnownLanding
 pub mod LandingPlans

@@ -8,6 +8,7 @@ use Rattle.std.proofs.lemmas.List.{take_all, drop_all, append_assoc, map-append,
 use Rattle.changeset_model.specs.Changeset.{id_of}
 use Rattle.history_model.specs.History as model
 use Rattle.history_model.specs.History.{Known, unnumbered, is_stored, bodies, stored}
+use Rattle.history_model.specs.Journal.{Header}
 use Rattle.history_model.specs.Repository.{Repository}
 use Rattle.reply_model.specs.Log.{LogLine, lines_of, log_lines}
 use Rattle.changeset_store.specs.Store.{changeset_at}
@@ -153,7 +154,7 @@ all_after count before (e ∷ es) within =
 pub all_kept : (count : ℕ) (es : List Entry) (kept : List ℕ) → kept ≡ kept_from 0 es → AllByRecursion (IsWithin count) es → AllByRecursion (IsKeptAt count es) kept
 all_kept count es kept are within = subst (AllByRecursion (IsKeptAt count es)) (sym are) (all_after count [] es within)
 
-module _ (ks : List Known) (es : List Entry) (kept : List ℕ) (are : kept ≡ kept_from 0 es) (count : ℕ) (within : AllByRecursion (IsWithin count) es) (capacity : ℕ) (r : Repository) (is : ◌≡◌ {A = Repository} (record { header = record { capacity = capacity }; history = history_of ks es }) r) where
+module _ (ks : List Known) (es : List Entry) (kept : List ℕ) (are : kept ≡ kept_from 0 es) (count : ℕ) (within : AllByRecursion (IsWithin count) es) (header : Header) (r : Repository) (is : ◌≡◌ {A = Repository} (record { header = header; history = history_of ks es }) r) where
   stored_as : stored r.history ≡ map (stored_of ks) (map (entry_at es) kept)
   stored_as = ap (λ r. stored r.history) (sym is) ∙ stored-history ks es ∙ ap (map (stored_of ks)) (sym (ap (map (entry_at es)) are ∙ kept_are es))
 

@@ -1,12 +1,12 @@
 -- What is made ready of an upload.
-use Rattle.std.proofs.Common.{◌≡◌, ◌≢◌, ℕ, ◌<◌, Bool, true, false, inr, List, [], ◌∷◌, length, refl, sym, ap, subst, ◌∙◌, suc, arith}
+use Rattle.std.proofs.Common.{◌≡◌, ◌≢◌, ℕ, ◌<◌, ◌+◌, Bool, true, false, inr, List, [], ◌∷◌, length, length-append, refl, sym, ap, subst, ◌∙◌, suc, arith}
 use Rattle.std.specs.Prelude.{Result, Ok, Err, Some, IfOk, IfErr}
 use Rattle.byte_fields.specs.Bytes.{Id, IsBytes, are_bytes}
 use Rattle.changeset_model.specs.Changeset.{Changeset, spelling, most_content}
 use Rattle.changeset_model.specs.Decoding.{decoded}
 use Rattle.changeset_model.specs.Decoding as decoding
-use Rattle.history_model.specs.History.{Body, Content, Change, Book, Land, Fault, Entry, is_down}
-use Rattle.history_model.specs.Journal.{Header, IsPayload, payload_len, framed}
+use Rattle.history_model.specs.History.{Body, Content, Whole, Change, Book, Land, Policy, Fault, Entry, is_down}
+use Rattle.history_model.specs.Journal.{Header, IsPayload, payload_len, record_len, framed}
 use Rattle.bonsai.specs.declared.decode_fault.DecodeFault.{DecodeFault}
 use Rattle.bonsai.specs.declared.decode_fault.DecodeFault.TheVariants as faults
 use Rattle.bonsai.specs.Decodes.{Refuses}
@@ -50,10 +50,18 @@ ready_changeset bytes c frame spelled decodes are e = record {
 
 pub payload_length : (body : Body) (bytes : List ℕ) → IsPayload body bytes → length bytes ≡ payload_len body
 payload_length (Content x n) bytes is = ap (λ xs. length xs) is.2 ∙ ap (λ k. suc k) is.1.1 ∙ omega arith
+payload_length (Whole x n parts) bytes is = ap (λ xs. length xs) is.2
+payload_length (Policy caller text) bytes is = ap (λ xs. length xs) is.2
 payload_length (Change c) bytes is = ap (λ xs. length xs) is.2
 payload_length (Book move) bytes is = ap (λ xs. length xs) is.2
 payload_length (Land landing) bytes is = ap (λ xs. length xs) is.2
 payload_length (Fault breaking) bytes is = ap (λ xs. length xs) is.2
+
+framed_length : (payload : List ℕ) → length (framed payload) ≡ 5 + length payload
+framed_length payload = let long = length-append payload (0 ∷ []) in omega arith
+
+pub frame_length : (body : Body) (frame : List ℕ) → Frames (Some body) frame → length frame ≡ record_len body
+frame_length body frame f = ap (λ xs. length xs) f.2 ∙ framed_length f.0 ∙ ap (λ n. 5 + n) (payload_length body f.0 f.1)
 
 pub refused_as : {X : Type 0} (header : Header) (h : List Entry) (ask : Ask) (e : refusal.Refusal) (result : Result X refusal.Refusal) → IsRefusedAs ask e → (is_down h ≡ false → result ≡ Err e) → (is_down h ≡ true → result ≡ Err refusals.Down)
     → IfErr result (IsRefusal (judge header h ask))

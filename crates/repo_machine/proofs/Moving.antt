@@ -7,6 +7,9 @@ use Rattle.history_model.specs.History.{Book, Entry, is_down, known, is_known}
 use Rattle.history_model.specs.Bookmark.{head}
 use Rattle.history_model.specs.Journal.{Header}
 use Rattle.reply_model.specs.Reply.{SetBookmark, BookmarkSet, judge, entered, unchanged}
+use Rattle.reply_model.specs.Opening.{nobody}
+use Rattle.reply_model.specs.Legal.{IsLegal}
+use Rattle.opening_laws.proofs.Callers.{none_told}
 use Rattle.repo_machine.proofs.Judging.{judged_same, judged_moving}
 use Rattle.byte_fields.proofs.Booleans.{not_false as not_not}
 use Rattle.changeset_model.proofs.Spelling.{is_false as not_yes}
@@ -21,8 +24,10 @@ module _ (header : Header) (h : List Entry) (up : is_down h ≡ false) (name : L
   at_head : option_eq bytes_eq (head h name) from ≡ true
   at_head = ap (λ o. option_eq bytes_eq o from) (sym head_is) ∙ not_not _ there
 
-  pub same_as : option_eq bytes_eq from to ≡ true → judge header h (SetBookmark name from to) ≡ unchanged BookmarkSet
-  same_as same = judged_same header h name from to up no_unknown at_head same
+  pub same_as : option_eq bytes_eq from to ≡ true → judge header h (SetBookmark nobody name from to) ≡ unchanged BookmarkSet
+  same_as same = judged_same header h nobody name from to up no_unknown at_head same
 
-  pub moving_as : option_eq bytes_eq from to ≡ false → judge header h (SetBookmark name from to) ≡ entered header h BookmarkSet (Book (record { name = name; from = from; to = to }))
-  moving_as apart = judged_moving header h name from to up no_unknown at_head apart
+  pub moving_as : IsLegal header h → option_eq bytes_eq from to ≡ false → judge header h (SetBookmark nobody name from to) ≡ entered header h BookmarkSet (Book (record { name = name; from = from; to = to; caller = None }))
+  moving_as legal apart =
+      judged_moving header h nobody name from to up no_unknown at_head apart
+      ∙ ap (λ t. entered header h BookmarkSet (Book (record { name = name; from = from; to = to; caller = t }))) (none_told header h nobody legal)

@@ -1,5 +1,5 @@
 -- What is judged of an upload, by its checks.
-use Rattle.std.proofs.Common.{◌≡◌, ℕ, ◌≤◌, Bool, true, false, cond, not, inl, inr, List, [], ◌∷◌, length, refl, sym, ap, subst, ◌∙◌}
+use Rattle.std.proofs.Common.{◌≡◌, ℕ, ◌≤◌, lt-ltb, arith, Bool, true, false, cond, not, inl, inr, List, [], ◌∷◌, length, refl, sym, ap, subst, ◌∙◌}
 use Rattle.std.specs.Prelude.{Option, None, Some, Result, Ok, Err, nat_lt, find, option_map, filter_map}
 use Rattle.std.specs.List.{AllByRecursion}
 use Rattle.std.specs.Option.{option_or}
@@ -15,7 +15,7 @@ use Rattle.history_model.specs.Repository.{Repository}
 use Rattle.bonsai.specs.declared.decode_fault.DecodeFault.{DecodeFault}
 use Rattle.bonsai.specs.declared.decode_fault.DecodeFault.TheVariants as faults
 use Rattle.bonsai.specs.Decodes.{Refuses}
-use Rattle.reply_model.specs.Reply.{Ask, PutChangeset, ChangesetPut, Refusal, Judged, Merge, NoParent, Collision, TooLong, BadEncoding, SelfConflict, judge, entered, unchanged, accepted, refuse_if, refuse_some, content_refusal, collides, ◌>>=◌}
+use Rattle.reply_model.specs.Reply.{Ask, PutChangeset, ChangesetPut, Refusal, Judged, Merge, NoParent, Unresolved, unresolved_of, Collision, TooLong, BadEncoding, SelfConflict, judge, entered, unchanged, accepted, refuse_if, refuse_some, content_refusal, collides, ◌>>=◌}
 use Rattle.repo_calls.specs.declared.refusal.Refusal as refusal
 use Rattle.repo_calls.specs.declared.refusal.Refusal.TheVariants as refusals
 use Rattle.repo_machine.specs.Landings.{IsRefusal}
@@ -34,6 +34,7 @@ fault_refused header h bytes up fault e =
     refuse_if (nat_lt 1 (length c.parents)) Merge >>= λ _.
     refuse_some (find (λ p. not (is_known (known h) p)) c.parents) NoParent >>= λ _.
     refuse_some (first_some (λ e. content_refusal e (content_len h e.1.content)) (sets_of c)) (λ refusal. refusal) >>= λ _.
+    refuse_some (unresolved_of (known h) c c.parents) Unresolved >>= λ _.
     refuse_if (collides (known h) c) (Collision (id_of c)) >>= λ _.
     cond (is_known (known h) (id_of c)) (unchanged (ChangesetPut (id_of c))) (entered header h (ChangesetPut (id_of c)) (Change c))) e
 
@@ -51,7 +52,7 @@ found_refusal header h ask e found (inr (r, some, same)) judged = inr (r, judged
 -- ---- the contents, edit by edit
 
 sets_by : (lengths : Id → Option ℕ) (p : Path) (c : FileChange) (es : List (Path × FileChange)) → first_some (λ e. content_refusal e (lengths e.1.content)) (filter_map (λ e. option_map (λ f. (e.0, f)) (file_of e.1)) es) ≡ contents_refusal lengths es → first_some (λ e. content_refusal e (lengths e.1.content)) (filter_map (λ e. option_map (λ f. (e.0, f)) (file_of e.1)) ((p, c) ∷ es)) ≡ option_or (edit_refusal lengths (p, c)) (contents_refusal lengths es)
-sets_by lengths p (Set f) es ih = ap (option_or (content_refusal (p, f) (lengths f.content))) ih
+sets_by lengths p (Set f copied) es ih = ap (option_or (content_refusal (p, f) (lengths f.content))) ih
 sets_by lengths p Delete es ih = ih
 
 sets_refusal : (lengths : Id → Option ℕ) (es : List (Path × FileChange)) → first_some (λ e. content_refusal e (lengths e.1.content)) (filter_map (λ e. option_map (λ f. (e.0, f)) (file_of e.1)) es) ≡ contents_refusal lengths es
@@ -73,6 +74,15 @@ collision_step : (b : Bool) (x : Id) (f : Unit {0} → Result Judged Refusal) �
 collision_step true x f = refl
 collision_step false x f = refl
 
+-- a changeset with one parent at most leaves no parents against one another
+is_resolved : (ks : List Known) (c : Changeset) (ps : List Id) → cond (nat_lt 1 (length ps)) (Some Merge) (option_map NoParent (find (λ p. not (is_known ks p)) ps)) ≡ None → unresolved_of ks c ps ≡ None
+is_resolved ks c [] e = refl
+is_resolved ks c (p ∷ []) e = refl
+is_resolved ks c (p ∷ q ∷ ps) e =
+    let many : nat_lt 1 (length (p ∷ q ∷ ps)) ≡ true = lt-ltb 1 (length (p ∷ q ∷ ps)) (omega arith) in
+    let merge : Some Merge ≡ None = sym (ap (λ b. cond b (Some Merge) (option_map NoParent (find (λ p. not (is_known ks p)) (p ∷ q ∷ ps)))) many) ∙ e in
+    absurd cc
+
 module _ (header : Header) (h : List Entry) (bytes : List ℕ) (up : is_down h ≡ false) (c : Changeset) (d : decoded bytes ≡ Ok c) where
   abbrev ending : Bool → Result Judged Refusal
   ending b = cond b (unchanged (ChangesetPut (id_of c))) (entered header h (ChangesetPut (id_of c)) (Change c))
@@ -80,8 +90,11 @@ module _ (header : Header) (h : List Entry) (bytes : List ℕ) (up : is_down h �
   abbrev from_collision : Option Refusal → Result Judged Refusal
   from_collision o = refuse_some o (λ r. r) >>= λ _. ending (is_known (known h) (id_of c))
 
+  abbrev from_unresolved : Option Path → Result Judged Refusal
+  from_unresolved o = refuse_some o Unresolved >>= λ _. from_collision (collision_refusal (known h) c)
+
   abbrev from_contents : Option Refusal → Result Judged Refusal
-  from_contents o = refuse_some o (λ r. r) >>= λ _. from_collision (collision_refusal (known h) c)
+  from_contents o = refuse_some o (λ r. r) >>= λ _. from_unresolved (unresolved_of (known h) c c.parents)
 
   abbrev from_parents : Option Refusal → Result Judged Refusal
   from_parents o = refuse_some o (λ r. r) >>= λ _. from_contents (contents_refusal (content_len h) c.changes)
@@ -93,12 +106,14 @@ module _ (header : Header) (h : List Entry) (bytes : List ℕ) (up : is_down h �
       refuse_if (nat_lt 1 (length c.parents)) Merge >>= λ _.
       refuse_some (find (λ p. not (is_known (known h) p)) c.parents) NoParent >>= λ _.
       refuse_some (first_some (λ e. content_refusal e (content_len h e.1.content)) (sets_of c)) (λ refusal. refusal) >>= λ _.
+      refuse_some (unresolved_of (known h) c c.parents) Unresolved >>= λ _.
       refuse_if (collides (known h) c) (Collision (id_of c)) >>= λ _.
       cond (is_known (known h) (id_of c)) (unchanged (ChangesetPut (id_of c))) (entered header h (ChangesetPut (id_of c)) (Change c))) d
       ∙ assoc (refuse_if (nat_lt 1 (length c.parents)) Merge) (refuse_some (find (λ p. not (is_known (known h) p)) c.parents) NoParent) _
       ∙ parents_step (nat_lt 1 (length c.parents)) (find (λ p. not (is_known (known h) p)) c.parents) _
       ∙ (λ i. refuse_some (parents_refusal (known h) c) (λ r. r) >>= λ _.
       refuse_some (sets_refusal (content_len h) c.changes i) (λ r. r) >>= λ _.
+      refuse_some (unresolved_of (known h) c c.parents) Unresolved >>= λ _.
       collision_step (collides (known h) c) (id_of c) (λ _. ending (is_known (known h) (id_of c))) i)
 
   pub judged_parents : (r : Refusal) → parents_refusal (known h) c ≡ Some r → judge header h (PutChangeset bytes) ≡ Err r
@@ -109,12 +124,15 @@ module _ (header : Header) (h : List Entry) (bytes : List ℕ) (up : is_down h �
     judged_contents r e = steps ∙ ap from_parents parents ∙ ap from_contents e
 
     module _ (contents : contents_refusal (content_len h) c.changes ≡ None) where
+      whole_contents : judge header h (PutChangeset bytes) ≡ from_collision (collision_refusal (known h) c)
+      whole_contents = steps ∙ ap from_parents parents ∙ ap from_contents contents ∙ ap from_unresolved (is_resolved (known h) c c.parents parents)
+
       pub judged_collision : (r : Refusal) → collision_refusal (known h) c ≡ Some r → judge header h (PutChangeset bytes) ≡ Err r
-      judged_collision r e = steps ∙ ap from_parents parents ∙ ap from_contents contents ∙ ap from_collision e
+      judged_collision r e = whole_contents ∙ ap from_collision e
 
       module _ (alone : collision_refusal (known h) c ≡ None) where
         pub judged_ending : (b : Bool) → b ≡ is_known (known h) (id_of c) → judge header h (PutChangeset bytes) ≡ ending b
-        judged_ending b e = steps ∙ ap from_parents parents ∙ ap from_contents contents ∙ ap from_collision alone ∙ ap ending (sym e)
+        judged_ending b e = whole_contents ∙ ap from_collision alone ∙ ap ending (sym e)
 
 -- ---- as the machine has it
 

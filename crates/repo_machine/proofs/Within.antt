@@ -21,7 +21,7 @@ body_of-append ks more (Content id n) within = refl
 body_of-append ks more (Change number) within = ap model.Change (changeset_at-append ks more number within)
 body_of-append ks more (Book movement) within = refl
 body_of-append ks more (Fault breaking) within = refl
-body_of-append ks more (Land l) within = ap (λ new. model.Land (record { name = l.name; old = l.old; draft = l.draft; new = new })) (changesets_at-append ks more l.numbers.items within)
+body_of-append ks more (Land l) within = ap (λ new. model.Land (record { name = l.name; old = l.old; draft = l.draft; new = new; moment = l.moment; caller = l.caller })) (changesets_at-append ks more l.numbers.items within)
 
 -- so the history stays
 pub history_of-known : (ks more : List model.Known) (es : List Entry) → AllByRecursion (IsWithin (length ks)) es → history_of (ks ++ more) es ≡ history_of ks es

@@ -25,7 +25,7 @@ abbrev pub parents_refusal : List Known → Changeset → Option reply.Refusal
 parents_refusal ks c = if nat_lt 1 (length c.parents) then Some reply.Merge else option_map reply.NoParent (find (λ p. not (is_known ks p)) c.parents)
 
 abbrev pub edit_refusal : (Id → Option ℕ) → Path × FileChange → Option reply.Refusal
-edit_refusal lengths (p, Set f) = reply.content_refusal (p, f) (lengths f.content)
+edit_refusal lengths (p, Set f copied) = reply.content_refusal (p, f) (lengths f.content)
 edit_refusal lengths (p, Delete) = None
 
 abbrev pub contents_refusal : (Id → Option ℕ) → List (Path × FileChange) → Option reply.Refusal

@@ -9,7 +9,7 @@
 use Rattle.std.specs.Prelude.{◌≡◌, ◌⊎◌, ◌≤◌, ◌<◌, ◌+◌, ℕ, true, false, List, Option, None, Some}
 use Rattle.std.specs.List.{AllByRecursion}
 use Rattle.changeset_model.specs.Changeset.{id_of}
-use Rattle.history_model.specs.History.{Body, Content, Change, Book, Land, Fault, Entry, known, is_known, content_len}
+use Rattle.history_model.specs.History.{Body, Content, Whole, Change, Book, Land, Policy, Fault, Entry, known, is_known, content_len}
 use Rattle.history_model.specs.Journal.{Header, payload_len}
 use Rattle.history_model.specs.Journal as journal
 use Rattle.reply_model.specs.Reply.{Ask, is_ask, Granted, judge, entered}
@@ -22,14 +22,17 @@ use Rattle.repo_machine.specs.Judged.{JudgedChange, Frames, IsJudged}
 pub record CanMake (header : Header) (h : List Entry) (body : Body) : Type 0 where
   pub ask : Ask
   pub granted : Granted
-  pub asks : is_ask ask ≡ true
+  pub asks : is_ask h ask ≡ true
   pub judged : judge header h ask ≡ entered header h granted body
 
 abbrev pub IsNew : List Entry → Body → Type 0
 IsNew h (Content x n) = content_len h x ≡ None
+-- no change makes one yet
+IsNew h (Whole x n parts) = ⊥
 IsNew h (Change c) = (is_known (known h) (id_of c) ≡ false) × AllByRecursion (λ p. is_known (known h) p ≡ true) c.parents
 IsNew h (Book move) = Unit {0}
 IsNew h (Land landing) = CanAdd (known h) landing.new
+IsNew h (Policy caller text) = ⊥
 IsNew h (Fault breaking) = ⊥
 
 pub record Enterable (header : Header) (h : List Entry) (body : Body) : Type 0 where

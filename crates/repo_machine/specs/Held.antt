@@ -5,7 +5,9 @@
 --     repository held      without the room
 use Rattle.std.specs.Prelude.{ℕ, ◌≤◌, List, length, Contains, Option, None, Some, refl}
 use Rattle.std.specs.Coded.{Coded, code_by, coded_ℕ, coded×, coded_list}
-use Rattle.history_model.specs.History.{Body, Content, Change, Book, Land, Fault, Entry}
+use Rattle.changeset_model.specs.Version.{Version}
+use Rattle.changeset_model.specs.Codes.{coded_version}
+use Rattle.history_model.specs.History.{Body, Content, Whole, Change, Book, Land, Policy, Fault, Entry}
 use Rattle.history_model.specs.Journal.{Header}
 use Rattle.history_model.specs.Repository.{Repository}
 use Rattle.history_model.specs.Codes.{coded_history}
@@ -35,14 +37,16 @@ coded_room =
 
 abbrev pub coded_held : Coded Held
 coded_held =
-    code_by (ℕ × (List Entry × Room)) (coded× coded_ℕ (coded× coded_history coded_room))
-    (λ m. (m.header.capacity, (m.history, m.room))) (λ t. record { header = record { capacity = t.0 }; history = t.1.0; room = t.1.1 }) (λ _. refl)
+    code_by (ℕ × (Version × (List Entry × Room))) (coded× coded_ℕ (coded× coded_version (coded× coded_history coded_room)))
+    (λ m. (m.header.capacity, (m.header.version, (m.history, m.room)))) (λ t. record { header = record { capacity = t.0; version = t.1.0 }; history = t.1.1.0; room = t.1.1.1 }) (λ _. refl)
 
 abbrev pub RoomFor : Room → Body → Type 0
 RoomFor room (Content x n) = 1 ≤ room.contents
+RoomFor room (Whole x n parts) = 1 ≤ room.contents
 RoomFor room (Change c) = 1 ≤ room.changesets
 RoomFor room (Book move) = Contains room.names move.name
 RoomFor room (Land landing) = (length landing.new ≤ room.changesets) × Contains room.names landing.name
+RoomFor room (Policy caller text) = Unit {0}
 RoomFor room (Fault breaking) = Unit {0}
 
 abbrev pub HasRoom : Room → Option Body → Type 0

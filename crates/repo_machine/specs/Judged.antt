@@ -10,7 +10,7 @@ use Rattle.changeset_model.specs.Codes.{coded_id}
 use Rattle.history_model.specs.Codes.{coded_body}
 use Rattle.history_model.specs.History.{Body, Entry}
 use Rattle.history_model.specs.Journal.{Header, IsPayload, framed}
-use Rattle.reply_model.specs.Reply.{Ask, is_ask, Granted, ContentPut, ChangesetPut, BookmarkSet, Landed, judge}
+use Rattle.reply_model.specs.Reply.{Ask, is_ask, Granted, ContentPut, WholePut, ChangesetPut, BookmarkSet, Landed, judge}
 
 pub record JudgedChange : Type 0 where
   pub who : ℕ
@@ -23,35 +23,38 @@ Frames None frame = frame ≡ []
 Frames (Some body) frame = (payload : List ℕ) × IsPayload body payload × (frame ≡ framed payload)
 
 pub record IsJudged (header : Header) (h : List Entry) (ask : Ask) (judged : JudgedChange) : Type 0 where
-  pub asks : is_ask ask ≡ true
+  pub asks : is_ask h ask ≡ true
   pub granted : judge header h ask ≡ Ok (record { granted = judged.granted; made = judged.made })
   pub frames : Frames judged.made judged.frame
 
 -- ---- as pairs and sums
 
 abbrev pub GrantedParts : Type 0
-GrantedParts = (Id ⊎ Id) ⊎ (Bool ⊎ (Id × List Id))
+GrantedParts = (Id ⊎ Id) ⊎ (Bool ⊎ ((Id × List Id) ⊎ (Id × ℕ)))
 
 abbrev pub parts_of : Granted → GrantedParts
 parts_of (ContentPut id) = inl (inl id)
 parts_of (ChangesetPut id) = inl (inr id)
 parts_of BookmarkSet = inr (inl true)
-parts_of (Landed old ids) = inr (inr (old, ids))
+parts_of (Landed old ids) = inr (inr (inl (old, ids)))
+parts_of (WholePut id size) = inr (inr (inr (id, size)))
 
 abbrev pub granted_of : GrantedParts → Granted
 granted_of (inl (inl id)) = ContentPut id
 granted_of (inl (inr id)) = ChangesetPut id
 granted_of (inr (inl b)) = BookmarkSet
-granted_of (inr (inr t)) = Landed t.0 t.1
+granted_of (inr (inr (inl t))) = Landed t.0 t.1
+granted_of (inr (inr (inr t))) = WholePut t.0 t.1
 
 pub granted_of-parts_of : (g : Granted) → granted_of (parts_of g) ≡ g
 granted_of-parts_of (ContentPut id) = refl
 granted_of-parts_of (ChangesetPut id) = refl
 granted_of-parts_of BookmarkSet = refl
 granted_of-parts_of (Landed old ids) = refl
+granted_of-parts_of (WholePut id size) = refl
 
 abbrev pub coded_granted : Coded Granted
-coded_granted = code_by GrantedParts (coded⊎ (coded⊎ coded_id coded_id) (coded⊎ coded_bool (coded× coded_id (coded_list coded_id)))) parts_of granted_of granted_of-parts_of
+coded_granted = code_by GrantedParts (coded⊎ (coded⊎ coded_id coded_id) (coded⊎ coded_bool (coded⊎ (coded× coded_id (coded_list coded_id)) (coded× coded_id coded_ℕ)))) parts_of granted_of granted_of-parts_of
 
 abbrev pub coded_judged : Coded JudgedChange
 coded_judged =

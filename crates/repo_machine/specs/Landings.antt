@@ -1,10 +1,11 @@
 -- Landings.
 --     IsRefusal wanted e      the machine's refusal is the one that the definitions have, or want of memory
+--     IsLandingRefusal header h name draft e      so it is of a landing, at any moment
 --     Steps view wanted result      what a step gives is what it gives in the definitions, or memory ran out
---     forking, lengths_checked, paths_checked, payload_checked, collisions_checked      the steps of `land`
---     IsLandable header h name draft landing      the landing is to be entered, if there is room;  IsLanded header h name draft judged      it is judged to be
+--     forking, lengths_checked, merges_checked, paths_checked, payload_checked, collisions_checked      the steps of `land`
+--     IsLandable header h name draft moment landing      the landing is to be entered, if there is room;  IsLanded header h name draft moment judged      it is judged to be
 --     IsLanding before after old draft ids      the trees after a landing
-use Rattle.std.specs.Prelude.{◌≡◌, ◌≤◌, ◌<◌, ◌==◌, ◌⊎◌, ℕ, true, not, nat_lt, cond, List, length, map, Contains, None, Some, ok_or, Result, Ok, Err}
+use Rattle.std.specs.Prelude.{◌≡◌, ◌≤◌, ◌<◌, ◌==◌, ◌⊎◌, ℕ, true, not, nat_lt, cond, List, length, map, find, Contains, None, Some, option_map, ok_or, Result, Ok, Err}
 use Rattle.std.specs.List.{list_any}
 use Rattle.byte_fields.specs.Bytes.{Id, last_of}
 use Rattle.changeset_model.specs.Path.{Path}
@@ -14,11 +15,12 @@ use Rattle.history_model.specs.History.{Known, Entry, Land, with_id, known, is_k
 use Rattle.history_model.specs.Bookmark.{head}
 use Rattle.history_model.specs.Chain.{chain, changesets}
 use Rattle.history_model.specs.Tree.{decides, tree}
-use Rattle.history_model.specs.Pushrebase.{fork, clash, rewrite}
+use Rattle.history_model.specs.Pushrebase.{fork, clash, rewrite, moment_of}
 use Rattle.history_model.specs.Pushrebase as pushrebase
 use Rattle.history_model.specs.Journal.{Header, payload_len, most_payload}
 use Rattle.reply_model.specs.Reply as reply
-use Rattle.reply_model.specs.Reply.{◌>>=◌, refuse_if, refuse_some, most_range, most_stack, first_collision, LandDraft, judge, entered}
+use Rattle.reply_model.specs.Reply.{◌>>=◌, refuse_if, refuse_some, most_range, most_stack, is_merge, first_collision, LandDraft, judge, entered}
+use Rattle.reply_model.specs.Opening.{nobody}
 use Rattle.reply_model.specs.After.{Refuses}
 use Rattle.changeset_store.specs.Grown.{AreAlone}
 use Rattle.repo_calls.specs.declared.refusal.Refusal.{Refusal}
@@ -30,6 +32,9 @@ use Rattle.repo_machine.specs.Judged.{JudgedChange}
 
 abbrev pub IsRefusal : {Y : Type 0} → Result Y reply.Refusal → Refusal → Type 0
 IsRefusal wanted e = (e ≡ Memory) ⊎ ((r : reply.Refusal) × (wanted ≡ Err r) × (refused e ≡ Refuses r))
+
+abbrev pub IsLandingRefusal : Header → List Entry → List ℕ → Id → Refusal → Type 0
+IsLandingRefusal header h name draft e = (moment : ℕ) → IsRefusal (judge header h (LandDraft nobody name draft moment)) e
 
 abbrev pub Steps : {X Y : Type 0} → (X → Y) → Result Y reply.Refusal → Result X Refusal → Type 0
 Steps view wanted (Ok x) = wanted ≡ Ok (view x)
@@ -49,6 +54,11 @@ lengths_checked f = do
   _ ← refuse_if (length f.stack == 0) reply.AlreadyIn
   refuse_if (nat_lt most_stack (length f.stack)) (reply.StackTooLong (length f.stack))
 
+abbrev pub merges_checked : pushrebase.Fork → Checked
+merges_checked f = do
+  _ ← refuse_some (option_map id_of (find is_merge f.stack)) reply.MergeInStack
+  refuse_some (option_map id_of (find is_merge f.range)) reply.MergeInRange
+
 abbrev pub paths_checked : pushrebase.Fork → Checked
 paths_checked f = refuse_some (clash (touched_paths f.stack) (touched_paths f.range)) (λ pair. reply.Clash pair.0 pair.1)
 
@@ -60,23 +70,25 @@ collisions_checked ks new = refuse_some (first_collision ks new) reply.Collision
 
 -- ---- a landing
 
-pub record IsLandable (header : Header) (h : List Entry) (name : List ℕ) (draft : Id) (landing : model.Landing) : Type 0 where
+pub record IsLandable (header : Header) (h : List Entry) (name : List ℕ) (draft : Id) (moment : ℕ) (landing : model.Landing) : Type 0 where
   pub names : landing.name ≡ name
   pub drafts : landing.draft ≡ draft
   pub head_is : head h name ≡ Some landing.old
   pub old_known : is_known (known h) landing.old ≡ true
   pub fork_is : pushrebase.Fork
   pub forks : fork (known h) landing.old draft ≡ Some fork_is
-  pub rewritten : landing.new ≡ rewrite fork_is.stack landing.old
+  pub rewritten : landing.new ≡ rewrite fork_is.stack landing.old moment
+  pub dated : landing.moment ≡ moment_of fork_is.stack moment
+  pub untold : landing.caller ≡ None
   pub some : 0 < length landing.new
   pub few : length landing.new ≤ most_stack
   pub apart : clash (touched_paths fork_is.stack) (touched_paths fork_is.range) ≡ None
   pub alone : AreAlone (known h) landing.new
-  pub judged : judge header h (LandDraft name draft) ≡ entered header h (reply.Landed landing.old (map id_of landing.new)) (Land landing)
+  pub judged : judge header h (LandDraft nobody name draft moment) ≡ entered header h (reply.Landed landing.old (map id_of landing.new)) (Land landing)
 
-pub record IsLanded (header : Header) (h : List Entry) (name : List ℕ) (draft : Id) (judged : JudgedChange) : Type 0 where
+pub record IsLanded (header : Header) (h : List Entry) (name : List ℕ) (draft : Id) (moment : ℕ) (judged : JudgedChange) : Type 0 where
   pub landing : model.Landing
-  pub able : IsLandable header h name draft landing
+  pub able : IsLandable header h name draft moment landing
   pub made_is : judged.made ≡ Some (Land landing)
   pub granted_is : judged.granted ≡ reply.Landed landing.old (map id_of landing.new)
 

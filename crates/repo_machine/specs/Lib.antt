@@ -7,6 +7,7 @@ pub mod Landings
 pub mod Records
 pub mod Plain
 pub mod Checking
+pub mod Copies
 pub mod Faults
 pub mod Lines
 pub mod Plans

@@ -17,7 +17,7 @@ abbrev pub record_line : List Known → Record → LogLine
 record_line ks (Content id length) = ContentLine id length
 record_line ks (Change number) = ChangesetLine (id_of (changeset_at ks number))
 record_line ks (Book movement) = BookmarkLine (move_of movement)
-record_line ks (Land landing) = LandingLine landing.name landing.old landing.draft (map id_of (map (changeset_at ks) landing.numbers.items))
+record_line ks (Land landing) = LandingLine landing.caller landing.name landing.old landing.draft landing.moment (map id_of (map (changeset_at ks) landing.numbers.items))
 -- none is asked for
 record_line ks (Fault breaking) = ContentLine [] 0
 

@@ -11,7 +11,7 @@ use Rattle.repo_machine.specs.declared.judged.Made.{Made}
 use Rattle.repo_machine.specs.declared.judged.Made.TheVariants.{Content, Change, Book, Land}
 
 abbrev pub landing_made : LandMade → model.Landing
-landing_made l = record { name = l.name; old = l.old; draft = l.draft; new = values l.new.items }
+landing_made l = record { name = l.name; old = l.old; draft = l.draft; new = values l.new.items; moment = l.moment; caller = l.caller }
 
 abbrev pub made_of : Made → model.Body
 made_of (Content id length) = model.Content id length

@@ -1,13 +1,14 @@
 -- Plans of landings, which outlast the history at which they were made.
 --     PlannedLanding, RebasedLanding      what a plan tells, and what it tells once its stack is on the planned head
 --     IsPlan h name draft plan      at h the draft is to be landed on the bookmark so, if no disk failed and the new changesets may be entered
---     rebased_of plan      its stack on its head;  landing_in r      the landing that it makes
+--     rebased_of plan moment      its stack on its head, at this moment;  landing_in r      the landing that it makes
+--     frame_size r      the length of the record of that landing, or nothing where its payload is too long to have one
 --     WasPlanned h r      it comes from a plan that was one at a history with which h begins
 --     PassesPlan e      a refusal that may still come after a plan, want of memory not among them
 --     RefusesAs wanted e      the machine's refusal is the one that the definitions have
-use Rattle.std.specs.Prelude.{◌≡◌, ◌≤◌, ◌<◌, ℕ, true, List, length, None, Some, Result, Err, refl}
+use Rattle.std.specs.Prelude.{◌≡◌, ◌≤◌, ◌<◌, ℕ, nat_lt, cond, true, List, length, find, Option, None, Some, Result, Err, refl}
 use mathlib.Core.List.{IsPrefix}
-use Rattle.std.specs.Coded.{Coded, code_by, coded×, coded_list, coded_ℕ}
+use Rattle.std.specs.Coded.{Coded, code_by, coded×, coded_list, coded_option, coded_ℕ}
 use Rattle.byte_fields.specs.Bytes.{Id}
 use Rattle.changeset_model.specs.Path.{Path}
 use Rattle.changeset_model.specs.Changeset.{Changeset, touched_paths}
@@ -15,9 +16,10 @@ use Rattle.changeset_model.specs.Codes.{coded_id, coded_path, coded_changesets}
 use Rattle.history_model.specs.History as model
 use Rattle.history_model.specs.History.{Entry, known, is_known}
 use Rattle.history_model.specs.Bookmark.{head}
-use Rattle.history_model.specs.Pushrebase.{Fork, fork, clash, rewrite}
+use Rattle.history_model.specs.Journal.{payload_len, most_payload, record_len}
+use Rattle.history_model.specs.Pushrebase.{Fork, fork, clash, rewrite, moment_of}
 use Rattle.reply_model.specs.Reply as reply
-use Rattle.reply_model.specs.Reply.{most_range, most_stack}
+use Rattle.reply_model.specs.Reply.{most_range, most_stack, is_merge}
 use Rattle.reply_model.specs.After.{Refuses}
 use Rattle.repo_calls.specs.declared.refusal.Refusal.{Refusal}
 use Rattle.repo_calls.specs.declared.refusal.Refusal.TheVariants as refusals
@@ -38,6 +40,10 @@ pub record RebasedLanding : Type 0 where
   pub old : Id
   pub new : List Changeset
   pub touched : List Path
+  -- the moment that is asked for, and what the entry tells of it and of who asks
+  pub asked : ℕ
+  pub moment : Option ℕ
+  pub caller : Option (List ℕ)
 
 pub record IsPlan (h : List Entry) (name : List ℕ) (draft : Id) (plan : PlannedLanding) : Type 0 where
   pub names : plan.name ≡ name
@@ -51,21 +57,27 @@ pub record IsPlan (h : List Entry) (name : List ℕ) (draft : Id) (plan : Planne
   pub near : length fork_is.range ≤ most_range
   pub some : 0 < length fork_is.stack
   pub few : length fork_is.stack ≤ most_stack
+  pub stack_in_line : find is_merge fork_is.stack ≡ None
+  pub range_in_line : find is_merge fork_is.range ≡ None
   pub apart : clash (touched_paths fork_is.stack) (touched_paths fork_is.range) ≡ None
   pub touched_is : plan.touched ≡ touched_paths plan.stack
 
-abbrev pub rebased_of : PlannedLanding → RebasedLanding
-rebased_of plan = record { name = plan.name; draft = plan.draft; old = plan.old; new = rewrite plan.stack plan.old; touched = plan.touched }
+abbrev pub rebased_of : PlannedLanding → ℕ → RebasedLanding
+rebased_of plan moment =
+    record { name = plan.name; draft = plan.draft; old = plan.old; new = rewrite plan.stack plan.old moment; touched = plan.touched; asked = moment; moment = moment_of plan.stack moment; caller = None }
 
 abbrev pub landing_in : RebasedLanding → model.Landing
-landing_in r = record { name = r.name; old = r.old; draft = r.draft; new = r.new }
+landing_in r = record { name = r.name; old = r.old; draft = r.draft; new = r.new; moment = r.moment; caller = r.caller }
+
+abbrev pub frame_size : RebasedLanding → ℕ
+frame_size r = cond (nat_lt most_payload (payload_len (model.Land (landing_in r)))) 0 (record_len (model.Land (landing_in r)))
 
 pub record WasPlanned (h : List Entry) (r : RebasedLanding) : Type 0 where
   pub then : List Entry
   pub begins : IsPrefix then h
   pub plan : PlannedLanding
   pub planned : IsPlan then r.name r.draft plan
-  pub rebased_is : r ≡ rebased_of plan
+  pub rebased_is : r ≡ rebased_of plan r.asked
 
 abbrev pub PassesPlan : Refusal → Type 0
 PassesPlan refusals.Down = Unit {0}
@@ -107,5 +119,8 @@ coded_planned =
 
 abbrev pub coded_rebased : Coded RebasedLanding
 coded_rebased =
-    code_by (List ℕ × (Id × (Id × (List Changeset × List Path)))) (coded× (coded_list coded_ℕ) (coded× coded_id (coded× coded_id (coded× coded_changesets coded_paths))))
-    (λ p. (p.name, (p.draft, (p.old, (p.new, p.touched))))) (λ t. record { name = t.0; draft = t.1.0; old = t.1.1.0; new = t.1.1.1.0; touched = t.1.1.1.1 }) (λ _. refl)
+    code_by (List ℕ × (Id × (Id × (List Changeset × (List Path × (ℕ × (Option ℕ × Option (List ℕ))))))))
+    (coded× (coded_list coded_ℕ) (coded× coded_id (coded× coded_id (coded× coded_changesets (coded× coded_paths (coded× coded_ℕ (coded× (coded_option coded_ℕ) (coded_option (coded_list coded_ℕ)))))))))
+    (λ p. (p.name, (p.draft, (p.old, (p.new, (p.touched, (p.asked, (p.moment, p.caller))))))))
+    (λ t. record { name = t.0; draft = t.1.0; old = t.1.1.0; new = t.1.1.1.0; touched = t.1.1.1.1.0; asked = t.1.1.1.1.1.0; moment = t.1.1.1.1.1.1.0; caller = t.1.1.1.1.1.1.1 })
+    (λ _. refl)

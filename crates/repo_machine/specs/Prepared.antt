@@ -38,21 +38,24 @@ pub record IsReadyChangeset (c : Changeset) (frame : List ℕ) : Type 0 where
 
 abbrev pub IsContentOf : Ask → Id → List ℕ → Type 0
 IsContentOf (reply.PutContent bytes) id frame = IsReadyContent bytes id frame
+IsContentOf (reply.PutWhole body pieces) id frame = ⊥
 IsContentOf (reply.PutChangeset bytes) id frame = ⊥
-IsContentOf (reply.SetBookmark name from to) id frame = ⊥
-IsContentOf (reply.LandDraft name draft) id frame = ⊥
+IsContentOf (reply.SetBookmark caller name from to) id frame = ⊥
+IsContentOf (reply.LandDraft caller name draft moment) id frame = ⊥
 
 abbrev pub IsChangesetOf : Ask → Changeset → List ℕ → Type 0
 IsChangesetOf (reply.PutContent bytes) c frame = ⊥
+IsChangesetOf (reply.PutWhole body pieces) c frame = ⊥
 IsChangesetOf (reply.PutChangeset bytes) c frame = (spelling c ≡ bytes) × IsReadyChangeset c frame
-IsChangesetOf (reply.SetBookmark name from to) c frame = ⊥
-IsChangesetOf (reply.LandDraft name draft) c frame = ⊥
+IsChangesetOf (reply.SetBookmark caller name from to) c frame = ⊥
+IsChangesetOf (reply.LandDraft caller name draft moment) c frame = ⊥
 
 abbrev pub IsNoUpload : Ask → Type 0
 IsNoUpload (reply.PutContent bytes) = ⊥
+IsNoUpload (reply.PutWhole body pieces) = ⊥
 IsNoUpload (reply.PutChangeset bytes) = ⊥
-IsNoUpload (reply.SetBookmark name from to) = Unit {0}
-IsNoUpload (reply.LandDraft name draft) = Unit {0}
+IsNoUpload (reply.SetBookmark caller name from to) = Unit {0}
+IsNoUpload (reply.LandDraft caller name draft moment) = Unit {0}
 
 abbrev pub IsReadyTo : Ask → Ready → Type 0
 IsReadyTo ask (ready.Refused refusal) = IsRefusedAs ask refusal

@@ -13,7 +13,7 @@ use Rattle.repo_machine.specs.declared.records.Record.TheVariants.{Content, Chan
 use Rattle.repo_machine.specs.declared.records.Entry.{Entry}
 
 abbrev pub landing_of : List model.Known → LandRecord → model.Landing
-landing_of ks l = record { name = l.name; old = l.old; draft = l.draft; new = map (changeset_at ks) l.numbers.items }
+landing_of ks l = record { name = l.name; old = l.old; draft = l.draft; new = map (changeset_at ks) l.numbers.items; moment = l.moment; caller = l.caller }
 
 abbrev pub body_of : List model.Known → Record → model.Body
 body_of ks (Content id length) = model.Content id length

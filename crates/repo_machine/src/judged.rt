@@ -18,6 +18,8 @@ pub(crate) struct LandMade {
     pub(crate) old: Id,
     pub(crate) draft: Id,
     pub(crate) new: Vec<Arc<Commit>>,
+    pub(crate) moment: Option<u64>,
+    pub(crate) caller: Option<BookName>,
     pub(crate) numbers: Vec<u32>,
 }
 

@@ -5,8 +5,8 @@ ghost use Rattle.byte_fields.specs.Bytes.{Id};
 ghost use Rattle.history_model.specs.Bookmark.{head};
 ghost use Rattle.history_model.specs.History.{Entry, is_down};
 ghost use Rattle.history_model.specs.Journal.{Header};
-ghost use Rattle.history_model.specs.Pushrebase.{rewrite};
-ghost use Rattle.reply_model.specs.Reply.{LandDraft, judge, enter_landing};
+ghost use Rattle.history_model.specs.Pushrebase.{rewrite, moment_of};
+ghost use Rattle.reply_model.specs.Reply.{LandDraft, told, judge, enter_landing};
 ghost use Rattle.repo_machine.specs.Again.{WasPlan};
 ghost use Rattle.repo_machine.specs.Plans.{PlannedLanding, RebasedLanding, IsPlan, WasPlanned};
 
@@ -26,10 +26,10 @@ pub fn plan_can_be_made_again_later()
     ensures { (g h : List Entry) (plan : PlannedLanding) → IsPrefix g h → WasPlan g plan → WasPlan h plan }
 {}
 
-/// Where no disk failed, to land a planned draft is to enter its stack on the planned head.
+/// Where no disk failed, to land a planned draft is to enter its stack on the planned head, whoever asks and at any moment.
 pub fn plan_is_what_is_judged()
-    ensures { (header : Header) (h : List Entry) (name : List ℕ) (draft : Id) (plan : PlannedLanding) → IsPlan h name draft plan → is_down h ≡ false →
-        judge header h (LandDraft name draft) ≡ enter_landing header h name plan.old draft (rewrite plan.stack plan.old) }
+    ensures { (header : Header) (h : List Entry) (caller name : List ℕ) (draft : Id) (moment : ℕ) (plan : PlannedLanding) → IsPlan h name draft plan → is_down h ≡ false →
+        judge header h (LandDraft caller name draft moment) ≡ enter_landing header h (told h caller) name plan.old draft (rewrite plan.stack plan.old moment) (moment_of plan.stack moment) }
 {}
 
 /// What was planned stays planned as the history grows.

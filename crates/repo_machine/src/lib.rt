@@ -5,6 +5,7 @@
 pub mod bookmarks;
 mod clashes;
 pub mod contents;
+pub mod copies;
 pub mod counts;
 pub mod entering;
 pub mod exchange;
@@ -27,6 +28,7 @@ mod records;
 pub mod seats;
 pub mod uploads;
 
+pub use copies::copied_paths;
 pub use counts::Counts;
 pub use judged::Judged;
 pub use machine::Machine;

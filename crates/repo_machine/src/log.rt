@@ -14,6 +14,7 @@ use crate::records::{Entry, Record};
 use changeset_store::ChangesetStore;
 use object_id::Id;
 use repo_calls::{LogEntry, LogPage};
+use repo_path::BookName;
 use std::alloc::{AllocError, Global};
 
 /// The most entries of a page.
@@ -82,14 +83,27 @@ fn line_of(
             name: movement.name.copy(alloc)?,
             from: movement.from,
             to: movement.to,
+            caller: copied(alloc, &movement.caller)?,
         }),
         Record::Land(landing) => Ok(LogEntry::Landing {
             name: landing.name.copy(alloc)?,
             old: landing.old,
             draft: landing.draft,
+            moment: landing.moment,
             ids: ids_of(changesets, alloc, landing.numbers.as_slice())?,
+            caller: copied(alloc, &landing.caller)?,
         }),
         Record::Fault { breaking: _ } => unreachable!(),
+    }
+}
+
+// A caller who is told, in memory of its own.
+fn copied(alloc: Global, caller: &Option<BookName>) -> Result<Option<BookName>, AllocError>
+    ensures { IfOk result (λ copied. copied ≡ caller.now) }
+{
+    match caller {
+        Some(name) => Ok(Some(name.copy(alloc)?)),
+        None => Ok(None),
     }
 }
 

@@ -3,9 +3,11 @@ ghost use Rattle.std.specs.Prelude.{◌≡◌, ◌≤◌, ◌<◌, ◌+◌, ◌^
 ghost use Rattle.history_model.specs.Journal.{is_header};
 ghost use Rattle.history_model.specs.Journal as journal;
 ghost use Rattle.history_model.specs.History.{is_down, stored};
+ghost use Rattle.bonsai.specs.Versions.{version_view};
 
 use crate::place::Place;
 use crate::records::Entry;
+use bonsai::Version;
 use changeset_store::ChangesetStore;
 use object_id::Id;
 use repo_calls::Refusal;
@@ -19,10 +21,11 @@ use std::marker::Model;
 /// The bytes of an empty journal: a header of 16 and the closing gate.
 pub(crate) const EMPTY_SIZE: u64 = 17;
 
-/// A repository of one thread: its capacity, its entries, and what is looked up in them.
+/// A repository of one thread: its capacity, the version of its file, its entries, and what is looked up in them.
 #[derive(Drop)]
 pub struct Machine {
     pub(crate) capacity: u64,
+    pub(crate) version: Version,
     pub(crate) size: u64,
     // Whether the disk failed so that nothing more is stored.
     pub(crate) down: bool,
@@ -43,6 +46,7 @@ impl Model for Machine {
     ghost use Rattle.std.specs.HashMap.{get, spare};
     ghost use Rattle.std.specs.BTreeMap.{get as get_ordered};
     ghost use Rattle.std.specs.Map.{keys_of};
+    ghost use Rattle.bonsai.specs.Versions.{version_view};
     ghost use Rattle.repo_machine.specs.Held.{Held, coded_held};
 
     ghost Value = { Held };
@@ -53,7 +57,7 @@ impl Model for Machine {
     ghost use Rattle.repo_machine.specs.Indexes.{AreIndexes, AreAt};
 
     ghost view = { λ m. record {
-      header = record { capacity = m.capacity };
+      header = record { capacity = m.capacity; version = version_view m.version };
       history = history_of m.changesets.known m.entries.items;
       room = record {
         entries = vec_capacity m.entries - vec_len m.entries;
@@ -65,7 +69,7 @@ impl Model for Machine {
     } };
 
     ghost invariant = { λ m. AllByRecursion (IsWithin (length m.changesets.known)) m.entries.items ×
-        AreIndexes (record { capacity = m.capacity }) (history_of m.changesets.known m.entries.items) m.changesets.known
+        AreIndexes (record { capacity = m.capacity; version = version_view m.version }) (history_of m.changesets.known m.entries.items) m.changesets.known
         (λ name. option_flatten (get_ordered ⟦<BookName as Ord>⟧.cmp m.heads name))
         (λ x. option_map (λ p. p.length) (get ⟦<Id as PartialEq>⟧.eq m.contents x)) m.size m.down ×
         AreAt (history_of m.changesets.known m.entries.items) (λ x. get ⟦<Id as PartialEq>⟧.eq m.contents x) ×
@@ -73,15 +77,16 @@ impl Model for Machine {
 }
 
 impl Machine {
-    /// A repository of this capacity in bytes, from 4,096 to 34,359,738,368, without an entry. Its tables by ids
-    /// are hashed with these keys.
-    pub fn new(alloc: Global, keys: RandomState, capacity: u64) -> Machine
-        requires { IsTrue (is_header (record { capacity = capacity })) }
-        ensures header { result.header.capacity ≡ capacity }
+    /// A repository of this capacity in bytes, from 4,096 to 34,359,738,368, whose file has this version, without an entry.
+    /// Its tables by ids are hashed with these keys.
+    pub fn new(alloc: Global, keys: RandomState, capacity: u64, version: Version) -> Machine
+        requires { IsTrue (is_header (record { capacity = capacity; version = version_view version })) }
+        ensures header { result.header ≡ record { capacity = capacity; version = version_view version } }
         ensures history { result.history ≡ [] }
     {
         Machine {
             capacity,
+            version,
             size: EMPTY_SIZE,
             down: false,
             entries: Vec::new(alloc),
@@ -98,6 +103,13 @@ impl Machine {
         ensures { result ≡ journal.size self.now.history }
     {
         self.size
+    }
+
+    /// The version of the file.
+    pub fn version(&self) -> Version
+        ensures { version_view result ≡ self.now.header.version }
+    {
+        self.version
     }
 
     /// How many entries the history has, with its faults.

@@ -1,5 +1,6 @@
 //! The same replies by going through the history: slow and plain, for the machine to be held against.
 ghost use Rattle.std.specs.Prelude.{◌≡◌, ◌≤◌, ◌<◌, ◌+◌, ◌^◌, true};
+ghost use Rattle.changeset_model.specs.Version.{Version, First};
 ghost use Rattle.history_model.specs.History.{content_len, length_in};
 ghost use Rattle.history_model.specs.Journal.{record_len, is_header};
 ghost use Rattle.history_model.specs.Journal as journal;
@@ -61,9 +62,9 @@ pub fn put_content(
     who: u64,
     bytes: &[u8],
 ) -> Result<Id, Refusal>
-    requires header { is_header (record { capacity = capacity }) ≡ true }
+    requires header { is_header (record { capacity = capacity; version = First }) ≡ true }
     requires fits { journal.size (history_of contents.old.items) ≤ capacity }
-    ensures reply { Replies (record { capacity = capacity }) (history_of contents.old.items) who (Asks (PutContent bytes.now)) (content_answer result) (history_of contents.new.items) }
+    ensures reply { (version : Version) → Replies (record { capacity = capacity; version = version }) (history_of contents.old.items) who (Asks (PutContent bytes.now)) (content_answer result) (history_of contents.new.items) }
     ensures fits { journal.size (history_of contents.new.items) ≤ capacity }
 {
     if bytes.len() as u64 > MOST_CONTENT {

@@ -7,10 +7,9 @@ ghost use Rattle.changeset_store.specs.Fork.{IsFork, fork_between};
 ghost use Rattle.history_model.specs.Bookmark.{head as head_of};
 ghost use Rattle.history_model.specs.History.{is_known, is_down, known};
 ghost use Rattle.history_model.specs.Pushrebase.{Fork as Parted, fork as parting};
-ghost use Rattle.reply_model.specs.Reply.{LandDraft, judge};
 ghost use Rattle.reply_model.specs.Legal.{IsLegal};
 ghost use Rattle.repo_machine.specs.Clashes.{edited_paths};
-ghost use Rattle.repo_machine.specs.Landings.{Steps as Gives, IsRefusal, forking, lengths_checked};
+ghost use Rattle.repo_machine.specs.Landings.{Steps as Gives, IsLandingRefusal, forking, lengths_checked};
 ghost use Rattle.repo_machine.specs.Plans.{IsPlan};
 
 use crate::clashes::touched_apart;
@@ -45,6 +44,7 @@ impl Model for Plan {
     ghost use Rattle.std.specs.Prelude.{◌≤◌, length};
     ghost use Rattle.std.specs.Arc.{arc_value};
     ghost use Rattle.reply_model.specs.Reply.{most_stack};
+    ghost use Rattle.bonsai.specs.Making.{KeepOnParents};
     ghost use Rattle.changeset_store.specs.Shared.{values};
     ghost use Rattle.repo_machine.specs.Plans.{PlannedLanding, coded_planned};
 
@@ -54,7 +54,7 @@ impl Model for Plan {
 
     ghost view = { λ p. record { name = p.name; draft = p.draft; old = p.old; stack = values p.stack.items; touched = (arc_value p.touched).items } };
 
-    ghost invariant = { λ p. length (values p.stack.items) ≤ most_stack };
+    ghost invariant = { λ p. (length (values p.stack.items) ≤ most_stack) × KeepOnParents (values p.stack.items) };
 }
 
 impl Machine {
@@ -64,7 +64,7 @@ impl Machine {
     pub fn plan(&self, alloc: Global, name: &BookName, draft: Id) -> Result<Plan, Refusal>
         ensures ok { IfOk result (IsPlan self.now.history name.now draft) }
         ensures up { OnOk result (is_down self.now.history ≡ false) }
-        ensures err { IfErr result (IsRefusal (judge self.now.header self.now.history (LandDraft name.now draft))) }
+        ensures err { IfErr result (IsLandingRefusal self.now.header self.now.history name.now draft) }
         ensures legal { IsLegal self.now.header self.now.history }
     {
         on_own_count::<Brand>(self, alloc, name, draft, Blank::new(1))
@@ -81,7 +81,7 @@ impl Machine {
     ) -> Result<Plan, Refusal>
         ensures ok { IfOk result (IsPlan self.now.history name.now draft) }
         ensures up { OnOk result (is_down self.now.history ≡ false) }
-        ensures err { IfErr result (IsRefusal (judge self.now.header self.now.history (LandDraft name.now draft))) }
+        ensures err { IfErr result (IsLandingRefusal self.now.header self.now.history name.now draft) }
         ensures legal { IsLegal self.now.header self.now.history }
         ensures counted { steps.old ≤ steps.new }
         ensures cost { (old : ModelId) (f : Parted) (digits : ℕ) → head_of self.now.history name.now ≡ Some old → parting (known self.now.history) old draft ≡ Some f →
@@ -120,7 +120,7 @@ fn on_own_count<L: Ledger>(
     requires some { 0 < blank.parts }
     ensures ok { IfOk result (IsPlan machine.now.history name.now draft) }
     ensures up { OnOk result (is_down machine.now.history ≡ false) }
-    ensures err { IfErr result (IsRefusal (judge machine.now.header machine.now.history (LandDraft name.now draft))) }
+    ensures err { IfErr result (IsLandingRefusal machine.now.header machine.now.history name.now draft) }
     ensures legal { IsLegal machine.now.header machine.now.history }
 {
     let mut steps = Steps::<L>::new(blank);

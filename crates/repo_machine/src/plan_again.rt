@@ -7,11 +7,10 @@ ghost use Rattle.changeset_store.specs.Fork.{IsAncestor, IsFork, following_at, f
 ghost use Rattle.history_model.specs.Bookmark.{head as head_of};
 ghost use Rattle.history_model.specs.History.{is_known, is_down, known};
 ghost use Rattle.history_model.specs.Pushrebase.{fork as parting};
-ghost use Rattle.reply_model.specs.Reply.{LandDraft, judge};
 ghost use Rattle.reply_model.specs.Legal.{IsLegal};
 ghost use Rattle.repo_machine.specs.Again.{WasPlan, since, GoesOn, IsPlannedHead};
 ghost use Rattle.repo_machine.specs.Clashes.{edited_paths, apart_checked};
-ghost use Rattle.repo_machine.specs.Landings.{Steps as Gives, IsRefusal};
+ghost use Rattle.repo_machine.specs.Landings.{Steps as Gives, IsLandingRefusal};
 ghost use Rattle.repo_machine.specs.Plans.{IsPlan};
 
 use crate::clashes::check_apart;
@@ -38,7 +37,7 @@ impl Machine {
         requires { WasPlan self.now.history plan }
         ensures ok { IfOk result (IsPlan self.now.history plan.name plan.draft) }
         ensures up { OnOk result (is_down self.now.history ≡ false) }
-        ensures err { IfErr result (IsRefusal (judge self.now.header self.now.history (LandDraft plan.name plan.draft))) }
+        ensures err { IfErr result (IsLandingRefusal self.now.header self.now.history plan.name plan.draft) }
         ensures legal { IsLegal self.now.header self.now.history }
         ensures counted { steps.old ≤ steps.new }
         // At most three more than the binary digits of the number of the stack's paths, for each new edit.

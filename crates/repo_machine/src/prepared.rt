@@ -79,7 +79,11 @@ impl Machine {
                 _ => unreachable!(),
             },
             Ask::SetBookmark { name, from, to } => self.judge_bookmark(alloc, who, name, from, to),
-            Ask::Land { name, draft } => self.judge_landing(alloc, who, name, draft),
+            Ask::Land {
+                name,
+                draft,
+                moment,
+            } => self.judge_landing(alloc, who, name, draft, moment),
         }
     }
 }

@@ -13,6 +13,10 @@ pub(crate) struct LandRecord {
     pub(crate) draft: Id,
     /// The numbers of the rewritten changesets, of which the last is the head after.
     pub(crate) numbers: Vec<u32>,
+    /// When it was landed, told where one of them is of the second version.
+    pub(crate) moment: Option<u64>,
+    /// Who landed it, told where a policy was held.
+    pub(crate) caller: Option<BookName>,
 }
 
 /// What an entry says.

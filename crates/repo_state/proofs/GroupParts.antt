@@ -4,13 +4,15 @@ use Rattle.std.specs.Prelude.{filter, IsTrue}
 use Rattle.std.specs.List.{AllByRecursion}
 use Rattle.std.proofs.lemmas.List.{append-nil, take-append-le, take-append-drop, drop-append-le}
 use Rattle.history_model.specs.History.{Body, Fault, Entry, bodies, is_stored, unnumbered}
-use Rattle.history_model.specs.Journal.{IsPayload, framed, size}
+use Rattle.history_model.specs.Journal.{Header, IsPayload, framed, size}
 use Rattle.repo_journal.specs.Payloads.{ArePayloads}
 use Rattle.repo_journal.specs.Groups.{group, grown}
 use Rattle.repo_journal.proofs.Groups.{grown_group}
 use Rattle.repo_journal.proofs.Histories.{are_payloads-append, group_size}
+use Rattle.reply_model.specs.Legal.{GoesOn, IsLegal}
 use Rattle.reply_model.proofs.Histories.{bodies-append}
-use Rattle.repo_state.specs.GroupImages.{sealed_part, IsPending}
+use Rattle.reply_model.proofs.Stored.{IsLegal-stored}
+use Rattle.repo_state.specs.Images.{sealed_part, IsPending}
 use Rattle.repo_state.proofs.Stands.{bodies-fault, size-same}
 
 pub take_all : {X : Type 0} (xs : List X) → take (length xs) xs ≡ xs
@@ -40,6 +42,17 @@ bodies_again (b ∷ bs) = ap (λ xs. b ∷ xs) (bodies_again bs)
 
 pub bodies_part : (n : ℕ) (h : List Entry) → bodies (sealed_part n h) ≡ take n (bodies h)
 bodies_part n h = ap (λ bs. filter is_stored bs) (bodies_again (take n (bodies h))) ∙ stored_front n (bodies h) (each_stored (map (λ (e : Entry). e.body) h))
+
+goes_less : (header : Header) (before : List Entry) (n : ℕ) (bs : List Body) → GoesOn header before (map unnumbered bs) → GoesOn header before (map unnumbered (take n bs))
+goes_less header before zero bs goes = tt
+goes_less header before (suc n) [] goes = tt
+goes_less header before (suc n) (b ∷ bs) goes = (goes.0, goes_less header (before ++ unnumbered b ∷ []) n bs goes.1)
+
+pub part_legal : (header : Header) (n : ℕ) (h : List Entry) → IsLegal header h → IsLegal header (sealed_part n h)
+part_legal header n h legal = goes_less header [] n (bodies h) (IsLegal-stored header h legal)
+
+pub part_same : (n : ℕ) (h g : List Entry) → bodies h ≡ bodies g → sealed_part n h ≡ sealed_part n g
+part_same n h g same = ap (λ bs. map unnumbered (take n bs)) same
 
 pub part_grows : (n : ℕ) (h g : List Entry) → n ≤ length (bodies h) → sealed_part n (h ++ g) ≡ sealed_part n h
 part_grows n h g le = ap (λ bs. map unnumbered (take n bs)) (bodies-append h g) ∙ ap (map unnumbered) (take-append-le n (bodies h) (bodies g) le)
@@ -73,6 +86,10 @@ part_and_rest n h =
     ∙ (λ i. bodies_part n h i ++ bodies_rest n h i)
     ∙ take-append-drop n (bodies h)
 
+-- the same, apart
+pub both_bodies : (n : ℕ) (h : List Entry) → bodies (sealed_part n h) ++ bodies (map unnumbered (drop n (bodies h))) ≡ bodies h
+both_bodies n h = (λ i. bodies_part n h i ++ bodies_rest n h i) ∙ take-append-drop n (bodies h)
+
 -- ---- the records that wait
 
 pub nothing_pending : (h : List Entry) → IsPending h (length (bodies h)) []
@@ -91,16 +108,18 @@ one_more_pending h n bytes payload entry stored is p =
       is = ap (λ b. grown b (framed payload)) p.is ∙ grown_group p.payloads payload;
     }
 
+-- what waits is told by what is stored
+pub pending_same : (h g : List Entry) (n : ℕ) (bytes : List ℕ) → bodies h ≡ bodies g → IsPending h n bytes → IsPending g n bytes
+pending_same h g n bytes same p = record {
+  most = subst (λ bs. n ≤ length bs) same p.most;
+  payloads = p.payloads;
+  are = subst (λ bs. ArePayloads (drop n bs) p.payloads) same p.are;
+  is = p.is;
+}
+
 -- a fault waits for nothing
 pub fault_pending : (h : List Entry) (n who : ℕ) (breaking : Bool) (bytes : List ℕ) → IsPending h n bytes → IsPending (h ++ record { who = who; body = Fault breaking } ∷ []) n bytes
-fault_pending h n who breaking bytes p =
-    let same = bodies-fault h who breaking in
-    record {
-      most = subst (λ bs. n ≤ length bs) (sym same) p.most;
-      payloads = p.payloads;
-      are = subst (λ bs. ArePayloads (drop n bs) p.payloads) (sym same) p.are;
-      is = p.is;
-    }
+fault_pending h n who breaking bytes p = pending_same h (h ++ record { who = who; body = Fault breaking } ∷ []) n bytes (sym (bodies-fault h who breaking)) p
 
 no_payloads : (bs : List Body) → ArePayloads bs [] → bs ≡ []
 no_payloads [] are = refl

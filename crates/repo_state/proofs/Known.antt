@@ -1,6 +1,6 @@
 -- The known changesets of a legal history, as manifests in memory want them: each under its id and once, after its parents, and of trees that can be counted.
 use Rattle.std.proofs.Common.{◌≡◌, ℕ, suc, ◌+◌, ◌*◌, ◌≤◌, Bool, true, false, cond, not, List, [], ◌∷◌, ◌++◌, map, length, reverse, refl, sym, ap, subst, ◌∙◌, arith, length-append}
-use Rattle.std.specs.Prelude.{filter, flat_map, sum_by, bytes_eq, nat_le}
+use Rattle.std.specs.Prelude.{Option, None, Some, filter, flat_map, sum_by, bytes_eq, nat_le}
 use Rattle.std.specs.List.{AllByRecursion, concat}
 use Rattle.std.specs.Int.{w8, w16, w32, w64, to_be_bytes, cast_unsigned}
 use mathlib.Core.Bool.{true≢false}
@@ -8,10 +8,11 @@ use Rattle.std.proofs.lemmas.Bool.{and_parts, leb-true}
 use Rattle.std.proofs.lemmas.List.{length-map, reverse-reverse}
 use Rattle.std.proofs.lemmas.List.Sums.{sum_by-cons}
 use Rattle.byte_fields.specs.Bytes.{Id, sized}
+use Rattle.changeset_model.specs.Version.{version_byte}
 use Rattle.changeset_model.specs.Changeset.{Changeset, edit_bytes, spelling, is_changeset}
-use Rattle.history_model.specs.History.{Body, Content, Change, Book, Land, Fault, Entry, Known, bodies, is_stored, changesets_in, with_id, each_id_once, known}
-use Rattle.history_model.specs.Chain.{HasParents, line, changesets}
-use Rattle.history_model.specs.Journal.{Header, is_header, payload_len, record_len, size}
+use Rattle.history_model.specs.History.{Body, Content, Whole, Change, Book, Land, Policy, Fault, Entry, Known, bodies, is_stored, changesets_in, with_id, each_id_once, known}
+use Rattle.history_model.specs.Chain.{line, changesets}
+use Rattle.history_model.specs.Journal.{Header, is_header, payload_len, record_len, size, landing_mark, moment_bytes, wrapped}
 use Rattle.manifest_laws.specs.Bounds.{changesets_of}
 use Rattle.manifest_laws.proofs.Bounds.{all_line, line_ids, line_clear, files_counted}
 use Rattle.manifest_laws.proofs.Lists.{behind_long}
@@ -19,7 +20,7 @@ use Rattle.byte_fields.proofs.Lists.{all_reverse}
 use Rattle.reply_model.specs.Legal.{IsLegal}
 use Rattle.reply_model.proofs.Parents.{HasParents-known}
 use Rattle.reply_model.proofs.Lines.{known_once, known-append}
-use Rattle.opening_laws.proofs.Rules.{all_rules, all_clear}
+use Rattle.opening_laws.proofs.Rules.{all_rules, all_clear, known_one_parent}
 use Rattle.opening_laws.proofs.Sizes.{history_fits}
 use Rattle.changeset_store.specs.Store.{known_at}
 use Rattle.changeset_store.specs.Numbers.{AreApart}
@@ -76,7 +77,7 @@ fewer_once (k ∷ ks) =
 -- the date and the message's length alone have 16 bytes
 spelling_long : (c : Changeset) → 16 ≤ length (spelling c)
 spelling_long c =
-    let last = behind_long ((0x43 ∷ 1 ∷ []) ∷ (length c.parents ∷ []) ∷ concat c.parents ∷ sized w16 c.author ∷ []) (to_be_bytes w64 (cast_unsigned w64 c.seconds) ∷ to_be_bytes w32 (cast_unsigned w32 c.offset) ∷ sized w32 c.message ∷ to_be_bytes w32 (length c.changes) ∷ flat_map edit_bytes c.changes ∷ []) in
+    let last = behind_long ((0x43 ∷ version_byte c.version ∷ []) ∷ (length c.parents ∷ []) ∷ concat c.parents ∷ sized w16 c.author ∷ []) (to_be_bytes w64 (cast_unsigned w64 c.seconds) ∷ to_be_bytes w32 (cast_unsigned w32 c.offset) ∷ sized w32 c.message ∷ to_be_bytes w32 (length c.changes) ∷ flat_map (edit_bytes c.version) c.changes ∷ []) in
     omega (arith, last)
 
 spellings_long : (cs : List Changeset) → 16 * length cs ≤ length (concat (map (λ c. sized w32 (spelling c)) cs))
@@ -88,14 +89,22 @@ spellings_long (c ∷ cs) =
     let part = length-append (to_be_bytes w32 (length (spelling c))) (spelling c) in
     omega (arith, one, rest, whole, part)
 
+wrapped_long : (caller : Option (List ℕ)) (bytes : List ℕ) → length bytes ≤ length (wrapped caller bytes)
+wrapped_long None bytes = omega arith
+wrapped_long (Some caller) bytes = let whole = length-append (sized w8 caller) bytes in omega (arith, whole)
+
 body_long : (b : Body) → 16 * length (changesets_in b) ≤ payload_len b
 body_long (Content x n) = omega arith
+body_long (Whole x n parts) = omega arith
+body_long (Policy caller text) = omega arith
 body_long (Change c) = let h = spelling_long c in omega (arith, h)
 body_long (Book move) = omega arith
 body_long (Land landing) =
     let h = spellings_long landing.new in
-    let g = behind_long ((0x4C ∷ []) ∷ sized w8 landing.name ∷ landing.old ∷ landing.draft ∷ to_be_bytes w16 (length landing.new) ∷ []) (map (λ c. sized w32 (spelling c)) landing.new) in
-    omega (arith, h, g)
+    let front = (landing_mark landing.moment ∷ []) ∷ sized w8 landing.name ∷ landing.old ∷ landing.draft ∷ moment_bytes landing.moment ∷ to_be_bytes w16 (length landing.new) ∷ [] in
+    let g = behind_long front (map (λ c. sized w32 (spelling c)) landing.new) in
+    let w = wrapped_long landing.caller (concat (front ++ map (λ c. sized w32 (spelling c)) landing.new)) in
+    omega (arith, h, g, w)
 body_long (Fault breaking) = omega arith
 
 stored_long : (b : Body) (later : List Body) (n : ℕ) → n ≤ sum_by record_len later → (s : Bool) → is_stored b ≡ s → 16 * length (changesets_in b) + n ≤ sum_by record_len (cond s (b ∷ later) later)
@@ -104,6 +113,8 @@ stored_long b later n h true e =
     let more = sum_by-cons record_len b later in
     omega (arith, one, more)
 stored_long (Content x m) later n h false e = absurd (true≢false e)
+stored_long (Whole x m parts) later n h false e = absurd (true≢false e)
+stored_long (Policy caller text) later n h false e = absurd (true≢false e)
 stored_long (Change c) later n h false e = absurd (true≢false e)
 stored_long (Book move) later n h false e = absurd (true≢false e)
 stored_long (Land landing) later n h false e = absurd (true≢false e)
@@ -138,6 +149,7 @@ is_store header h limits legal = record {
   once = once h;
   parents = HasParents-known header h legal;
   few = few_known header h limits legal;
+  one_parent = known_one_parent header h legal;
 }
 
 -- ---- of trees that can be counted

@@ -3,7 +3,7 @@ use Rattle.std.proofs.Common.{ℕ, List, ◌≡◌, subst}
 use Rattle.history_model.specs.History.{Entry}
 use Rattle.history_model.specs.Journal.{Header}
 use Rattle.reply_model.specs.Legal.{IsLegal}
-use Rattle.reply_model.specs.Reply.{Ask, PutContent, PutChangeset, SetBookmark, LandDraft, Granted, ContentPut, ChangesetPut, BookmarkSet, Landed}
+use Rattle.reply_model.specs.Reply.{Ask, PutContent, PutWhole, PutChangeset, SetBookmark, LandDraft, Granted, ContentPut, WholePut, ChangesetPut, BookmarkSet, Landed}
 use Rattle.reply_model.specs.After.{Asks, Grants, Replies}
 use Rattle.repo_calls.proofs.Lawful.{alone}
 use Rattle.repo_state.proofs.Landing.{replied_trees}
@@ -11,12 +11,14 @@ use Rattle.repo_state.specs.Trees.{LandsAs}
 
 lands_at : (header : Header) (h : List Entry) (who : ℕ) (ask : Ask) (granted : Granted) (new : List Entry) → IsLegal header new → Replies header h who (Asks ask) (Grants granted) new → LandsAs ask granted h new
 lands_at header h who (PutContent bytes) granted new legal r = tt
+lands_at header h who (PutWhole body pieces) granted new legal r = tt
 lands_at header h who (PutChangeset bytes) granted new legal r = tt
-lands_at header h who (SetBookmark name from to) granted new legal r = tt
-lands_at header h who (LandDraft name draft) (ContentPut x) new legal r = absurd (alone.fits header h who (LandDraft name draft) (ContentPut x) new r)
-lands_at header h who (LandDraft name draft) (ChangesetPut x) new legal r = absurd (alone.fits header h who (LandDraft name draft) (ChangesetPut x) new r)
-lands_at header h who (LandDraft name draft) BookmarkSet new legal r = absurd (alone.fits header h who (LandDraft name draft) BookmarkSet new r)
-lands_at header h who (LandDraft name draft) (Landed old ids) new legal r = replied_trees header h who name draft old ids new legal r
+lands_at header h who (SetBookmark caller name from to) granted new legal r = tt
+lands_at header h who (LandDraft caller name draft moment) (ContentPut x) new legal r = absurd (alone.fits header h who (LandDraft caller name draft moment) (ContentPut x) new r)
+lands_at header h who (LandDraft caller name draft moment) (WholePut x n) new legal r = absurd (alone.fits header h who (LandDraft caller name draft moment) (WholePut x n) new r)
+lands_at header h who (LandDraft caller name draft moment) (ChangesetPut x) new legal r = absurd (alone.fits header h who (LandDraft caller name draft moment) (ChangesetPut x) new r)
+lands_at header h who (LandDraft caller name draft moment) BookmarkSet new legal r = absurd (alone.fits header h who (LandDraft caller name draft moment) BookmarkSet new r)
+lands_at header h who (LandDraft caller name draft moment) (Landed old ids) new legal r = replied_trees header h who caller name draft moment old ids new legal r
 
 -- the header of the history after it is named otherwise
 pub lands_as : (header now : Header) (h : List Entry) (who : ℕ) (ask : Ask) (granted : Granted) (new : List Entry) → now ≡ header → IsLegal now new → Replies header h who (Asks ask) (Grants granted) new → LandsAs ask granted h new

@@ -1,11 +1,13 @@
 pub mod Chains
 pub mod Stands
-pub mod Leaving
 pub mod GroupParts
-pub mod GroupLeaving
+pub mod Wholes
+pub mod Leaving
 pub mod Sounds
+pub mod Opening
+pub mod Entering
+pub mod Sealing
 pub mod Contents
-pub mod Changes
 pub mod Answered
 pub mod Storing
 pub mod Looking
@@ -13,6 +15,7 @@ pub mod Heads
 pub mod Landed
 pub mod Stepping
 pub mod Crashing
+pub mod Served
 pub mod Known
 pub mod Reading
 pub mod Settling

@@ -13,7 +13,6 @@ use Rattle.std.proofs.lemmas.Option.{same_Some}
 use Rattle.byte_fields.specs.Bytes.{Id}
 use Rattle.changeset_model.specs.Path.{Path}
 use Rattle.history_model.specs.History.{Entry, Known, known, is_known}
-use Rattle.history_model.specs.Chain.{line}
 use Rattle.history_model.specs.Journal.{Header}
 use Rattle.history_model.specs.Tree.{files_of, is_file, is_dir}
 use Rattle.reply_model.specs.Reply as reply
@@ -146,7 +145,7 @@ none_is_settled ks t x are next = ap (λ o. option_map_or (is_settled t) o false
 pub roots_told : (header : Header) (h : List Entry) (x : Id) (t : Table) → AreManifests (known h) t → (n : ℕ) → number_in (known h) x ≡ Some n → (o : Option Roots) → ((ks : List Known) → AreManifests ks t → IfSome o (λ r. Some r ≡ roots_on (line_at ks n)))
     → IfSome o (λ r. Answers header h (Derives x) (answers.Roots r.fsnode r.unode) nothing)
 roots_told header h x t are n numbered None told = tt
-roots_told header h x t are n numbered (Some r) told = answered header h x n r numbered (told (known h) are)
+roots_told header h x t are n numbered (Some r) told = answered header h x n r are.store.one_parent numbered (told (known h) are)
 
 -- ---- what is read
 

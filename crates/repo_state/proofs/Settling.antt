@@ -1,8 +1,8 @@
 -- Jobs and what was derived of them as steps of the core.
 use Rattle.std.proofs.Common.{◌≡◌, ◌⊎◌, inl, inr, ℕ, ◌<◌, Bool, true, false, cond, not, ◌||◌, ◌&&◌, ◌==◌, List, [], ◌∷◌, ◌++◌, length, refl, sym, ap, subst, ◌∙◌, arith, append_assoc}
-use Rattle.std.specs.Prelude.{Option, None, Some, IfSome, is_some, Contains, bytes_eq, Result, Ok, Err, OnOk, OnErr, IfErr}
+use Rattle.std.specs.Prelude.{Option, None, Some, is_some, Contains, bytes_eq, Result, Ok, Err, OnOk, OnErr, IfErr}
 use Rattle.std.specs.List.{AllByRecursion}
-use Rattle.std.specs.Option.{option_map_or, option_and_then, option_or}
+use Rattle.std.specs.Option.{option_map_or, option_or}
 use Rattle.std.specs.FinMap as map
 use mathlib.Core.Bool.{true≢false}
 use Rattle.std.proofs.lemmas.Bool.{or_left, or_right, eqb-true, eq-eqb, false_from_ne_true}
@@ -11,15 +11,18 @@ use Rattle.std.proofs.lemmas.List.Folds.{list_any-append}
 use Rattle.std.proofs.lemmas.Option.{same_Some}
 use Rattle.std.proofs.lemmas.Slice.Eq.{bytes_eq-Decides}
 use Rattle.byte_fields.specs.Bytes.{Id}
-use Rattle.history_model.specs.History.{Entry, Known, known, is_known}
-use Rattle.history_model.specs.Chain.{first_parent, line}
+use Rattle.history_model.specs.History.{Entry, Known, known}
+use Rattle.history_model.specs.Chain.{line}
+use Rattle.history_model.specs.Past.{Begin, At, HaveOneParent, past, past_on}
+use Rattle.history_model.proofs.Pasts.{past_is_its_line}
 use Rattle.history_model.specs.Journal.{Header}
 use Rattle.manifest_model.specs.Manifests.{manifests_on, nodes_in, nodes_of}
+use Rattle.manifest_model.proofs.Merging.{manifests_of-line}
 use Rattle.reply_model.specs.Legal.{IsLegal}
 use Rattle.reply_model.proofs.Lines.{known-append}
 use Rattle.core_model.specs.Core.{State, Step, Settle, opened, after_steps}
 use Rattle.landing_core.specs.Steps.{Shows, Goes}
-use Rattle.landing_core.specs.Settled.{HasJob, IsReady, with_settled, IsNodeWith, AreApartWith, CollideWith, leaves_manifests}
+use Rattle.landing_core.specs.Settled.{is_settled as is_past_settled, HasJob, IsReady, with_settled, IsNodeWith, AreApartWith, CollideWith, leaves_manifests}
 use Rattle.reply_model.proofs.Parents.{same_id}
 use Rattle.changeset_model.proofs.Paths.{||-comm as or_none}
 use Rattle.landing_core.proofs.Taking.{take_goes}
@@ -29,8 +32,7 @@ use Rattle.node_table.specs.Table.{Table, Has, is_settled, with_nodes, settled_w
 use Rattle.node_table.specs.declared.fault.TableFault.{TableFault}
 use Rattle.node_table.specs.declared.fault.TableFault.TheVariants as tables
 use Rattle.changeset_store.specs.Store.{number_in, known_at, parent_at}
-use Rattle.changeset_store.proofs.Places.{known_at-changeset, number_in-push}
-use Rattle.changeset_store.proofs.Parents.{number_is_some}
+use Rattle.changeset_store.proofs.Places.{number_in-push}
 use Rattle.derive_step.specs.declared.job.Job.{Job}
 use Rattle.derive_step.specs.declared.done.Done.{Done}
 use Rattle.derive_step.specs.Jobs.{all_nodes_on}
@@ -38,36 +40,38 @@ use Rattle.manifest_store.specs.Jobs.{IsNext, is_ready, settled_by}
 use Rattle.manifest_store.specs.Lines.{line_at}
 use Rattle.manifest_store.specs.Manifests.{AreManifests}
 use Rattle.manifest_store.specs.Settling.{IsNodeBeside, IsCollisionBeside}
-use Rattle.manifest_store.proofs.Lines.{its_number, line_step, parent_there}
+use Rattle.manifest_store.proofs.Lines.{its_number, line_step, parent_in}
 use Rattle.manifest_store.proofs.Settled.{node_of}
 use Rattle.repo_state.specs.Cores.{settled_id, ShowsTable, id_at, TakesJob, SettlesSo}
-use Rattle.repo_state.proofs.Known.{known_apart}
 use Rattle.repo_state.proofs.Reading.{found_id, unsettled}
 
 module _ (h : List Entry) (t : Table) (a : AreManifests (known h) t) where
   abbrev ks : List Known
   ks = known h
 
+  lines : HaveOneParent ks
+  lines = a.store.one_parent
+
   -- ---- numbers and ids
 
   settled_is : (n : ℕ) → n < length ks → settled_id ks t (id_at ks n) ≡ is_settled t n
   settled_is n less = ap (λ o. option_map_or (is_settled t) o false) (its_number ks a.store n less)
 
-  -- a parent that is settled by its id is so by its number, and the other way round
-  parent_is : (o : Option Id) → IfSome o (λ q. is_known ks q ≡ true) → option_map_or (settled_id ks t) o true ≡ option_map_or (is_settled t) (option_and_then (number_in ks) o) true
-  parent_is None there = refl
-  parent_is (Some q) there = by (number_in ks q) (number_is_some ks (known_apart h) q ∙ there)
-    where
-      by : (o : Option ℕ) → is_some o ≡ true → option_map_or (is_settled t) o false ≡ option_map_or (is_settled t) o true
-      by None e = absurd (true≢false (sym e))
-      by (Some j) e = refl
-
-  own_parent : (n : ℕ) → n < length ks → option_map_or (settled_id ks t) (first_parent (known_at ks n).changeset) true ≡ option_map_or (is_settled t) (parent_at ks n) true
-  own_parent n less =
-      parent_is (first_parent (known_at ks n).changeset) (parent_there ks a.store n less)
-      ∙ ap (λ c. option_map_or (is_settled t) (option_and_then (number_in ks) (first_parent c)) true) (known_at-changeset ks n)
-
   -- ---- what is ready
+
+  -- the changesets behind one
+  abbrev older : ℕ → List Known
+  older n = option_map_or (line_at ks) (parent_at ks n) []
+
+  past_step : (n : ℕ) → n < length ks → past ks (id_at ks n) ≡ At (known_at ks n) (past_on (older n)) Begin
+  past_step n less = past_is_its_line ks (id_at ks n) lines ∙ ap past_on (line_step ks a.store n less)
+
+  older_settled : (n : ℕ) → is_past_settled (settled_id ks t) (past_on (older n)) ≡ option_map_or (is_settled t) (parent_at ks n) true
+  older_settled n = by (parent_at ks n) refl
+    where
+      by : (o : Option ℕ) → parent_at ks n ≡ o → is_past_settled (settled_id ks t) (past_on (option_map_or (line_at ks) o [])) ≡ option_map_or (is_settled t) o true
+      by None e = refl
+      by (Some p) e = let less = parent_in ks a.store n p e in ap (λ l. is_past_settled (settled_id ks t) (past_on l)) (line_step ks a.store p less) ∙ settled_is p less
 
   second : (b c : Bool) → (b && c) ≡ true → c ≡ true
   second true c e = e
@@ -76,25 +80,27 @@ module _ (h : List Entry) (t : Table) (a : AreManifests (known h) t) where
   ready_there : (n : ℕ) → n < length ks → is_ready ks t n ≡ true → IsReady ks (settled_id ks t) (id_at ks n)
   ready_there n less ready = record {
     unsettled = settled_is n less ∙ unsettled ks t n ready;
-    first = known_at ks n;
-    older = _;
-    line_is = line_step ks a.store n less;
-    parent = own_parent n less ∙ second (not (is_settled t n)) (option_map_or (is_settled t) (parent_at ks n) true) ready;
+    here = known_at ks n;
+    first = past_on (older n);
+    second = Begin;
+    past_is = past_step n less;
+    first_settled = older_settled n ∙ second (not (is_settled t n)) (option_map_or (is_settled t) (parent_at ks n) true) ready;
+    second_settled = refl;
   }
 
   ready_here : (n : ℕ) → n < length ks → IsReady ks (settled_id ks t) (id_at ks n) → is_ready ks t n ≡ true
   ready_here n less ready =
-      let same : ready.first ∷ ready.older ≡ known_at ks n ∷ option_map_or (line_at ks) (parent_at ks n) [] = sym ready.line_is ∙ line_step ks a.store n less in
-      let first : ready.first ≡ known_at ks n = cc in
-      let parent = sym (own_parent n less) ∙ subst (λ (c : Known). option_map_or (settled_id ks t) (first_parent c.changeset) true ≡ true) first ready.parent in
+      let same : At ready.here ready.first ready.second ≡ At (known_at ks n) (past_on (older n)) Begin = sym ready.past_is ∙ past_step n less in
+      let behind : ready.first ≡ past_on (older n) = cc in
+      let parent = sym (older_settled n) ∙ ap (is_past_settled (settled_id ks t)) (sym behind) ∙ ready.first_settled in
       (λ i. not ((sym (settled_is n less) ∙ ready.unsettled) i) && parent i)
 
   -- ---- the next job
 
-  pub takes : (header : Header) → IsLegal header h → (n : ℕ) (next : Option Job) → IsNext ks t n next → TakesJob header h t next
-  takes header legal n None next = tt
-  takes header legal n (Some job) next = λ s shows rows.
-      take_goes header h (settled_id ks t) (id_at ks job.number) s legal (ready_there job.number next.in_chain.above_known next.ready) shows rows
+  pub takes : (header : Header) (sealed : ℕ) → IsLegal header h → (n : ℕ) (next : Option Job) → IsNext ks t n next → TakesJob header h sealed t next
+  takes header sealed legal n None next = tt
+  takes header sealed legal n (Some job) next = λ s shows rows.
+      take_goes header h sealed (settled_id ks t) (id_at ks job.number) s legal (ready_there job.number next.in_chain.above_known next.ready) shows rows
 
   -- ---- nodes
 
@@ -117,27 +123,30 @@ module _ (h : List Entry) (t : Table) (a : AreManifests (known h) t) where
       let here = found_id h y at.0 at.1 in
       a.held at.0 at.2 bytes
       (on_line (line_at ks at.0) _ (known_at ks at.0) y bytes (line_step ks a.store at.0 (a.numbered at.0 at.2))
-      (subst (λ z. Contains (nodes_in (manifests_on y (line ks z))) bytes) (sym here) c))
+      (subst (λ z. Contains (nodes_in (manifests_on y (line ks z))) bytes) (sym here) (subst (λ m. Contains (nodes_in m) bytes) (manifests_of-line ks y lines) c)))
 
   -- ---- a collision
+
+  as_node : (n : ℕ) (bytes : List ℕ) → Contains (all_nodes_on (line_at ks n)) bytes → Contains (nodes_of ks (id_at ks n)) bytes
+  as_node n bytes c = subst (λ m. Contains (nodes_in m) bytes) (sym (manifests_of-line ks (id_at ks n) lines)) (node_of (line_at ks n) (id_at ks n) bytes c)
 
   beside : (n : ℕ) → n < length ks → (bytes : List ℕ) → IsNodeBeside ks t n bytes → IsNodeWith ks (settled_id ks t) (id_at ks n) bytes
   beside n less bytes (inl of) = (
     id_at ks of.0,
     or_left (settled_id ks t (id_at ks of.0)) (bytes_eq (id_at ks n) (id_at ks of.0)) (settled_is of.0 (a.numbered of.0 of.1) ∙ of.1),
-    node_of (line_at ks of.0) (id_at ks of.0) bytes of.2,
+    as_node of.0 bytes of.2,
   )
   beside n less bytes (inr c) = (
     id_at ks n,
     or_right (settled_id ks t (id_at ks n)) (bytes_eq (id_at ks n) (id_at ks n)) (same_id (id_at ks n)),
-    node_of (line_at ks n) (id_at ks n) bytes c,
+    as_node n bytes c,
   )
 
   -- nothing is put in
-  kept : (header : Header) (n : ℕ) (new : Table) (s : State) → new ≡ t → (settled_id ks t (id_at ks n) ≡ true) ⊎ CollideWith ks (settled_id ks t) (id_at ks n) → Shows h s → ShowsTable ks t s → HasJob s (id_at ks n) → Goes header s (Settle (id_at ks n) ∷ []) (λ after. Shows h after × ShowsTable ks new after)
-  kept header n new s same why shows rows has =
-      subst (λ new. Goes header s (Settle (id_at ks n) ∷ []) (λ after. Shows h after × ShowsTable ks new after)) (sym same)
-      (settles_nothing header h (settled_id ks t) (id_at ks n) s why shows rows has)
+  kept : (header : Header) (sealed n : ℕ) (new : Table) (s : State) → new ≡ t → (settled_id ks t (id_at ks n) ≡ true) ⊎ CollideWith ks (settled_id ks t) (id_at ks n) → Shows h sealed s → ShowsTable ks t s → HasJob s (id_at ks n) → Goes header s (Settle (id_at ks n) ∷ []) (λ after. Shows h sealed after × ShowsTable ks new after)
+  kept header sealed n new s same why shows rows has =
+      subst (λ new. Goes header s (Settle (id_at ks n) ∷ []) (λ after. Shows h sealed after × ShowsTable ks new after)) (sym same)
+      (settles_nothing header h sealed (settled_id ks t) (id_at ks n) s why shows rows has)
 
 -- ---- a table with one changeset more
 
@@ -190,9 +199,9 @@ module _ (h : List Entry) (t new : Table) (a : AreManifests (known h) t) (after 
   apart one other first second same =
       same_Some one other (sym (has_node one first) ∙ ap (map.get new.nodes) same ∙ has_node other second)
 
-  put : (header : Header) (s : State) → Shows h s → ShowsTable (known h) t s → HasJob s x → Goes header s (Settle x ∷ []) (λ after. Shows h after × ShowsTable (known h) new after)
-  put header s shows rows has =
-      let goes = settles header h (settled_id (known h) t) x s apart shows rows has in
+  put : (header : Header) (sealed : ℕ) (s : State) → Shows h sealed s → ShowsTable (known h) t s → HasJob s x → Goes header s (Settle x ∷ []) (λ after. Shows h sealed after × ShowsTable (known h) new after)
+  put header sealed s shows rows has =
+      let goes = settles header h sealed (settled_id (known h) t) x s apart shows rows has in
       record {
         state = goes.state;
         taken = goes.taken;
@@ -201,7 +210,7 @@ module _ (h : List Entry) (t new : Table) (a : AreManifests (known h) t) (after 
 
 -- ---- what is settled
 
-module _ (header : Header) (h : List Entry) (t new : Table) (a : AreManifests (known h) t) (after : AreManifests (known h) new) (done : Done) (less : done.number < length (known h)) where
+module _ (header : Header) (h : List Entry) (sealed : ℕ) (t new : Table) (a : AreManifests (known h) t) (after : AreManifests (known h) new) (done : Done) (less : done.number < length (known h)) where
   abbrev n : ℕ
   n = done.number
 
@@ -215,28 +224,28 @@ module _ (header : Header) (h : List Entry) (t new : Table) (a : AreManifests (k
       by true e = refl
       by false e = absurd (true≢false (sym (ready_here h t a n less (ready (known h) (settled_id (known h) t) id s rows has e)) ∙ late))
 
-  settles_now : (b : Bool) → is_ready (known h) t n ≡ b → new ≡ cond b (settled_with t n done.roots (done.nodes.items)) t → (b ≡ true → is_settled new n ≡ true) → (s : State) → Shows h s → ShowsTable (known h) t s → HasJob s id → Goes header s (Settle id ∷ []) (λ after. Shows h after × ShowsTable (known h) new after)
-  settles_now true is same now s shows rows has = put h t new a after n less (grown t new done same (unsettled (known h) t n is) (now refl)) header s shows rows has
-  settles_now false is same now s shows rows has = kept h t a header n new s same (inl (settled_late s is rows has)) shows rows has
+  settles_now : (b : Bool) → is_ready (known h) t n ≡ b → new ≡ cond b (settled_with t n done.roots (done.nodes.items)) t → (b ≡ true → is_settled new n ≡ true) → (s : State) → Shows h sealed s → ShowsTable (known h) t s → HasJob s id → Goes header s (Settle id ∷ []) (λ after. Shows h sealed after × ShowsTable (known h) new after)
+  settles_now true is same now s shows rows has = put h t new a after n less (grown t new done same (unsettled (known h) t n is) (now refl)) header sealed s shows rows has
+  settles_now false is same now s shows rows has = kept h t a header sealed n new s same (inl (settled_late s is rows has)) shows rows has
 
-  fails : (fault : TableFault) → new ≡ t → IsCollisionBeside (known h) t n fault → SettlesSo {T = Unit {0}} header h t n (Err fault) new
+  fails : (fault : TableFault) → new ≡ t → IsCollisionBeside (known h) t n fault → SettlesSo {T = Unit {0}} header h sealed t n (Err fault) new
   fails (tables.Collision digest) same two = λ s shows rows has.
-      kept h t a header n new s same (inr (two.0, two.1, two.4, beside h t a n less two.0 two.2, beside h t a n less two.1 two.3, two.5 ∙ sym two.6)) shows rows has
+      kept h t a header sealed n new s same (inr (two.0, two.1, two.4, beside h t a n less two.0 two.2, beside h t a n less two.1 two.3, two.5 ∙ sym two.6)) shows rows has
   fails tables.Memory same two = λ s shows rows has.
       record { state = s; taken = refl; meets = (shows, subst (λ new. ShowsTable (known h) new s) (sym same) rows) }
 
-  pub settles_so : (r : Result (Unit {0}) TableFault) → OnOk r (new ≡ settled_by (known h) t done) → OnErr r (new ≡ t) → (is_ready (known h) t n ≡ true → OnOk r (is_settled new n ≡ true)) → IfErr r (λ fault. IsCollisionBeside (known h) t n fault) → SettlesSo header h t n r new
+  pub settles_so : (r : Result (Unit {0}) TableFault) → OnOk r (new ≡ settled_by (known h) t done) → OnErr r (new ≡ t) → (is_ready (known h) t n ≡ true → OnOk r (is_settled new n ≡ true)) → IfErr r (λ fault. IsCollisionBeside (known h) t n fault) → SettlesSo header h sealed t n r new
   settles_so (Ok u) same stays now two = settles_now (is_ready (known h) t n) refl same now
   settles_so (Err fault) same stays now two = fails fault stays two
 
 -- ---- with the known changesets as a store tells them
 
-pub takes_as : (header : Header) (h : List Entry) (t : Table) → IsLegal header h → AreManifests (known h) t → (told : List Known) → told ≡ known h → (n : ℕ) (next : Option Job) → IsNext told t n next → TakesJob header h t next
-takes_as header h t legal a told same n next is = takes h t a header legal n next (subst (λ ks. IsNext ks t n next) same is)
+pub takes_as : (header : Header) (h : List Entry) (sealed : ℕ) (t : Table) → IsLegal header h → AreManifests (known h) t → (told : List Known) → told ≡ known h → (n : ℕ) (next : Option Job) → IsNext told t n next → TakesJob header h sealed t next
+takes_as header h sealed t legal a told same n next is = takes h t a header sealed legal n next (subst (λ ks. IsNext ks t n next) same is)
 
-pub settles_as : (header : Header) (h : List Entry) (t new : Table) → AreManifests (known h) t → (done : Done) → done.number < length (known h) → (told : List Known) → told ≡ known h → (r : Result (Unit {0}) TableFault) → AreManifests told new → OnOk r (new ≡ settled_by told t done) → OnErr r (new ≡ t) → (is_ready told t done.number ≡ true → OnOk r (is_settled new done.number ≡ true)) → IfErr r (λ fault. IsCollisionBeside told t done.number fault) → SettlesSo header h t done.number r new
-settles_as header h t new a done less told same r after is kept now two =
-    settles_so header h t new a (subst (λ ks. AreManifests ks new) same after) done less r
+pub settles_as : (header : Header) (h : List Entry) (sealed : ℕ) (t new : Table) → AreManifests (known h) t → (done : Done) → done.number < length (known h) → (told : List Known) → told ≡ known h → (r : Result (Unit {0}) TableFault) → AreManifests told new → OnOk r (new ≡ settled_by told t done) → OnErr r (new ≡ t) → (is_ready told t done.number ≡ true → OnOk r (is_settled new done.number ≡ true)) → IfErr r (λ fault. IsCollisionBeside told t done.number fault) → SettlesSo header h sealed t done.number r new
+settles_as header h sealed t new a done less told same r after is kept now two =
+    settles_so header h sealed t new a (subst (λ ks. AreManifests ks new) same after) done less r
     (subst (λ ks. OnOk r (new ≡ settled_by ks t done)) same is)
     kept
     (subst (λ ks. is_ready ks t done.number ≡ true → OnOk r (is_settled new done.number ≡ true)) same now)

@@ -1,14 +1,13 @@
 -- Which entries a file stands for: one more, and a fault more, which isn't stored.
 use Rattle.std.proofs.Common.{◌≡◌, ℕ, suc, ◌+◌, ◌≤◌, Bool, true, false, List, [], ◌∷◌, ◌++◌, length, map, refl, sym, ap, subst, ◌∙◌, arith}
-use Rattle.std.specs.Prelude.{sum_by, ◌||◌, not, filter, cond, Option, None, Some, is_some}
-use mathlib.Core.Logic.{inl, inr}
-use Rattle.std.proofs.lemmas.List.{append_assoc, append-nil, length-append}
+use Rattle.std.specs.Prelude.{sum_by, ◌||◌, not, filter, cond}
+use Rattle.std.proofs.lemmas.List.{append-nil, length-append}
 use Rattle.std.proofs.lemmas.List.Elements.{filter-append}
 use Rattle.std.proofs.lemmas.List.Sums.{sum_by-append, sum_by-cons}
 use Rattle.history_model.specs.History.{Body, Content, Fault, Entry, bodies, stored, unnumbered, is_breaking, is_down, is_stored}
-use Rattle.history_model.specs.Journal.{Header, HoldsRecords, Stands, record_len, size}
+use Rattle.std.specs.List.{AllByRecursion}
+use Rattle.history_model.specs.Journal.{Header, HoldsParts, HoldsRecords, Stands, record_len, size}
 use Rattle.reply_model.proofs.Histories.{bodies-append}
-use Rattle.repo_state.specs.Images.{StandsWith, StandsNow, StandsForFirst, StandsSince}
 use Rattle.repo_state.specs.State.{HasNoFault, faults_in, unseated}
 
 -- ---- what is stored
@@ -16,17 +15,11 @@ use Rattle.repo_state.specs.State.{HasNoFault, faults_in, unseated}
 pub bodies-fault : (h : List Entry) (who : ℕ) (breaking : Bool) → bodies (h ++ record { who = who; body = Fault breaking } ∷ []) ≡ bodies h
 bodies-fault h who breaking = bodies-append h (record { who = who; body = Fault breaking } ∷ []) ∙ append-nil (bodies h)
 
-pub bodies-more : (h g : List Entry) (left : Entry) → bodies h ≡ bodies g → bodies (h ++ left ∷ []) ≡ bodies (g ++ left ∷ [])
-bodies-more h g left e = bodies-append h (left ∷ []) ∙ ap (λ bs. bs ++ bodies (left ∷ [])) e ∙ sym (bodies-append g (left ∷ []))
-
-pub stored-same : (h g : List Entry) → bodies h ≡ bodies g → stored h ≡ stored g
-stored-same h g e = ap (λ bs. map unnumbered bs) e
-
 pub size-same : (h g : List Entry) → bodies h ≡ bodies g → size h ≡ size g
 size-same h g e = ap (λ bs. 17 + sum_by record_len bs) e
 
 pub stands-same : (header : Header) (image : List ℕ) (h g : List Entry) → bodies h ≡ bodies g → Stands header image h → Stands header image g
-stands-same header image h g e stands = (stands.0, stands.1, stands.2, subst (λ bs. HoldsRecords bs stands.1) e stands.3)
+stands-same header image h g e stands = (stands.0, stands.1, stands.2, subst (λ bs. HoldsRecords bs stands.1) e stands.3, subst (λ bs. AllByRecursion (HoldsParts image bs) bs) e stands.4)
 
 -- ---- whether it is down, and its faults
 
@@ -47,37 +40,6 @@ faults-fault h who breaking = faults-append h (record { who = who; body = Fault 
 pub no_fault-push : (h : List Entry) (e : Entry) → HasNoFault h → is_stored e.body ≡ true → HasNoFault (h ++ e ∷ [])
 no_fault-push [] e all s = (s, tt)
 no_fault-push (d ∷ h) e all s = (all.0, no_fault-push h e all.1 s)
-
-pub length-push : (h : List Entry) (e : Entry) → length (h ++ e ∷ []) ≡ length h + 1
-length-push h e = length-append h (e ∷ [])
-
--- ---- the first entries
-
-pub first_all : (header : Header) (n : ℕ) (h : List Entry) (image : List ℕ) → n ≤ length h → Stands header image h → StandsForFirst header n h image
-first_all header n h image long stands = (h, ([], append-nil h), long, stands)
-
-pub first_push : (header : Header) (n : ℕ) (h : List Entry) (e : Entry) (image : List ℕ) → StandsForFirst header n h image → StandsForFirst header n (h ++ e ∷ []) image
-first_push header n h e image first =
-    (first.0, (first.1.0 ++ e ∷ [], sym (append_assoc first.0 first.1.0 (e ∷ [])) ∙ ap (λ (g : List Entry). g ++ e ∷ []) first.1.1), first.2, first.3)
-
--- ---- with the entry left over
-
-pub with-same : (header : Header) (h g : List Entry) (left : Option Entry) (image : List ℕ) → bodies h ≡ bodies g → StandsWith header h left image → StandsWith header g left image
-with-same header h g None image e with_it = with_it
-with-same header h g (Some left) image e with_it = stands-same header image (h ++ left ∷ []) (g ++ left ∷ []) (bodies-more h g left e) with_it
-
-pub now-same : (header : Header) (h g : List Entry) (left : Option Entry) (image : List ℕ) → bodies h ≡ bodies g → StandsNow header h left image → StandsNow header g left image
-now-same header h g left image e (inl stands) = inl (stands-same header image h g e stands)
-now-same header h g left image e (inr with_it) = inr (with-same header h g left image e with_it)
-
-pub now-since : (header : Header) (n : ℕ) (h : List Entry) (left : Option Entry) (image : List ℕ) → n ≤ length h → StandsNow header h left image → StandsSince header n h left image
-now-since header n h left image long (inl stands) = inl (first_all header n h image long stands)
-now-since header n h left image long (inr with_it) = inr with_it
-
--- where nothing is left over
-pub nothing_left : (header : Header) (h : List Entry) (left : Option Entry) (image : List ℕ) → is_some left ≡ false → StandsWith header h left image → ⊥
-nothing_left header h None image e with_it = with_it
-nothing_left header h (Some left) image e with_it = absurd cc
 
 -- ---- lengths of files
 

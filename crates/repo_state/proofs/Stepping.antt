@@ -1,36 +1,70 @@
 -- The calls of a repository in a file as steps of the core, by their answers.
-use Rattle.std.proofs.Common.{◌≡◌, ℕ, true, false, List, [], ◌∷◌, ◌++◌, refl, sym, ap, subst, ◌∙◌}
+use Rattle.std.proofs.Common.{◌≡◌, ◌≢◌, ℕ, ◌<◌, Bool, true, false, List, length, [], ◌∷◌, ◌++◌, refl, sym, ap, subst, ◌∙◌}
 use Rattle.std.specs.Prelude.{Result, Ok, Err, IfOk}
-use mathlib.Core.Logic.{inl}
+use mathlib.Core.Logic.{inl, inr}
 use Rattle.byte_fields.specs.Bytes.{Id}
-use Rattle.history_model.specs.History.{Fault, Entry, is_down, stored}
+use Rattle.history_model.specs.History.{Fault, Entry, bodies, is_down, stored}
 use Rattle.history_model.specs.Journal.{Header}
 use Rattle.history_model.specs.Pushrebase.{rewrite}
 use Rattle.reply_model.specs.Reply as reply
 use Rattle.reply_model.specs.Reply.{LandDraft}
+use Rattle.reply_model.specs.Opening.{nobody}
 use Rattle.reply_model.specs.After as answers
 use Rattle.reply_model.specs.After.{Answer, Asks, Replies, entry_by}
 use Rattle.reply_model.proofs.Stored.{is_down-stored}
-use Rattle.repo_calls.specs.Calls.{refused}
+use Rattle.repo_calls.specs.Calls.{granted_seen, refused}
+use Rattle.repo_calls.specs.declared.ask.Granted as calls
+use Rattle.repo_state.specs.State.{entered_answer}
 use Rattle.repo_calls.specs.declared.refusal.Refusal as refusal
 use Rattle.repo_calls.specs.declared.refusal.Refusal.TheVariants as refusals
 use Rattle.repo_machine.specs.Plans.{PlannedLanding, RebasedLanding, IsPlan, PassesPlan}
 use Rattle.core_model.specs.Core.{State, opened}
-use Rattle.landing_core.specs.Steps.{Shows, HasPlan, all_calls, calls_to, Goes}
+use Rattle.landing_core.specs.Steps.{Shows, HasPlan, AtSeal, all_calls, calls_to, Goes}
 use Rattle.landing_core.proofs.Asked.{stored_goes}
-use Rattle.landing_core.proofs.Exchanged.{landed_goes, moved_goes, refused_goes, failed_goes}
+use Rattle.landing_core.proofs.Exchanged.{landed_goes, moved_goes, refused_goes}
+use Rattle.landing_core.proofs.Sealed.{seal_goes, cut_goes}
 use Rattle.landing_core.proofs.Others.{plan_goes, fault_goes, opened_shows}
 use Rattle.repo_machine.proofs.Judging.{refused_down}
 use Rattle.repo_state.proofs.Storing.{refused_replies}
 use Rattle.repo_state.specs.Exchanging.{Exchanges}
-use Rattle.repo_state.specs.Cores.{Stores, asked_landing, ExchangesSo, Plans, LooksSo}
+use Rattle.repo_state.specs.Cores.{Stores, asked_landing, ExchangesSo, SealsSo, Plans, LooksSo}
+use Rattle.repo_state.proofs.Opening.{stored_count}
 use Rattle.repo_state.specs.declared.exchanged.Exchanged.{Exchanged}
-use Rattle.repo_state.specs.declared.exchanged.Exchanged.TheVariants.{Landed, HeadMoved, Refused, DiskFault}
+use Rattle.repo_state.specs.declared.exchanged.Exchanged.TheVariants.{Landed, HeadMoved, Refused}
 
 -- ---- changes
 
-pub stores : (header : Header) (h : List Entry) (who : ℕ) (ask : reply.Ask) (answer : Answer) (new : List Entry) → Replies header h who (Asks ask) answer new → Stores header h who ask answer new
-stores header h who ask answer new r = λ s shows may. stored_goes header h who ask answer new s r shows may
+no_fault : (e : refusal.Refusal) → refused e ≢ answers.DiskFault
+no_fault refusals.Down = λ p. absurd cc
+no_fault (refusals.TooLong n) = λ p. absurd cc
+no_fault (refusals.BadEncoding at) = λ p. absurd cc
+no_fault (refusals.SelfConflict short long) = λ p. absurd cc
+no_fault refusals.Merge = λ p. absurd cc
+no_fault (refusals.NoParent x) = λ p. absurd cc
+no_fault (refusals.NoContent path x) = λ p. absurd cc
+no_fault (refusals.WrongSize path wanted found) = λ p. absurd cc
+no_fault (refusals.Collision x) = λ p. absurd cc
+no_fault (refusals.NoChangeset x) = λ p. absurd cc
+no_fault (refusals.Moved found) = λ p. absurd cc
+no_fault refusals.NoBookmark = λ p. absurd cc
+no_fault refusals.NoRoot = λ p. absurd cc
+no_fault (refusals.TooFarBehind distance) = λ p. absurd cc
+no_fault refusals.AlreadyIn = λ p. absurd cc
+no_fault (refusals.StackTooLong count) = λ p. absurd cc
+no_fault (refusals.Clash left right) = λ p. absurd cc
+no_fault (refusals.TooLarge n) = λ p. absurd cc
+no_fault (refusals.Full size n) = λ p. absurd cc
+no_fault refusals.Memory = λ p. absurd cc
+
+pub refused_stores : (header : Header) (h : List Entry) (n who : ℕ) (ask : reply.Ask) (e : refusal.Refusal) (new : List Entry) → Replies header h who (Asks ask) (refused e) new → Stores header h n who ask (refused e) new
+refused_stores header h n who ask e new r = λ s shows may. stored_goes header h n who ask (refused e) new s (no_fault e) r shows may
+
+pub granted_stores : (header : Header) (h : List Entry) (n who : ℕ) (ask : reply.Ask) (granted : reply.Granted) (new : List Entry) → Replies header h who (Asks ask) (answers.Grants granted) new → Stores header h n who ask (answers.Grants granted) new
+granted_stores header h n who ask granted new r = λ s shows may. stored_goes header h n who ask (answers.Grants granted) new s (λ p. absurd cc) r shows may
+
+pub entered_stores : (header : Header) (h : List Entry) (n who : ℕ) (ask : reply.Ask) (result : Result calls.Granted refusal.Refusal) (new : List Entry) → Replies header h who (Asks ask) (entered_answer result) new → Stores header h n who ask (entered_answer result) new
+entered_stores header h n who ask (Ok granted) new r = granted_stores header h n who ask (granted_seen granted) new r
+entered_stores header h n who ask (Err e) new r = refused_stores header h n who ask e new r
 
 -- ---- planned landings
 
@@ -56,47 +90,58 @@ some_refusal (refusals.TooLarge n) p = (reply.TooLarge n, refl)
 some_refusal (refusals.Full size n) p = (reply.Full size n, refl)
 some_refusal refusals.Memory p = absurd p
 
-pub exchanges : (header : Header) (h : List Entry) (who : ℕ) (r : RebasedLanding) (result : Exchanged) (new : List Entry) → Exchanges header h who r result new → ExchangesSo header h who r result new
-exchanges header h who r (Landed landed) new x = λ s shows may plan.
-    (asked_landing who r ++ all_calls, refl, landed_goes header h who r.name r.draft r.old r.new s shows may plan (reply.Landed landed.old landed.ids.items) new x.0 x.1)
-exchanges header h who r (HeadMoved found) new x = λ s shows may plan.
-    (asked_landing who r, refl, subst (λ h. Goes header s (asked_landing who r) (Shows h)) (sym x.3) (moved_goes header h who r.name r.draft r.old r.new s shows may plan (λ at. x.2 (x.1 ∙ at))))
-exchanges header h who r (Refused e) new x = λ s shows may plan.
+pub exchanges : (header : Header) (h : List Entry) (n who : ℕ) (r : RebasedLanding) (result : Exchanged) (new : List Entry) → Exchanges header h who r result new → ExchangesSo header h n who r new
+exchanges header h n who r (Landed landed) new x = λ s shows may plan.
+    landed_goes header h n who nobody r.name r.draft r.asked r.old r.new s shows may plan (reply.Landed landed.old landed.ids.items) new x.0 x.1
+exchanges header h n who r (HeadMoved found) new x = λ s shows may plan.
+    subst (λ h. Goes header s (asked_landing who r) (Shows h n)) (sym x.3) (moved_goes header h n who nobody r.name r.draft r.asked r.old r.new s shows may plan (λ at. x.2 (x.1 ∙ at)))
+exchanges header h n who r (Refused e) new x = λ s shows may plan.
     (let why = some_refusal e x.1 in
-    (asked_landing who r, refl, refused_goes header h who r.name r.draft r.old r.new s shows may plan why.0 new x.0 (subst (λ a. Replies header h who (Asks (LandDraft r.name r.draft)) a new) why.1 x.2)))
-exchanges header h who r DiskFault new x = λ s shows may plan.
-    (let goes = failed_goes header h who r.name r.draft r.old r.new s shows may plan new x.0 x.1 in
-    (asked_landing who r ++ calls_to goes.0, (goes.0, refl), goes.1))
+    refused_goes header h n who nobody r.name r.draft r.asked r.old r.new s shows may plan why.0 new x.0 (subst (λ a. Replies header h who (Asks (LandDraft nobody r.name r.draft r.asked)) a new) why.1 x.2))
 
 -- nothing is stored any more
 pub down_exchanges : (header : Header) (h : List Entry) (who : ℕ) (r : RebasedLanding) → is_down h ≡ true → Exchanges header h who r (Refused refusals.Down) h
-down_exchanges header h who r down = (inl down, tt, refused_replies header h h who (LandDraft r.name r.draft) refusals.Down refl (refused_down header h (LandDraft r.name r.draft) down))
+down_exchanges header h who r down = (inl down, tt, refused_replies header h h who (LandDraft nobody r.name r.draft r.asked) refusals.Down refl (refused_down header h (LandDraft nobody r.name r.draft r.asked) down))
 
 -- ---- plans and reads
 
-with_plan : (s : State) (who : ℕ) (h : List Entry) (name : List ℕ) (draft : Id) (plan : PlannedLanding) → (p : IsPlan h name draft plan) → HasPlan s who name draft plan.old (rewrite p.fork_is.stack plan.old) → HasPlan s who plan.name plan.draft plan.old (rewrite plan.stack plan.old)
-with_plan s who h name draft plan p has = record {
+with_plan : (s : State) (who moment : ℕ) (h : List Entry) (name : List ℕ) (draft : Id) (plan : PlannedLanding) → (p : IsPlan h name draft plan) → HasPlan s who name draft moment plan.old (rewrite p.fork_is.stack plan.old moment) → HasPlan s who plan.name plan.draft moment plan.old (rewrite plan.stack plan.old moment)
+with_plan s who moment h name draft plan p has = record {
   plan = has.plan;
   plan_is = has.plan_is;
   names = has.names ∙ sym p.names;
   drafts = has.drafts ∙ sym p.drafts;
+  moments = has.moments;
   old_is = has.old_is;
-  new_is = has.new_is ∙ ap (λ stack. rewrite stack plan.old) (sym p.stack_is);
+  new_is = has.new_is ∙ ap (λ stack. rewrite stack plan.old moment) (sym p.stack_is);
 }
 
-pub plans : (header : Header) (h : List Entry) (name : List ℕ) (draft : Id) (plan : PlannedLanding) → IsPlan h name draft plan → Plans header h name draft plan
-plans header h name draft plan p = λ s who shows.
-    (let goes = plan_goes header h who name draft plan.old p.fork_is s p.head_is p.forks shows in
-    record { state = goes.state; taken = goes.taken; meets = (goes.meets.0, with_plan goes.state who h name draft plan p goes.meets.1) })
+pub plans : (header : Header) (h : List Entry) (n : ℕ) (name : List ℕ) (draft : Id) (plan : PlannedLanding) → IsPlan h name draft plan → Plans header h n name draft plan
+plans header h n name draft plan p = λ s who moment shows.
+    (let goes = plan_goes header h n who name draft moment plan.old p.fork_is s p.head_is p.forks shows in
+    record { state = goes.state; taken = goes.taken; meets = (goes.meets.0, with_plan goes.state who moment h name draft plan p goes.meets.1) })
 
-pub plans_if_ok : {E : Type 0} (header : Header) (h : List Entry) (name : List ℕ) (draft : Id) (result : Result PlannedLanding E) → IfOk result (IsPlan h name draft) → IfOk result (Plans header h name draft)
-plans_if_ok header h name draft (Ok plan) p = plans header h name draft plan p
-plans_if_ok header h name draft (Err e) p = tt
+pub plans_if_ok : {E : Type 0} (header : Header) (h : List Entry) (n : ℕ) (name : List ℕ) (draft : Id) (result : Result PlannedLanding E) → IfOk result (IsPlan h name draft) → IfOk result (Plans header h n name draft)
+plans_if_ok header h n name draft (Ok plan) p = plans header h n name draft plan p
+plans_if_ok header h n name draft (Err e) p = tt
 
-pub looks_fault : (header : Header) (h new : List Entry) (who : ℕ) → new ≡ h ++ entry_by who (Fault false) ∷ [] → LooksSo header h who false new
-looks_fault header h new who grows = λ s shows. fault_goes header h new who s grows shows
+pub looks_fault : (header : Header) (h new : List Entry) (n who : ℕ) → new ≡ h ++ entry_by who (Fault false) ∷ [] → LooksSo header h n who false new
+looks_fault header h new n who grows = λ s shows. fault_goes header h new n who s grows shows
+
+-- ---- seals
+
+-- nothing is asked
+pub seals_nothing : (header : Header) (h : List Entry) (n who : ℕ) (failed : Bool) → SealsSo header h n who failed h n
+seals_nothing header h n who failed = λ s shows. ([], inl refl, record { state = s; taken = refl; meets = shows })
+
+pub seals_all : (header : Header) (h : List Entry) (n p who : ℕ) → is_down h ≡ false → n < length (bodies h) → p ≡ length (bodies h) → SealsSo header h n who false h p
+seals_all header h n p who up some all = λ s shows. (all_calls who, inr refl, subst (λ k. Goes header s (all_calls who) (Shows h k)) (sym all) (seal_goes header h n who s up some shows))
+
+pub seals_failed : (header : Header) (h new : List Entry) (n who : ℕ) → is_down h ≡ false → n < length (bodies h) → new ≡ h ++ entry_by who (Fault true) ∷ [] → SealsSo header h n who true new n
+seals_failed header h new n who up some grows = λ s shows.
+    (calls_to who AtSeal, inr (AtSeal, refl), subst (λ g. Goes header s (calls_to who AtSeal) (Shows g n)) (sym grows) (cut_goes header h n who s AtSeal up some shows))
 
 -- ---- as it is opened
 
-pub opened_as : (h : List Entry) → h ≡ stored h → Shows h (opened h)
-opened_as h alone = opened_shows h (ap is_down alone ∙ is_down-stored h)
+pub opened_as : (h : List Entry) (n : ℕ) → n ≡ length (stored h) → h ≡ stored h → Shows h n (opened h)
+opened_as h n count alone = subst (λ k. Shows h k (opened h)) (sym (count ∙ stored_count h)) (opened_shows h (ap is_down alone ∙ is_down-stored h))

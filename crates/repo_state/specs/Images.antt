@@ -1,50 +1,52 @@
--- What a crash may leave of a repository's file.
---     CouldFollow header h left      an entry that some change could have made after these, if no breaking fault had come
---     StandsWith header h left image      the image stands for the history and the entry left over, if one is
---     StandsNow header h left image      for this, or for the history
---     StandsSince header n h left image      for this, or for the first entries of the history, n of them at least
---     Leaves header n moment h first m      what a crash may leave now, and may have left at each moment since the opening
---     LeavesChange header old new fails before after      what a crash may have left during a change
-use Rattle.std.specs.Prelude.{◌≡◌, ◌⊎◌, ℕ, ◌≤◌, Bool, IsTrue, List, [], ◌∷◌, ◌++◌, length, Option, None, Some, is_some}
-use Rattle.std.specs.Option.{IfSome}
-use mathlib.Core.List.{IsPrefix}
+-- What a crash may leave of a repository's file, where the first n stored entries are sealed and those behind them wait.
+--     sealed_part n h      the first n stored entries
+--     IsPending h n bytes      the bytes are the records of the entries behind them, as a group
+--     StandsNow header h n image      the image stands for the sealed part, or where sealing failed, for this and the whole group
+--     StandsSince header k h n image      for some of the sealed entries, the first k at least, or so
+--     Leaves header k moment h n first m      what a crash may leave now, and may have left at each moment since the opening, at which k entries were stored
+--     LeavesSeal header h n before after      what a crash may have left during a seal
+--     LeavesChange header old new before after      what a crash may have left during a change that was sealed at once
+use Rattle.std.specs.Prelude.{◌≡◌, ◌⊎◌, ℕ, ◌≤◌, IsTrue, List, map, length, take, drop}
 use Rattle.disk_model.specs.Images.{IsImage}
 use Rattle.disk_model.specs.Meaning.{Meaning, LeftSince}
 use Rattle.disk_model.specs.Calls.{LeavesOnly}
-use Rattle.history_model.specs.History.{Entry, is_down, is_stored, stored}
+use Rattle.history_model.specs.History.{Entry, bodies, is_down, unnumbered}
 use Rattle.history_model.specs.Journal.{Header, Stands}
-use Rattle.reply_model.specs.Legal.{MayFollow}
+use Rattle.repo_journal.specs.Payloads.{ArePayloads}
+use Rattle.repo_journal.specs.Groups.{group}
 
-pub record CouldFollow (header : Header) (h : List Entry) (left : Entry) : Type 0 where
-  pub kind : IsTrue (is_stored left.body)
-  pub follows : MayFollow header (stored h) left.body
+abbrev pub sealed_part : ℕ → List Entry → List Entry
+sealed_part n h = map unnumbered (take n (bodies h))
 
-abbrev pub StandsWith : Header → List Entry → Option Entry → List ℕ → Type 0
-StandsWith header h None image = ⊥
-StandsWith header h (Some left) image = Stands header image (h ++ left ∷ [])
+pub record IsPending (h : List Entry) (n : ℕ) (bytes : List ℕ) : Type 0 where
+  pub most : n ≤ length (bodies h)
+  pub payloads : List (List ℕ)
+  pub are : ArePayloads (drop n (bodies h)) payloads
+  pub is : bytes ≡ group payloads
 
-abbrev pub StandsNow : Header → List Entry → Option Entry → List ℕ → Type 0
-StandsNow header h left image = Stands header image h ⊎ StandsWith header h left image
+-- a breaking fault is held, so sealing failed, and the whole group is left all the same
+abbrev pub StandsWhole : Header → List Entry → List ℕ → Type 0
+StandsWhole header h image = IsTrue (is_down h) × Stands header image h
 
-abbrev pub StandsForFirst : Header → ℕ → List Entry → List ℕ → Type 0
-StandsForFirst header n h image = (g : List Entry) × IsPrefix g h × (n ≤ length g) × Stands header image g
+abbrev pub StandsNow : Header → List Entry → ℕ → List ℕ → Type 0
+StandsNow header h n image = Stands header image (sealed_part n h) ⊎ StandsWhole header h image
 
-abbrev pub StandsSince : Header → ℕ → List Entry → Option Entry → List ℕ → Type 0
-StandsSince header n h left image = StandsForFirst header n h image ⊎ StandsWith header h left image
+abbrev pub StandsForFirst : Header → ℕ → List Entry → ℕ → List ℕ → Type 0
+StandsForFirst header k h n image = (i : ℕ) × (k ≤ i) × (i ≤ n) × Stands header image (sealed_part i h)
 
-pub record Leaves (header : Header) (n moment : ℕ) (h : List Entry) (first m : Meaning) : Type 0 where
-  -- the record whose append failed, which may be in the file or not
-  pub left : Option Entry
-  pub is_left : is_some left ≡ is_down h
-  pub could : IfSome left (CouldFollow header h)
-  pub now : (image : List ℕ) → IsImage m.state image → StandsNow header h left image
-  pub since : (image : List ℕ) → LeftSince m moment image → StandsSince header n h left image
+abbrev pub StandsSince : Header → ℕ → List Entry → ℕ → List ℕ → Type 0
+StandsSince header k h n image = StandsForFirst header k h n image ⊎ StandsWhole header h image
+
+pub record Leaves (header : Header) (k moment : ℕ) (h : List Entry) (n : ℕ) (first m : Meaning) : Type 0 where
+  pub now : (image : List ℕ) → IsImage m.state image → StandsNow header h n image
+  pub since : (image : List ℕ) → LeftSince m moment image → StandsSince header k h n image
   -- before the opening's moment too, as far as the disk was told once all was read
-  pub only : LeavesOnly (StandsSince header n h left) first m
+  pub only : LeavesOnly (StandsSince header k h n) first m
 
--- Each image stood for the history before the change or after it, or where the append failed, for the one before it and the entry left over.
-pub record LeavesChange (header : Header) (old new : List Entry) (fails : Bool) (before after : Meaning) : Type 0 where
-  pub left : Option Entry
-  pub is_left : is_some left ≡ fails
-  pub could : IfSome left (CouldFollow header old)
-  pub only : LeavesOnly (λ image. Stands header image new ⊎ StandsNow header old left image) before after
+-- Each image during a seal stood for the sealed part before it, or for the whole history.
+abbrev pub LeavesSeal : Header → List Entry → ℕ → Meaning → Meaning → Type 0
+LeavesSeal header h n before after = LeavesOnly (λ image. Stands header image (sealed_part n h) ⊎ Stands header image h) before after
+
+-- Each image during a change that was sealed at once stood for the history before it or after it.
+abbrev pub LeavesChange : Header → List Entry → List Entry → Meaning → Meaning → Type 0
+LeavesChange header old new before after = LeavesOnly (λ image. Stands header image old ⊎ Stands header image new) before after

@@ -29,7 +29,7 @@ use Rattle.repo_calls.specs.Asking.{fault_answer}
 use Rattle.repo_calls.specs.declared.calls.AskFault.{AskFault}
 use Rattle.repo_calls.specs.declared.calls.AskFault.TheVariants as asked
 use Rattle.repo_calls.specs.declared.calls.Question.{Question}
-use Rattle.repo_calls.specs.declared.calls.Question.TheVariants.{Head, Content, Changeset, Log, Fsnode, Unode, History}
+use Rattle.repo_calls.specs.declared.calls.Question.TheVariants.{Head, Content, Changeset, Log, Fsnode, Unode, History, Copies}
 
 pub record HasManifests (header : Header) (h : List Entry) (t : Table) : Type 0 where
   pub header_fits : is_header header ≡ true
@@ -55,6 +55,7 @@ asks_manifest (Log from) = false
 asks_manifest (Fsnode id dir) = true
 asks_manifest (Unode id path) = true
 asks_manifest (History id path) = true
+asks_manifest (Copies id) = false
 
 abbrev pub manifest_fault : ManifestFault → AskFault
 manifest_fault reads.NoPath = asked.NoPath

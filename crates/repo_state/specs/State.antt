@@ -1,27 +1,40 @@
 -- What contracts see of a repository in a file, and what is always so of it.
---     State      header and history, the room that was made, the manifests that are settled, what is told of the disk, and what it was opened with
+--     State      header and history, how many stored entries are sealed, the records of the others, the room that was made, the manifests that are settled, what is told of the disk, and what it was opened with
 --     IsQuiet opening      the disk fails no call on a file within the capacity;  HasNoFault h      nothing failed
 --     faults_in h      how many faults the history has
---     IsSound opening h m      what is so of the history and the disk of a repository that was opened so
---     Agrees header h journal m      the journal is that of the history
+--     IsSound opening h n m      what is so of the history, of which n stored entries are sealed, and of the disk of a repository that was opened so
+--     Agrees header h n journal m      the journal's file is that of the sealed part, and the records of the rest wait in it
+--     HasFaultRoom h n room      while something waits there is room for the fault that its sealing may meet
+--     IsAllSealed h n      all is sealed, unless a breaking fault is held
+--     IsSealedAlone h n      and also then all but one entry at most, that of the change which met the fault
+--     HasRecordRoom s length      there is room for a record of so many bytes to wait
+--     breaks failed h, after_seal who failed h      a seal that failed met a breaking fault, and the history after it
+--     entered_answer result      the answer to a change that was entered or refused
 --     opening_of header journal first      what it was opened with, by what the journal keeps and the disk as it was then
-use Rattle.std.specs.Prelude.{◌≡◌, ◌⊎◌, ℕ, ◌+◌, ◌-◌, ◌^◌, ◌≤◌, true, not, IsTrue, List, length, filter, MatchOption}
+use Rattle.std.specs.Prelude.{◌≡◌, ◌⊎◌, ℕ, ◌+◌, ◌-◌, ◌^◌, ◌≤◌, ◌<◌, Bool, true, false, not, ◌&&◌, if◌then◌else◌, IsTrue, List, [], ◌∷◌, ◌++◌, length, filter, MatchOption, Result, Ok, Err}
 use Rattle.std.specs.List.{AllByRecursion}
 use Rattle.disk_model.specs.Meaning.{Meaning, IsLong}
 use Rattle.disk_model.specs.Calls.{Kept}
-use Rattle.history_model.specs.History.{Entry, is_down, is_stored, unnumbered}
+use Rattle.history_model.specs.History.{Fault, Entry, bodies, is_down, is_stored, unnumbered}
 use Rattle.history_model.specs.Journal.{Header, size}
 use Rattle.reply_model.specs.Legal.{IsLegal}
+use Rattle.reply_model.specs.After.{Answer, Grants, entry_by}
+use Rattle.repo_calls.specs.declared.ask.Granted.{Granted}
+use Rattle.repo_calls.specs.declared.refusal.Refusal.{Refusal}
+use Rattle.repo_calls.specs.Calls.{granted_seen, refused}
+use Rattle.repo_journal.specs.Groups.{PendingView}
 use Rattle.repo_journal.specs.View.{JournalView}
 use Rattle.repo_journal.specs.declared.opening.Opening as journal
 use Rattle.repo_machine.specs.Held.{Room}
 use Rattle.node_table.specs.Table.{Table}
 use Rattle.bookmark_lock.specs.Opening.{Opening}
-use Rattle.repo_state.specs.Images.{Leaves}
+use Rattle.repo_state.specs.Images.{sealed_part, IsPending, Leaves}
 
 pub record State : Type 0 where
   pub header : Header
   pub history : List Entry
+  pub sealed : ℕ
+  pub pending : PendingView
   pub room : Room
   pub table : Table
   pub disk : Meaning
@@ -40,9 +53,9 @@ faults_in h = length (filter (λ e. not (is_stored e.body)) h)
 abbrev pub Covers : ℕ → ℕ → ℕ → Type 0
 Covers faults first count = (faults + first ≤ count) ⊎ (2 ^ 64 - 1 ≤ count)
 
-pub record IsSound (opening : Opening) (h : List Entry) (m : Meaning) : Type 0 where
+pub record IsSound (opening : Opening) (h : List Entry) (n : ℕ) (m : Meaning) : Type 0 where
   pub legal : IsLegal opening.header h
-  pub begins : opening.length ≤ length h
+  pub begins : opening.length ≤ n
   pub calm : IsQuiet opening → HasNoFault h
   pub honest : opening.honest ≡ m.honest
   pub quiet : opening.quiet ≡ m.quiet
@@ -51,13 +64,39 @@ pub record IsSound (opening : Opening) (h : List Entry) (m : Meaning) : Type 0 w
   pub kept : Kept opening.disk m
   pub covers : Covers (faults_in h) opening.faults m.faults
   pub most : m.faults ≤ 2 ^ 64 - 1
-  pub leaves : IsTrue m.honest → Leaves opening.header opening.length opening.moment h opening.disk m
+  pub leaves : IsTrue m.honest → Leaves opening.header opening.length opening.moment h n opening.disk m
 
-pub record Agrees (header : Header) (h : List Entry) (journal : JournalView) (m : Meaning) : Type 0 where
+pub record Agrees (header : Header) (h : List Entry) (n : ℕ) (journal : JournalView) (m : Meaning) : Type 0 where
   pub capacity_is : journal.capacity ≡ header.capacity
-  pub size_is : journal.size ≡ size h
+  -- with what waits it fits
+  pub fits : size h ≤ header.capacity
+  pub size_is : journal.size ≡ size (sealed_part n h)
   pub broken_is : journal.broken ≡ is_down h
   pub long : IsLong m.reads journal.size
+  -- also once it is down
+  pub waits : IsPending h n journal.pending.bytes
+
+abbrev pub HasFaultRoom : List Entry → ℕ → Room → Type 0
+HasFaultRoom h n room = is_down h ≡ false → n < length (bodies h) → 1 ≤ room.entries
+
+abbrev pub IsAllSealed : List Entry → ℕ → Type 0
+IsAllSealed h n = is_down h ≡ false → length (bodies h) ≤ n
+
+abbrev pub IsSealedAlone : List Entry → ℕ → Type 0
+IsSealedAlone h n = IsAllSealed h n × (length (bodies h) ≤ n + 1)
+
+abbrev pub HasRecordRoom : State → ℕ → Type 0
+HasRecordRoom s length = length ≤ s.pending.room
+
+abbrev pub breaks : Bool → List Entry → Bool
+breaks failed h = failed && not (is_down h)
+
+abbrev pub after_seal : ℕ → Bool → List Entry → List Entry
+after_seal who failed h = if breaks failed h then h ++ entry_by who (Fault true) ∷ [] else h
+
+abbrev pub entered_answer : Result Granted Refusal → Answer
+entered_answer (Ok granted) = Grants (granted_seen granted)
+entered_answer (Err refusal) = refused refusal
 
 abbrev pub opening_of : Header → journal.Opening → Meaning → Opening
 opening_of header o first = record { header = header; moment = o.moment; length = o.length; faults = o.faults; quiet = first.quiet; honest = first.honest; disk = first }

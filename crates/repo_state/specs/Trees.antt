@@ -4,25 +4,26 @@
 use Rattle.std.specs.Prelude.{List}
 use Rattle.byte_fields.specs.Bytes.{Id}
 use Rattle.history_model.specs.History.{Entry, known}
-use Rattle.reply_model.specs.Reply.{Ask, PutContent, PutChangeset, SetBookmark, LandDraft, Granted, ContentPut, ChangesetPut, BookmarkSet, Landed}
+use Rattle.reply_model.specs.Reply.{Ask, PutContent, PutWhole, PutChangeset, SetBookmark, LandDraft, Granted, ContentPut, WholePut, ChangesetPut, BookmarkSet, Landed}
 use Rattle.repo_machine.specs.Landings.{IsLanding}
 use Rattle.repo_state.specs.declared.exchanged.Exchanged.{Exchanged}
 use Rattle.repo_state.specs.declared.exchanged.Exchanged.TheVariants as exchanges
 
 abbrev pub LandsGranted : Id → Granted → List Entry → List Entry → Type 0
 LandsGranted draft (ContentPut x) before after = ⊥
+LandsGranted draft (WholePut x n) before after = ⊥
 LandsGranted draft (ChangesetPut x) before after = ⊥
 LandsGranted draft BookmarkSet before after = ⊥
 LandsGranted draft (Landed old ids) before after = IsLanding (known before) (known after) old draft ids
 
 abbrev pub LandsAs : Ask → Granted → List Entry → List Entry → Type 0
 LandsAs (PutContent bytes) granted before after = Unit {0}
+LandsAs (PutWhole body pieces) granted before after = Unit {0}
 LandsAs (PutChangeset bytes) granted before after = Unit {0}
-LandsAs (SetBookmark name from to) granted before after = Unit {0}
-LandsAs (LandDraft name draft) granted before after = LandsGranted draft granted before after
+LandsAs (SetBookmark caller name from to) granted before after = Unit {0}
+LandsAs (LandDraft caller name draft moment) granted before after = LandsGranted draft granted before after
 
 abbrev pub LandsSo : Id → Exchanged → List Entry → List Entry → Type 0
 LandsSo draft (exchanges.Landed landed) before after = IsLanding (known before) (known after) landed.old draft landed.ids.items
 LandsSo draft (exchanges.HeadMoved found) before after = Unit {0}
 LandsSo draft (exchanges.Refused e) before after = Unit {0}
-LandsSo draft exchanges.DiskFault before after = Unit {0}

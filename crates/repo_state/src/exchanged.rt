@@ -11,6 +11,4 @@ pub enum Exchanged {
     HeadMoved { found: Option<Id> },
     /// The disk failed earlier, the record is too long or doesn't fit, or another changeset has the id of a new one.
     Refused(Refusal),
-    /// The disk failed, so nothing more is stored.
-    DiskFault,
 }

@@ -11,10 +11,10 @@ ghost use Rattle.repo_machine.specs.Landings.{IsLanding};
 
 /// Where the repository of one thread grants a landing, and its history is legal then: the new head's tree has what the stack sets, and else what the old head's has, in which no path that the stack touches was changed since the root.
 pub fn a_granted_landing_applies_its_stack()
-    ensures { (header : Header) (h : List Entry) (who : ℕ) (name : List ℕ) (draft old : Id) (ids : List Id) (new : List Entry) → IsLegal header new → Replies header h who (Asks (LandDraft name draft)) (Grants (Landed old ids)) new → IsLanding (known h) (known new) old draft ids }
+    ensures { (header : Header) (h : List Entry) (who : ℕ) (caller name : List ℕ) (draft : Id) (moment : ℕ) (old : Id) (ids : List Id) (new : List Entry) → IsLegal header new → Replies header h who (Asks (LandDraft caller name draft moment)) (Grants (Landed old ids)) new → IsLanding (known h) (known new) old draft ids }
 {}
 
-/// The same where others share the repository, at the history on the way at which the landing is granted.
+/// The same where others share the repository, between two histories on the way, of which the landing makes the second. Others may go on from there while it is sealed.
 pub fn a_landing_among_others_applies_its_stack()
-    ensures { (header : Header) (front : List Entry) (who : ℕ) (name : List ℕ) (draft old : Id) (ids : List Id) (new : List Entry) → IsLegal header new → After header front who (Asks (LandDraft name draft)) (Grants (Landed old ids)) new → (before : List Entry) × IsPrefix front before × IsPrefix before new × IsLanding (known before) (known new) old draft ids }
+    ensures { (header : Header) (front : List Entry) (who : ℕ) (caller name : List ℕ) (draft : Id) (moment : ℕ) (old : Id) (ids : List Id) (new : List Entry) → IsLegal header new → After header front who (Asks (LandDraft caller name draft moment)) (Grants (Landed old ids)) new → (before at : List Entry) × IsPrefix front before × IsPrefix before at × IsPrefix at new × IsLanding (known before) (known at) old draft ids }
 {}

@@ -1,6 +1,7 @@
 //! A repository in a file: machine, journal and disk, kept together through each change and each fault.
 #![tactic(auto)]
 
+pub mod alone;
 pub mod counts;
 pub mod derived;
 pub mod exchange;
@@ -13,11 +14,12 @@ pub mod look;
 pub mod manifests;
 pub mod plan;
 pub mod plan_again;
-mod seat;
+pub mod seal;
 pub mod seats;
 pub mod state;
 pub mod store;
 
+pub use alone::Alone;
 pub use derived::settle_fault;
 pub use exchanged::Exchanged;
 pub use fill::check_digest;

@@ -5,11 +5,12 @@ ghost use Rattle.ports.specs.Faults.{Counts};
 ghost use Rattle.sha2.specs.Sha256.{sha256};
 ghost use Rattle.disk_model.specs.Images.{IsImage};
 ghost use Rattle.disk_model.specs.Calls.{Kept, LeavesOnly, Looked};
+ghost use Rattle.history_model.specs.Bookmark.{head};
 ghost use Rattle.history_model.specs.History.{changeset_of, known};
 ghost use Rattle.reply_model.specs.After.{Answer, Answers, Looks, Replies, nothing};
-ghost use Rattle.reply_model.specs.Reply.{ChangesetOf, ContentOf, LogFrom};
+ghost use Rattle.reply_model.specs.Reply.{ChangesetOf, ContentOf, CopiesOf, LogFrom};
 ghost use Rattle.repo_calls.specs.Asking.{bytes_answer, fault_answer, is_bad_bytes, is_early, is_read_fault, IsAnswer, question_seen, reads_file};
-ghost use Rattle.repo_state.specs.Asking.{IsReadFor, TellsDigest};
+ghost use Rattle.repo_state.specs.Asking.{IsReadFor, IsUnsealed, TellsDigest};
 ghost use Rattle.manifest_store.specs.Manifests.{AreManifests};
 ghost use Rattle.repo_state.specs.Cores.{LooksSo};
 ghost use Rattle.repo_state.specs.Manifests.{StaySettled, asks_manifest};
@@ -21,16 +22,19 @@ use blob_disk::Disk;
 use bonsai::{Commit, encode};
 use object_id::Id;
 use repo_calls::{AskFault, Question, Seen};
+use repo_path::BookName;
 use std::alloc::Global;
 use std::sync::Arc;
 
 impl<D: Disk> RepoState<D> {
-    /// Answers a read of the seat `who`. A content is read from the file, and all else is known or derived.
+    /// Answers a read of the seat `who`. A content is read from the file, or from memory where its record waits, and all else
+    /// is known or derived. What a read tells may not be sealed yet.
     pub fn look(&mut self, alloc: Global, who: u64, question: &Question) -> Result<Seen, AskFault>
         ensures reply { (answer : Answer) × IsAnswer result answer × Replies self.old.header self.old.history who (Looks (question_seen question.now)) answer self.new.history }
         ensures header { self.new.header ≡ self.old.header }
         ensures opening { self.new.opening ≡ self.old.opening }
-        ensures sound { IsSound self.new.opening self.new.history self.new.disk }
+        ensures sealed { self.new.sealed ≡ self.old.sealed }
+        ensures sound { IsSound self.new.opening self.new.history self.new.sealed self.new.disk }
         ensures looked { Looked self.old.disk self.new.disk }
         ensures leaves { LeavesOnly (IsImage self.new.disk.state) self.old.disk self.new.disk }
         ensures kept { Kept self.old.disk self.new.disk }
@@ -48,7 +52,7 @@ impl<D: Disk> RepoState<D> {
         ensures stay { StaySettled self.old.table self.new.table }
 
         // It is a step of the repository of many seats.
-        ensures core { LooksSo self.old.header self.old.history who (not (is_read_fault result)) self.new.history }
+        ensures core { LooksSo self.old.header self.old.history self.old.sealed who (not (is_read_fault result)) self.new.history }
     {
         // It keeps its rules.
         let _ = &self.disk;
@@ -72,13 +76,21 @@ impl<D: Disk> RepoState<D> {
                 Ok(ids) => Ok(Seen::Ids(ids)),
                 Err(fault) => Err(fault),
             },
+            Question::Copies(id) => self.copies(alloc, id),
         }
+    }
+
+    /// The head of a bookmark. The disk isn't asked.
+    pub fn head(&self, name: &BookName) -> Option<Id>
+        ensures { result ≡ head self.now.history name.now }
+    {
+        self.machine.head(name)
     }
 
     // A page of the log.
     fn page(&self, alloc: Global, from: u64) -> Result<Seen, AskFault>
         ensures answer { (answer : Answer) × IsAnswer result answer × Answers self.now.header self.now.history (Looks (LogFrom from)) answer nothing }
-        ensures sound { IsSound self.now.opening self.now.history self.now.disk }
+        ensures sound { IsSound self.now.opening self.now.history self.now.sealed self.now.disk }
         ensures read { (is_read_fault result ≡ false) × (is_bad_bytes result ≡ false) }
     {
         match self.machine.log(alloc, from) {
@@ -90,7 +102,7 @@ impl<D: Disk> RepoState<D> {
     // The encoding of a changeset.
     fn encoding(&self, alloc: Global, id: Id) -> Result<Seen, AskFault>
         ensures answer { (answer : Answer) × IsAnswer result answer × Answers self.now.header self.now.history (Looks (ChangesetOf id)) answer nothing }
-        ensures sound { IsSound self.now.opening self.now.history self.now.disk }
+        ensures sound { IsSound self.now.opening self.now.history self.now.sealed self.now.disk }
         ensures read { (is_read_fault result ≡ false) × (is_bad_bytes result ≡ false) }
     {
         let commit = self.changeset(id)?;
@@ -100,12 +112,24 @@ impl<D: Disk> RepoState<D> {
         }
     }
 
-    /// The changeset with this id, shared, so that it can be encoded where nobody waits for the repository.
+    // What a changeset sets as copies.
+    fn copies(&self, alloc: Global, id: Id) -> Result<Seen, AskFault>
+        ensures answer { (answer : Answer) × IsAnswer result answer × Answers self.now.header self.now.history (Looks (CopiesOf id)) answer nothing }
+        ensures sound { IsSound self.now.opening self.now.history self.now.sealed self.now.disk }
+        ensures read { (is_read_fault result ≡ false) × (is_bad_bytes result ≡ false) }
+    {
+        match self.machine.copies(alloc, id) {
+            Ok(copies) => Ok(Seen::Copies(copies)),
+            Err(fault) => Err(fault),
+        }
+    }
+
+    /// The changeset with this id, shared, so that it can be encoded, or its copies told, where nobody waits for the repository.
     pub fn changeset(&self, id: Id) -> Result<Arc<Commit>, AskFault>
         ensures ok { IfOk result (λ commit. changeset_of (known self.now.history) id ≡ Some (arc_value commit)) }
         ensures err { IfErr result (λ fault. Answers self.now.header self.now.history (Looks (ChangesetOf id)) (fault_answer fault) nothing) }
         ensures read { (is_read_fault result ≡ false) × (is_bad_bytes result ≡ false) }
-        ensures sound { IsSound self.now.opening self.now.history self.now.disk }
+        ensures sound { IsSound self.now.opening self.now.history self.now.sealed self.now.disk }
     {
         match self.machine.shared_changeset(&id) {
             Ok(Some(commit)) => Ok(commit),
@@ -114,14 +138,15 @@ impl<D: Disk> RepoState<D> {
         }
     }
 
-    /// The bytes of a content, read from the file. Where the disk fails to read, that is entered as a
-    /// fault that the seat `who` met.
+    /// The bytes of a content, read from the file, or from memory where its record waits. Where the disk fails to read,
+    /// that is entered as a fault that the seat `who` met.
     pub fn content(&mut self, alloc: Global, who: u64, id: Id) -> Result<Vec<u8>, AskFault>
         ensures reply { Replies self.old.header self.old.history who (Looks (ContentOf id)) (bytes_answer result) self.new.history }
         ensures header { self.new.header ≡ self.old.header }
         ensures opening { self.new.opening ≡ self.old.opening }
+        ensures sealed { self.new.sealed ≡ self.old.sealed }
         ensures table { self.new.table ≡ self.old.table }
-        ensures sound { IsSound self.new.opening self.new.history self.new.disk }
+        ensures sound { IsSound self.new.opening self.new.history self.new.sealed self.new.disk }
         ensures looked { Looked self.old.disk self.new.disk }
         ensures leaves { LeavesOnly (IsImage self.new.disk.state) self.old.disk self.new.disk }
         ensures kept { Kept self.old.disk self.new.disk }
@@ -136,8 +161,12 @@ impl<D: Disk> RepoState<D> {
         // Where there is no such content or no memory, the disk isn't asked.
         ensures early { IsTrue (is_early result) → self.new.disk ≡ self.old.disk }
 
+        // Nor is it for a content that waits, which always has its digest.
+        ensures waiting { IsUnsealed self.old.history self.old.sealed id → self.new.disk ≡ self.old.disk }
+        ensures waits { IsUnsealed self.old.history self.old.sealed id → (is_read_fault result ≡ false) × (is_bad_bytes result ≡ false) }
+
         // It is a step of the repository of many seats.
-        ensures core { LooksSo self.old.header self.old.history who (not (is_read_fault result)) self.new.history }
+        ensures core { LooksSo self.old.header self.old.history self.old.sealed who (not (is_read_fault result)) self.new.history }
     {
         match self.content_unchecked(alloc, who, id) {
             Ok(bytes) => check_digest(bytes, id),
@@ -145,23 +174,24 @@ impl<D: Disk> RepoState<D> {
         }
     }
 
-    /// The bytes that stand in the file for a content. Whether they have its id is left to `check_digest`, which can be
-    /// called where nobody waits for the repository. Where the disk fails to read, that is entered as a fault that the seat
-    /// `who` met.
+    /// The bytes that stand for a content in the file, or in memory where its record waits. Whether they have its id is left
+    /// to `check_digest`, which can be called where nobody waits for the repository. Where the disk fails to read, that is
+    /// entered as a fault that the seat `who` met.
     pub fn content_unchecked(
         &mut self,
         alloc: Global,
         who: u64,
         id: Id,
     ) -> Result<Vec<u8>, AskFault>
-        ensures ok { IfOk result (λ bytes. IsReadFor self.old.disk self.old.history id bytes.items) }
+        ensures ok { IfOk result (λ bytes. IsReadFor self.old.disk self.old.history self.old.sealed id bytes.items) }
         ensures same { IfOk result (λ bytes. self.new.history ≡ self.old.history) }
         ensures err { IfErr result (λ fault. Replies self.old.header self.old.history who (Looks (ContentOf id)) (fault_answer fault) self.new.history) }
         ensures unchecked { is_bad_bytes result ≡ false }
         ensures header { self.new.header ≡ self.old.header }
         ensures opening { self.new.opening ≡ self.old.opening }
+        ensures sealed { self.new.sealed ≡ self.old.sealed }
         ensures table { self.new.table ≡ self.old.table }
-        ensures sound { IsSound self.new.opening self.new.history self.new.disk }
+        ensures sound { IsSound self.new.opening self.new.history self.new.sealed self.new.disk }
         ensures looked { Looked self.old.disk self.new.disk }
         ensures leaves { LeavesOnly (IsImage self.new.disk.state) self.old.disk self.new.disk }
         ensures kept { Kept self.old.disk self.new.disk }
@@ -175,13 +205,17 @@ impl<D: Disk> RepoState<D> {
         // Where there is no such content or no memory, the disk isn't asked.
         ensures early { IsTrue (is_early result) → self.new.disk ≡ self.old.disk }
 
+        // Nor is it for a content that waits.
+        ensures waiting { IsUnsealed self.old.history self.old.sealed id → self.new.disk ≡ self.old.disk }
+        ensures waits { IsUnsealed self.old.history self.old.sealed id → is_read_fault result ≡ false }
+
         // It is a step of the repository of many seats.
-        ensures core { LooksSo self.old.header self.old.history who (not (is_read_fault result)) self.new.history }
+        ensures core { LooksSo self.old.header self.old.history self.old.sealed who (not (is_read_fault result)) self.new.history }
     {
         let Some(place) = self.machine.content_place(&id) else {
             return Err(AskFault::NoContent { id });
         };
-        if self.machine.room(1).is_err() {
+        if self.machine.room(2).is_err() {
             return Err(AskFault::Memory);
         }
         let Ok(bytes) = vec![in alloc; 0; place.length as usize] else {

@@ -28,7 +28,7 @@ impl<D: Disk> RepoState<D> {
         ensures manifests { AreManifests (known self.now.history) self.now.table }
 
         // It is a step of the repository of many seats, after which it has this job.
-        ensures core { IfOk result (TakesJob self.now.header self.now.history self.now.table) }
+        ensures core { IfOk result (TakesJob self.now.header self.now.history self.now.sealed self.now.table) }
     {
         let changesets = self.machine.changesets();
         let Some(number) = changesets.number_of(&id) else {
@@ -51,7 +51,7 @@ impl<D: Disk> RepoState<D> {
         ensures same { self.new ≡ record self.old { table = self.new.table } }
 
         // It is this step of the repository of many seats, where a job of the changeset was taken.
-        ensures core { SettlesSo self.old.header self.old.history self.old.table done.number result self.new.table }
+        ensures core { SettlesSo self.old.header self.old.history self.old.sealed self.old.table done.number result self.new.table }
     {
         self.manifests
             .settle(alloc, self.machine.changesets(), done)

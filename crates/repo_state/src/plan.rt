@@ -1,11 +1,11 @@
 //! Plans of landings, and the room that one needs.
 ghost use Rattle.std.specs.Prelude.{◌≡◌, false, Some, IfOk, IfErr, OnOk};
 ghost use Rattle.history_model.specs.History.{Land, is_down};
-ghost use Rattle.reply_model.specs.Reply.{LandDraft, judge};
 ghost use Rattle.repo_machine.specs.Held.{HasRoom};
-ghost use Rattle.repo_machine.specs.Landings.{IsRefusal};
-ghost use Rattle.repo_machine.specs.Plans.{IsPlan, landing_in};
+ghost use Rattle.repo_machine.specs.Landings.{IsLandingRefusal};
+ghost use Rattle.repo_machine.specs.Plans.{IsPlan, frame_size, landing_in};
 ghost use Rattle.repo_state.specs.Cores.{Plans};
+ghost use Rattle.repo_state.specs.State.{HasRecordRoom};
 
 use crate::state::RepoState;
 use blob_disk::Disk;
@@ -20,23 +20,26 @@ impl<D: Disk> RepoState<D> {
     pub fn plan(&self, alloc: Global, name: &BookName, draft: Id) -> Result<Plan, Refusal>
         ensures ok { IfOk result (IsPlan self.now.history name.now draft) }
         ensures up { OnOk result (is_down self.now.history ≡ false) }
-        ensures err { IfErr result (IsRefusal (judge self.now.header self.now.history (LandDraft name.now draft))) }
+        ensures err { IfErr result (IsLandingRefusal self.now.header self.now.history name.now draft) }
 
-        // It is a step of the repository of many seats, after which a seat has this plan.
-        ensures core { IfOk result (Plans self.now.header self.now.history name.now draft) }
+        // It is a step of the repository of many seats, at any moment, after which a seat has this plan.
+        ensures core { IfOk result (Plans self.now.header self.now.history self.now.sealed name.now draft) }
     {
         self.machine.plan(alloc, name, draft)
     }
 
-    /// Makes room for a landing and for one fault after it. The disk isn't asked.
+    /// Makes room for a landing, for its record, which then waits, and for one fault after it. The disk isn't asked.
     pub fn reserve(&mut self, alloc: Global, rebased: &Rebased) -> Result<(), AllocError>
         ensures header { self.new.header ≡ self.old.header }
         ensures history { self.new.history ≡ self.old.history }
         ensures disk { self.new.disk ≡ self.old.disk }
         ensures opening { self.new.opening ≡ self.old.opening }
         ensures table { self.new.table ≡ self.old.table }
+        ensures sealed { self.new.sealed ≡ self.old.sealed }
         ensures room { OnOk result (HasRoom self.new.room (Some (Land (landing_in rebased.now)))) }
+        ensures record_room { OnOk result (HasRecordRoom self.new (frame_size rebased.now)) }
     {
-        self.machine.reserve(alloc, rebased)
+        self.machine.reserve(alloc, rebased)?;
+        self.journal.reserve(rebased.frame_length())
     }
 }

@@ -3,10 +3,9 @@ ghost use Rattle.std.specs.Prelude.{◌≡◌, ℕ, ◌+◌, ◌*◌, ◌^◌, �
 ghost use Rattle.byte_fields.specs.Bytes.{Id as ModelId};
 ghost use Rattle.history_model.specs.Bookmark.{head as head_of};
 ghost use Rattle.history_model.specs.History.{is_down, known};
-ghost use Rattle.reply_model.specs.Reply.{LandDraft, judge};
 ghost use Rattle.repo_machine.specs.Again.{WasPlan, since, GoesOn};
 ghost use Rattle.repo_machine.specs.Clashes.{edited_paths};
-ghost use Rattle.repo_machine.specs.Landings.{IsRefusal};
+ghost use Rattle.repo_machine.specs.Landings.{IsLandingRefusal};
 ghost use Rattle.repo_machine.specs.Plans.{IsPlan};
 
 use crate::state::RepoState;
@@ -28,7 +27,7 @@ impl<D: Disk> RepoState<D> {
         requires { WasPlan self.now.history plan }
         ensures ok { IfOk result (IsPlan self.now.history plan.name plan.draft) }
         ensures up { OnOk result (is_down self.now.history ≡ false) }
-        ensures err { IfErr result (IsRefusal (judge self.now.header self.now.history (LandDraft plan.name plan.draft))) }
+        ensures err { IfErr result (IsLandingRefusal self.now.header self.now.history plan.name plan.draft) }
         ensures counted { steps.old ≤ steps.new }
         // At most three more than the binary digits of the number of the stack's paths, for each new edit.
         ensures only_new { (new : ModelId) (digits : ℕ) → head_of self.now.history plan.name ≡ Some new → GoesOn (known self.now.history) plan new →

@@ -14,7 +14,8 @@ impl<D: Disk> RepoState<D> {
         ensures disk { self.new.disk ≡ self.old.disk }
         ensures opening { self.new.opening ≡ self.old.opening }
         ensures table { self.new.table ≡ self.old.table }
-        ensures sound { IsSound self.new.opening self.new.history self.new.disk }
+        ensures sealed { self.new.sealed ≡ self.old.sealed }
+        ensures sound { IsSound self.new.opening self.new.history self.new.sealed self.new.disk }
     {
         self.machine.clear_seats();
     }

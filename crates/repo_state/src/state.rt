@@ -1,7 +1,6 @@
 //! The repository.
-ghost use Rattle.std.specs.Prelude.{◌≡◌, length};
-ghost use Rattle.history_model.specs.History.{is_down, known, stored};
-ghost use Rattle.bookmark_lock.specs.Turns.{stored_length};
+ghost use Rattle.std.specs.Prelude.{◌≡◌, ◌≤◌, length};
+ghost use Rattle.history_model.specs.History.{bodies, is_down, known, stored};
 ghost use Rattle.reply_model.specs.Legal.{IsLegal};
 ghost use Rattle.core_model.specs.Core.{opened};
 ghost use Rattle.landing_core.specs.Steps.{Shows};
@@ -19,10 +18,12 @@ use std::alloc::Global;
 use std::marker::Model;
 use std::snapshot::Snapshot;
 
-/// A repository in a file: what is known of it, the manifests that were derived, how far its journal reaches, and the disk.
+/// A repository in a file: what is known of it, how many of its stored entries are sealed, the manifests that were derived,
+/// the journal, in which the records of the other entries wait, and the disk.
 #[derive(Drop)]
 pub struct RepoState<D: Disk> {
     pub(crate) machine: Machine,
+    pub(crate) sealed: u64,
     pub(crate) manifests: ManifestStore,
     pub(crate) journal: Journal,
     pub(crate) disk: D,
@@ -31,7 +32,7 @@ pub struct RepoState<D: Disk> {
 }
 
 impl<D: Disk> Model for RepoState<D> {
-    ghost use Rattle.repo_state.specs.State.{State, IsSound, Agrees, opening_of};
+    ghost use Rattle.repo_state.specs.State.{State, IsSound, Agrees, HasFaultRoom, opening_of};
     ghost use Rattle.repo_state.specs.Manifests.{HasManifests};
 
     ghost Value = { State };
@@ -44,39 +45,45 @@ impl<D: Disk> Model for RepoState<D> {
     ghost view = { λ s. record {
       header = s.machine.header;
       history = s.machine.history;
+      sealed = s.sealed;
+      pending = s.journal.pending;
       room = s.machine.room;
       table = s.manifests;
       disk = D.meaning s.disk;
       opening = opening_of s.machine.header s.journal.opening (D.meaning s.first.value);
     } };
 
-    ghost invariant = { λ s. (IsSound (opening_of s.machine.header s.journal.opening (D.meaning s.first.value)) s.machine.history (D.meaning s.disk)
-        × Agrees s.machine.header s.machine.history s.journal (D.meaning s.disk))
+    ghost invariant = { λ s. ((IsSound (opening_of s.machine.header s.journal.opening (D.meaning s.first.value)) s.machine.history s.sealed (D.meaning s.disk)
+        × Agrees s.machine.header s.machine.history s.sealed s.journal (D.meaning s.disk))
+        × HasFaultRoom s.machine.history s.sealed s.machine.room)
         × HasManifests s.machine.header s.machine.history s.manifests };
 }
 
 impl<D: Disk> RepoState<D> {
-    /// The repository of one opened file, of which no changeset's manifests are derived yet.
+    /// The repository of one opened file, in which all is sealed, and of which no changeset's manifests are derived yet.
     pub fn new(alloc: Global, machine: Machine, journal: Journal, disk: D) -> Self
         requires opened { IsOpened machine.header machine.history journal (D.meaning disk) }
         requires legal { IsLegal machine.header machine.history }
         requires unseated { machine.history ≡ stored machine.history }
         ensures header { result.header ≡ machine.header }
         ensures history { result.history ≡ machine.history }
+        ensures sealed { result.sealed ≡ length (bodies machine.history) }
         ensures disk { result.disk ≡ D.meaning disk }
         ensures opening { result.opening ≡ opening_of machine.header journal.opening (D.meaning disk) }
-        ensures sound { IsSound result.opening result.history result.disk }
+        ensures sound { IsSound result.opening result.history result.sealed result.disk }
         ensures table { result.table ≡ empty_table }
 
         // As the repository of many seats begins.
-        ensures core { Shows result.history (opened result.history) }
+        ensures core { Shows result.history result.sealed (opened result.history) }
         ensures core_table { ShowsTable (known result.history) result.table (opened result.history) }
     {
         let first = Snapshot::of(&disk);
         // The header's capacity is within the limits.
         let _changesets = machine.changesets();
+        let sealed = machine.stored_length();
         RepoState {
             machine,
+            sealed,
             manifests: ManifestStore::new(alloc),
             journal,
             disk,
@@ -87,7 +94,7 @@ impl<D: Disk> RepoState<D> {
     /// Its disk.
     pub fn into_disk(self) -> D
         ensures disk { D.meaning result ≡ self.disk }
-        ensures sound { IsSound self.opening self.history self.disk }
+        ensures sound { IsSound self.opening self.history self.sealed self.disk }
     {
         self.disk
     }
@@ -103,9 +110,24 @@ impl<D: Disk> RepoState<D> {
     pub fn history_length(&self) -> u64
         ensures length { result ≡ length self.now.history }
         ensures header { self.now.header ≡ self.now.opening.header }
-        ensures sound { IsSound self.now.opening self.now.history self.now.disk }
+        ensures sound { IsSound self.now.opening self.now.history self.now.sealed self.now.disk }
     {
         self.machine.history_length()
+    }
+
+    /// How many entries are stored, sealed or waiting.
+    pub fn stored_length(&self) -> u64
+        ensures length { result ≡ length (bodies self.now.history) }
+        ensures most { self.now.sealed ≤ result }
+    {
+        self.machine.stored_length()
+    }
+
+    /// How many of the stored entries are sealed.
+    pub fn sealed(&self) -> u64
+        ensures { result ≡ self.now.sealed }
+    {
+        self.sealed
     }
 }
 
@@ -114,8 +136,7 @@ impl<D: Disk> Recorded for RepoState<D> {
 
     ghost opening = { λ s. s.opening };
 
-    // Each entry is sealed as it is made.
-    ghost sealed = { λ s. stored_length s.history };
+    ghost sealed = { λ s. s.sealed };
 
     fn length_word(&self) -> u64 {
         self.history_length()

@@ -7,9 +7,11 @@ use Rattle.serde_json.specs.View.{view, items_view}
 use Rattle.serde_json.specs.declared.value.Value.{Value, Array, the_lemmas}
 use Rattle.byte_fields.specs.Bytes.{Id}
 use Rattle.reply_model.specs.Log.{LogLine}
-use Rattle.session_model.specs.Bodies.{id_text, list_text, line_text, line_texts}
+use Rattle.session_model.specs.Bodies.{id_text, list_text, line_text, line_texts, copy_text}
 use Rattle.repo_calls.specs.declared.log.LogEntry.{LogEntry}
+use Rattle.repo_calls.specs.declared.copies.CopiedPath.{CopiedPath}
 use Rattle.repo_calls.specs.Calls.{line_seen, lines_seen}
+use Rattle.repo_calls.specs.Asking.{copy_seen, copies_seen}
 use Rattle.repo_text.specs.Spelling.{Spells, SpellAll}
 use Rattle.repo_text.proofs.Spelled.{list_spelled, one_more, same_spelled}
 
@@ -26,6 +28,12 @@ values_more vs ws v ts us t e f h spelled =
 pub id_texts_more : (ids : List Id) (i : ℕ) (d : Id) → i < length ids → map id_text (take (i + 1) ids) ≡ map id_text (take i ids) ++ id_text (get_or ids i d) ∷ []
 id_texts_more ids i d inside =
     ap (map id_text) (take_more ids i d inside) ∙ map-append id_text (take i ids) (get_or ids i d ∷ [])
+
+pub copy_texts_more : (copies : List CopiedPath) (i : ℕ) (d : CopiedPath) → i < length copies
+    → map copy_text (copies_seen (take (i + 1) copies)) ≡ map copy_text (copies_seen (take i copies)) ++ copy_text (copy_seen (get_or copies i d)) ∷ []
+copy_texts_more copies i d inside =
+    ap (λ x. map copy_text (copies_seen x)) (take_more copies i d inside) ∙ ap (map copy_text) (map-append copy_seen (take i copies) (get_or copies i d ∷ []))
+    ∙ map-append copy_text (copies_seen (take i copies)) (copy_seen (get_or copies i d) ∷ [])
 
 line_texts-push : (n m : ℕ) (lines : List LogLine) (line : LogLine) → m ≡ n + length lines → line_texts n (lines ++ line ∷ []) ≡ line_texts n lines ++ line_text m line ∷ []
 line_texts-push n m [] line e =

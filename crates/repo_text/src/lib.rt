@@ -2,6 +2,7 @@
 #![tactic(auto)]
 
 pub mod bodies;
+pub mod copies;
 pub mod history;
 mod ids;
 pub mod log;

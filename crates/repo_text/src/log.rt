@@ -53,7 +53,12 @@ fn line_value(alloc: Global, number: u64, entry: &LogEntry) -> Result<Value, All
     match entry {
         LogEntry::Content { id, size } => content_value(alloc, number, id, *size),
         LogEntry::Changeset { id } => changeset_value(alloc, number, id),
-        LogEntry::Bookmark { name, from, to } => {
+        LogEntry::Bookmark {
+            name,
+            from,
+            to,
+            caller: _,
+        } => {
             let from = maybe_id_value(alloc, *from)?;
             let to = maybe_id_value(alloc, *to)?;
             bookmark_value(alloc, number, name.as_str(), from, to)
@@ -62,12 +67,18 @@ fn line_value(alloc: Global, number: u64, entry: &LogEntry) -> Result<Value, All
             name,
             old,
             draft,
+            moment,
             ids,
+            caller: _,
         } => {
             let old = id_value(alloc, old)?;
             let draft = id_value(alloc, draft)?;
             let ids = ids_value(alloc, ids.as_slice())?;
-            landing_value(alloc, number, name.as_str(), old, draft, ids)
+            let name = name.as_str();
+            match moment {
+                None => landing_value(alloc, number, name, old, draft, ids),
+                Some(moment) => dated_value(alloc, number, name, *moment, old, draft, ids),
+            }
         }
     }
 }
@@ -111,4 +122,19 @@ fn landing_value(
     ensures { IfOk result (λ v. view v ≡ object_data ((codes "draft", view draft) ∷ (codes "ids", view ids) ∷ (codes "kind", string (codes "landing")) ∷ (codes "name", string name.now) ∷ (codes "number", number_data (unsigned number)) ∷ (codes "old", view old) ∷ [])) }
 {
     json!(in alloc; {"draft": draft, "ids": ids, "kind": "landing", "name": name, "number": number, "old": old})
+}
+
+// A landing of which the moment is told.
+fn dated_value(
+    alloc: Global,
+    number: u64,
+    name: &str,
+    moment: u64,
+    old: Value,
+    draft: Value,
+    ids: Value,
+) -> Result<Value, AllocError>
+    ensures { IfOk result (λ v. view v ≡ object_data ((codes "draft", view draft) ∷ (codes "ids", view ids) ∷ (codes "kind", string (codes "landing")) ∷ (codes "moment", number_data (unsigned moment)) ∷ (codes "name", string name.now) ∷ (codes "number", number_data (unsigned number)) ∷ (codes "old", view old) ∷ [])) }
+{
+    json!(in alloc; {"draft": draft, "ids": ids, "kind": "landing", "moment": moment, "name": name, "number": number, "old": old})
 }

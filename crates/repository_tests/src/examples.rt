@@ -1,14 +1,16 @@
 //! Changesets by their bytes.
-use bonsai::Commit;
+use bonsai::{Commit, Version};
 use object_id::Id;
 use repo_path::{BookName, RepoPath};
 use std::alloc::{AllocError, Global};
 use std::test::Fail;
 
 /// A changeset at second 0 of an author of one letter, with a message of so many bytes `x`. Its edits are a text, with a
-/// blank between them: `p:abc` sets `p` to the content `abc`, and `-p` deletes it.
+/// blank between them: `p:abc` sets `p` to the content `abc`, and `-p` deletes it. In the second version `q<p:abc` sets `q`
+/// as a copy of the first parent's `p`.
 #[derive(Clone, Copy)]
 pub(crate) struct Example<'a> {
+    pub(crate) version: Version,
     pub(crate) author: u8,
     pub(crate) parents: &'a [Id],
     pub(crate) message: usize,
@@ -18,6 +20,7 @@ pub(crate) struct Example<'a> {
 /// The changeset of the author `a` without parents, message and edits.
 pub(crate) fn first<'a>() -> Example<'a> {
     Example {
+        version: Version::First,
         author: b'a',
         parents: &[],
         message: 0,
@@ -29,9 +32,9 @@ impl Example<'_> {
     /// Its bytes.
     pub(crate) fn bytes(&self, alloc: Global) -> Result<Vec<u8>, AllocError> {
         let mut bytes = Vec::new(alloc);
-        put_head(&mut bytes, self.author, self.parents)?;
+        put_head(&mut bytes, self.version, self.author, self.parents)?;
         put_message(alloc, &mut bytes, self.message)?;
-        put_edits(&mut bytes, self.edits)?;
+        put_edits(&mut bytes, self.version, self.edits)?;
         Ok(bytes)
     }
 
@@ -47,8 +50,13 @@ fn commit_of(alloc: Global, bytes: &[u8]) -> Result<Commit, Fail> {
 }
 
 // The fields before the message.
-fn put_head(out: &mut Vec<u8>, author: u8, parents: &[Id]) -> Result<(), AllocError> {
-    out.extend_from_slice(&[0x43, 1, parents.len().min(255) as u8])?;
+fn put_head(
+    out: &mut Vec<u8>,
+    version: Version,
+    author: u8,
+    parents: &[Id],
+) -> Result<(), AllocError> {
+    out.extend_from_slice(&[0x43, version.to_byte(), parents.len().min(255) as u8])?;
     for parent in parents {
         out.extend_from_slice(parent.as_bytes())?;
     }
@@ -67,20 +75,20 @@ fn put_length(out: &mut Vec<u8>, length: usize) -> Result<(), AllocError> {
     out.extend_from_slice(&(length.min(1_000_000) as u32).to_be_bytes())
 }
 
-fn put_edits(out: &mut Vec<u8>, edits: &str) -> Result<(), AllocError> {
+fn put_edits(out: &mut Vec<u8>, version: Version, edits: &str) -> Result<(), AllocError> {
     if edits.is_empty() {
         return put_length(out, 0);
     }
     put_length(out, edits.split(' ').count())?;
     for edit in edits.split(' ') {
-        put_edit(out, edit)?;
+        put_edit(out, version, edit)?;
     }
     Ok(())
 }
 
-fn put_edit(out: &mut Vec<u8>, edit: &str) -> Result<(), AllocError> {
+fn put_edit(out: &mut Vec<u8>, version: Version, edit: &str) -> Result<(), AllocError> {
     match edit.split_once(":") {
-        Some((path, content)) => put_set(out, path, content.as_bytes()),
+        Some((paths, content)) => put_set(out, version, paths, content.as_bytes()),
         None => put_deletion(out, edit.strip_prefix("-").unwrap_or(edit)),
     }
 }
@@ -96,10 +104,29 @@ fn put_path(out: &mut Vec<u8>, path: &str) -> Result<(), AllocError> {
     out.extend_from_slice(path.as_bytes())
 }
 
-fn put_set(out: &mut Vec<u8>, path: &str, content: &[u8]) -> Result<(), AllocError> {
+fn put_set(
+    out: &mut Vec<u8>,
+    version: Version,
+    paths: &str,
+    content: &[u8],
+) -> Result<(), AllocError> {
+    let (path, source) = paths.split_once("<").unwrap_or((paths, ""));
     put_path(out, path)?;
     out.extend_from_slice(b"\x01\x00\x00\x00\x00\x00\x00\x00\x00")?;
-    put_content(out, content)
+    put_content(out, content)?;
+    put_source(out, version, source)
+}
+
+// What the first parent's path is that a file was copied from, of which the first version tells nothing.
+fn put_source(out: &mut Vec<u8>, version: Version, source: &str) -> Result<(), AllocError> {
+    if version == Version::First {
+        return Ok(());
+    }
+    if source.is_empty() {
+        return Ok(out.push(0)?);
+    }
+    out.extend_from_slice(&[1, 0])?;
+    put_path(out, source)
 }
 
 fn put_content(out: &mut Vec<u8>, content: &[u8]) -> Result<(), AllocError> {

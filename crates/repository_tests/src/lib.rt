@@ -5,6 +5,8 @@
 #[cfg(test)]
 mod changes;
 #[cfg(test)]
+mod dates;
+#[cfg(test)]
 mod examples;
 #[cfg(test)]
 mod heads;

@@ -53,7 +53,7 @@ fn land_between(
     let Ok(plan) = machine.plan(alloc, main, draft) else {
         return Err(Fail::from("a plan"));
     };
-    let rebased = plan.rebased(alloc)?;
+    let rebased = plan.rebased(alloc, 0)?;
     move_from_there(alloc, machine, main, Some(heads.0))?;
     move_from_there(alloc, machine, main, Some(heads.1))?;
     exchange(alloc, machine, rebased)

@@ -23,7 +23,7 @@ use std::test::Fail;
 fn land_there(alloc: Global, machine: &mut Machine, main: &BookName, draft: Id) -> Result<(), Fail>
     ensures { IsPrefix machine.old.history machine.new.history }
 {
-    match machine.land(alloc, 2, main, draft) {
+    match machine.land(alloc, 2, main, draft, 0) {
         Ok(_) => Ok(()),
         Err(_) => Err(Fail::from("a landing")),
     }
@@ -87,7 +87,7 @@ fn tell(alloc: Global, planned: Result<Plan, Refusal>) -> Result<String, Fail> {
 }
 
 fn put_plan(alloc: Global, out: &mut String, plan: &Plan) -> Result<(), Fail> {
-    let rebased = plan.rebased(alloc)?;
+    let rebased = plan.rebased(alloc, 0)?;
     put_commits(alloc, out, rebased.new())
 }
 

@@ -5,6 +5,7 @@ ghost use Rattle.reply_model.specs.Legal.{IsLegal};
 
 use crate::rows::same;
 use crate::steps::{log_text, new_run, run_lines};
+use bonsai::Version;
 use ports::ZeroBytes;
 use recovery::{ReplayFault, enter_payload};
 use repo_machine::Machine;
@@ -74,7 +75,7 @@ fn state(alloc: Global, machine: &Machine) -> Result<String, Fail> {
 }
 
 fn entered(rt: &impl Abort, alloc: Global) -> Result<String, Fail> {
-    let mut machine = Machine::new(alloc, RandomState::new(&ZeroBytes)?, 65_536);
+    let mut machine = Machine::new(alloc, RandomState::new(&ZeroBytes)?, 65_536, Version::First);
     enter_all(rt, alloc, &mut machine, PAYLOADS)?;
     state(alloc, &machine)
 }

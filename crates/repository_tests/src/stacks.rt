@@ -1,4 +1,8 @@
 //! Stacks on another head, and the paths that they touch.
+ghost use Rattle.std.specs.Prelude.{IfOk, map};
+ghost use Rattle.std.specs.Arc.{arc_value};
+ghost use Rattle.bonsai.specs.Making.{KeepOnParents, KeepsOnParent};
+
 use crate::examples::{Example, first, id, path};
 use crate::rows::same;
 use bonsai::Commit;
@@ -24,6 +28,7 @@ fn commit_on(
         parents: &parents,
         message,
         edits,
+        ..first()
     }
     .commit(alloc)
 }
@@ -37,16 +42,35 @@ fn ids(alloc: Global, commits: &[Commit]) -> Result<Vec<Id>, Fail> {
 }
 
 // The ids of a stack, rewritten onto the head of 32 bytes 07.
-fn on_sevens(alloc: Global, stack: &[Arc<Commit>]) -> Result<Vec<Id>, Fail> {
-    let commits = rebase(alloc, stack, Id::from_bytes([7; 32]))?;
+fn on_sevens(alloc: Global, stack: &[Arc<Commit>], moment: u64) -> Result<Vec<Id>, Fail>
+    requires { KeepOnParents (map arc_value stack.now) }
+{
+    let commits = rebase(alloc, stack, Id::from_bytes([7; 32]), moment)?;
     ids(alloc, commits.as_slice())
+}
+
+// What may stand upon one parent.
+fn movable(commit: Commit) -> Result<Commit, Fail>
+    ensures { IfOk result KeepsOnParent }
+{
+    if !commit.changeset().keeps_on_parent() {
+        return Err(Fail::from("copies of another parent's files"));
+    }
+    Ok(commit)
+}
+
+// The ids of two changesets, each on the one before, rewritten at this moment.
+fn both_on_sevens(alloc: Global, one: Commit, two: Commit, moment: u64) -> Result<Vec<Id>, Fail> {
+    let one = Arc::new(alloc, movable(one)?)?;
+    let two = Arc::new(alloc, movable(two)?)?;
+    on_sevens(alloc, &[one, two], moment)
 }
 
 fn rewritten(alloc: Global) -> Result<Vec<Id>, Fail> {
     let ones = Id::from_bytes([1; 32]);
     let one = commit_on(alloc, b'a', ones, 3, "-a/b b:abc")?;
     let two = commit_on(alloc, b'b', one.id(), 0, "a/b:abc -a.b")?;
-    on_sevens(alloc, &[Arc::new(alloc, one)?, Arc::new(alloc, two)?])
+    both_on_sevens(alloc, one, two, 0)
 }
 
 #[test]

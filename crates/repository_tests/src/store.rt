@@ -1,4 +1,8 @@
 //! A store of a line `a`, `b`, `c`, of `d` on `b`, and of `e` without a parent.
+ghost use Rattle.std.specs.Prelude.{◌≡◌, true};
+ghost use Rattle.std.specs.List.{AllByRecursion};
+ghost use Rattle.history_model.specs.History.{is_known};
+
 use crate::examples::{Example, first};
 use crate::rows::same;
 use bonsai::{Changeset, Commit};
@@ -24,10 +28,16 @@ fn add(alloc: Global, store: &mut ChangesetStore, author: u8, parents: &[Id]) ->
     Ok(id)
 }
 
+fn are_known(store: &ChangesetStore, ids: &[Id]) -> bool
+    ensures { result ≡ true → AllByRecursion (λ id. is_known store.now.known id ≡ true) ids.now }
+{
+    ids.iter().all(|id| store.is_known(id))
+}
+
 fn add_commit(store: &mut ChangesetStore, commit: Arc<Commit>) -> Result<(), Fail> {
     store.reserve(1)?;
     let parents = commit.changeset().parents();
-    if store.is_known(&commit.id()) || !parents.iter().all(|parent| store.is_known(parent)) {
+    if store.is_known(&commit.id()) || !are_known(store, parents) {
         return Err(Fail::from("a new changeset of known parents"));
     }
     store.add(commit);

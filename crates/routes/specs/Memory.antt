@@ -5,7 +5,7 @@ use Rattle.std.specs.Prelude.{ℕ, ◌==◌, List, IsTrue}
 use Rattle.std.specs.List.{list_any}
 use Rattle.percent_encoding.specs.Percent.{percent_sign}
 use Rattle.session_model.specs.declared.route_name.RouteName.{RouteName}
-use Rattle.session_model.specs.declared.route_name.RouteName.TheVariants.{Contents, Content, Changesets, Changeset, Head, Move, Land, Log, RootFsnode, Fsnode, RootUnode, Unode, History}
+use Rattle.session_model.specs.declared.route_name.RouteName.TheVariants.{Contents, Content, Changesets, Changeset, Head, Move, Land, Log, RootFsnode, Fsnode, RootUnode, Unode, History, Copies}
 use Rattle.session_model.specs.Routes.{Route, value}
 
 abbrev pub HasEscape : List ℕ → Type 0
@@ -25,6 +25,7 @@ NeedsMemory Fsnode value = Unit {0}
 NeedsMemory RootUnode value = HasEscape (value 0)
 NeedsMemory Unode value = Unit {0}
 NeedsMemory History value = Unit {0}
+NeedsMemory Copies value = HasEscape (value 0)
 
 abbrev pub TakesMemory : Route → Type 0
 TakesMemory route = NeedsMemory route.name (value route)

@@ -28,7 +28,8 @@ use session_model::{Method, RouteName};
 use std::alloc::Global;
 use std::str;
 
-/// What a request asks the repository for. It borrows the request's body, and what its arguments stand in.
+/// What a request asks the repository for. It borrows the request's body, and what its arguments stand in. The moment of a
+/// landing is left open, as 0.
 #[derive(Clone, Copy, Debug)]
 pub enum Call<'a> {
     /// To make a change.
@@ -122,6 +123,8 @@ fn call_from<'a>(
         RouteName::Land => Call::Change(Ask::Land {
             name: name_from(alloc, params, arguments)?,
             draft: id_from(alloc, params)?,
+            // a request tells none
+            moment: 0,
         }),
         RouteName::Log => {
             Call::Read(Question::Log(number_parameter(alloc, part(params, "from"))?))
@@ -140,6 +143,7 @@ fn call_from<'a>(
             id_from(alloc, params)?,
             path_from(alloc, params, arguments)?,
         )),
+        RouteName::Copies => Call::Read(Question::Copies(id_from(alloc, params)?)),
     })
 }
 

@@ -60,6 +60,7 @@ impl Routes {
         add(&mut router, "/changeset", RouteName::Changesets)?;
         add(&mut router, "/content/{id}", RouteName::Content)?;
         add(&mut router, "/content", RouteName::Contents)?;
+        add(&mut router, "/copies/{id}", RouteName::Copies)?;
         add(&mut router, "/fsnode/{id}/{*path}", RouteName::Fsnode)?;
         add(&mut router, "/fsnode/{id}", RouteName::RootFsnode)?;
         add(&mut router, "/history/{id}/{*path}", RouteName::History)?;

@@ -1,14 +1,17 @@
 -- What a load begins with is granted.
-use Rattle.std.proofs.Common.{◌≡◌, ℕ, ◌≤◌, Bool, true, false, List, [], ◌∷◌, ◌++◌, length, refl, ap, sym, subst, ◌∙◌, arith, append-nil}
+use Rattle.std.proofs.Common.{◌≡◌, ℕ, ◌≤◌, false, List, [], ◌∷◌, ◌++◌, length, refl, ap, sym, subst, ◌∙◌, arith}
 use Rattle.std.specs.Prelude.{Option, None, Some, Result, Ok, Err, IsOk, IfOk, MatchOption}
 use Rattle.std.specs.Str.{is_utf8, chars}
 use Rattle.sha2.specs.Sha256.{sha256, digest_bytes, hash_after, compress, rounds, schedule, first_words}
 use Rattle.changeset_model.specs.Changeset.{spelling}
-use Rattle.history_model.specs.History.{Body, Book, Change, Entry, Fault, unnumbered}
+use Rattle.history_model.specs.History.{Body, Book, Change, Entry, bodies, unnumbered}
 use Rattle.history_model.specs.Journal.{Header}
 use Rattle.reply_model.specs.Reply as reply
 use Rattle.reply_model.specs.Reply.{Ask, BookmarkSet, ChangesetPut, Judged, PutChangeset, Refusal, SetBookmark, judge}
-use Rattle.reply_model.specs.After.{After, Answer, Answers, Asks, Replies, entries_of, entry_by}
+use Rattle.reply_model.specs.Opening.{nobody}
+use Rattle.reply_model.specs.After.{After, Answer, Asks, entries_of}
+use Rattle.reply_model.proofs.Fronts.{replies_after}
+use Rattle.byte_fields.proofs.Lists.{prefix_self}
 use Rattle.repo_calls.specs.Calls.{granted_seen, refused}
 use Rattle.repo_calls.specs.declared.ask.Granted.{Granted}
 use Rattle.repo_calls.specs.declared.refusal.Refusal as own
@@ -23,12 +26,13 @@ use Rattle.blob_disk.specs.Memory.{Memory, blank}
 use Rattle.blob_disk.specs.Tally.{Tally, fresh}
 use Rattle.blob_disk.specs.declared.call_kind.CallKind.{CallKind}
 use Rattle.blob_disk.specs.declared.mem_disk.MemDisk.{MemDisk}
-use Rattle.repo_state.specs.State.{HasNoFault, IsQuiet}
+use Rattle.repo_state.specs.Alone.{RepliesAlone}
+use Rattle.repo_state.specs.State.{HasNoFault, IsQuiet, IsSealedAlone}
 use Rattle.repo_calls.specs.Asking.{stored_answer}
 use Rattle.repo_calls.specs.declared.calls.ChangeFault.{ChangeFault}
 use Rattle.repo_calls.specs.declared.calls.ChangeFault.TheVariants.{Refused, DiskFault}
 use Rattle.run_gen.specs.Stacks.{base, base_id, main}
-use Rattle.run_gen.specs.Loads.{base_entry, main_entry}
+use Rattle.run_gen.specs.Loads.{base_entry}
 use Rattle.run_gen.specs.declared.fault.LoadFault.TheVariants.{Memory as NoMemory}
 use Rattle.run_gen.specs.Begun.{Enters, IsFresh, MayBe, load_capacity, load_header}
 use Rattle.run_gen.specs.Outcomes.{fault_of}
@@ -38,14 +42,14 @@ base_judged : judge load_header [] (PutChangeset (spelling base)) ≡ Ok (record
 unfolding is_utf8 chars lib.Utf8.encode
 base_judged = refl
 
-main_judged : judge load_header (base_entry ∷ []) (SetBookmark main None (Some base_id)) ≡ Ok (record { granted = BookmarkSet; made = Some (Book (record { name = main; from = None; to = Some base_id })) })
+main_judged : judge load_header (base_entry ∷ []) (SetBookmark nobody main None (Some base_id)) ≡ Ok (record { granted = BookmarkSet; made = Some (Book (record { name = main; from = None; to = Some base_id; caller = None })) })
 unfolding is_utf8 chars lib.Utf8.encode sha256 digest_bytes hash_after compress rounds schedule first_words
 main_judged = refl
 
 pub base_enters : Enters load_header [] (PutChangeset (spelling base)) (Change base)
 base_enters = record { granted = ChangesetPut base_id; judged = base_judged }
 
-pub main_enters : Enters load_header (base_entry ∷ []) (SetBookmark main None (Some base_id)) (Book (record { name = main; from = None; to = Some base_id }))
+pub main_enters : Enters load_header (base_entry ∷ []) (SetBookmark nobody main None (Some base_id)) (Book (record { name = main; from = None; to = Some base_id; caller = None }))
 main_enters = record { granted = BookmarkSet; judged = main_judged }
 
 -- a change that is granted, and makes an entry
@@ -53,7 +57,7 @@ module _ (header : Header) (h : List Entry) (ask : Ask) (granted : reply.Granted
   never_refused : {X : Type 0} (r : Refusal) → judge header h ask ≡ Err r → X
   never_refused r refused = absurd (cc (sym is ∙ refused))
 
-  refusal_is : (refusal : own.Refusal) → Replies header h 0 (Asks ask) (refused refusal) new → fault_of refusal ≡ NoMemory
+  refusal_is : (refusal : own.Refusal) → RepliesAlone header h 0 (Asks ask) (refused refusal) new → fault_of refusal ≡ NoMemory
   refusal_is refusals.Down a = never_refused reply.Down a.answers.1
   refusal_is (refusals.TooLong length) a = never_refused (reply.TooLong length) a.answers.1
   refusal_is (refusals.BadEncoding at) a = never_refused (reply.BadEncoding at) a.answers.1
@@ -75,10 +79,10 @@ module _ (header : Header) (h : List Entry) (ask : Ask) (granted : reply.Granted
   refusal_is (refusals.Full size length) a = never_refused (reply.Full size length) a.answers.1
   refusal_is refusals.Memory a = refl
 
-  after : (answer : Answer) → Replies header h 0 (Asks ask) answer new → After header h 0 (Asks ask) answer new
-  after answer a = record { before = h; made = a.made; grows = record { begins = ([], append-nil h); own = refl; new_is = a.new_is }; answers = a.answers }
+  after : (answer : Answer) → RepliesAlone header h 0 (Asks ask) answer new → After header h 0 (Asks ask) answer new
+  after answer a = replies_after header h h 0 (Asks ask) answer new (record { begins = prefix_self h; own = refl }) (record { made = a.made; answers = a.answers; new_is = a.new_is })
 
-  pub may_be : (answer : Result Granted ChangeFault) → Replies header h 0 (Asks ask) (stored_answer answer) new → HasNoFault new → MayBe answer
+  pub may_be : (answer : Result Granted ChangeFault) → RepliesAlone header h 0 (Asks ask) (stored_answer answer) new → HasNoFault new → MayBe answer
   may_be (Ok g) a none = tt
   may_be (Err (Refused refusal)) a none = refusal_is refusal a
   may_be (Err DiskFault) a none = never_fails header 0 h new ask (after (stored_answer (Err DiskFault)) a) none
@@ -90,10 +94,15 @@ module _ (header : Header) (h : List Entry) (ask : Ask) (granted : reply.Granted
       made_in (Ok judged) = judged.made
       made_in (Err r) = None
 
-  pub entry_made : (answer : Result Granted ChangeFault) → Replies header h 0 (Asks ask) (stored_answer answer) new → IsOk answer → new ≡ h ++ unnumbered body ∷ []
+  pub entry_made : (answer : Result Granted ChangeFault) → RepliesAlone header h 0 (Asks ask) (stored_answer answer) new → IsOk answer → new ≡ h ++ unnumbered body ∷ []
   entry_made (Ok g) a ok =
       a.new_is ∙ (λ i. h ++ entries_of 0 (record { entry = same_made (granted_seen g) a.made.entry a.answers.1 i; fault = a.answers.0 i }))
   entry_made (Err fault) a ok = absurd cc
+
+-- ---- nothing waits
+
+pub sealed_new : (h g : List Entry) (n : ℕ) → h ≡ g → n ≡ length (bodies g) → IsSealedAlone h n
+sealed_new h g n same is = (let many : length (bodies h) ≡ length (bodies g) = ap (λ es. length (bodies es)) same in (λ up. omega arith, omega arith))
 
 -- ---- the disk
 

@@ -4,20 +4,19 @@ use Rattle.std.proofs.Common.{◌≡◌, ℕ, suc, ◌+◌, ◌<◌, ◌≤◌, 
 use mathlib.Core.List.{IsPrefix}
 use Rattle.std.proofs.lemmas.List.{get_or-map, length-map}
 use Rattle.std.proofs.lemmas.List.Elements.{All-cons, All-nil}
-use Rattle.byte_fields.specs.Bytes.{Id}
 use Rattle.history_model.specs.History.{Body, Entry, entries_by}
 use Rattle.history_model.specs.Journal.{Header}
 use Rattle.reply_model.specs.After.{entry_by}
 use Rattle.bookmark_lock.specs.Place.{Place, moved}
 use Rattle.bookmark_lock.proofs.Entries.{entries_none}
-use Rattle.run_gen.specs.Stacks.{base_id}
 use Rattle.run_gen.specs.Calls.{bodies_of, heads_of, landings_in}
 use Rattle.run_gen.specs.Clients.{Ran}
 use Rattle.run_gen.specs.Loads.{HasClient, IsBegun, IsLoaded, IsStopped, base_entry, lead_entries, main_entry}
 use Rattle.run_gen.specs.declared.fault.LoadFault.{LoadFault}
 use Rattle.run_gen.specs.declared.fault.LoadFault.TheVariants.{Refused, Memory}
-use Rattle.run_gen.proofs.Own.{answered_own, went_lands}
-use Rattle.repo_state.specs.State.{IsQuiet, State}
+use Rattle.run_gen.proofs.Fronts.{calm_before}
+use Rattle.run_gen.proofs.Own.{answered_all, went_lands}
+use Rattle.repo_state.specs.State.{HasNoFault, IsQuiet, State}
 use Rattle.run_gen.specs.Loading.{Leaves}
 use Rattle.run_gen.specs.Crew.{AreClients, Did, IsClientAt, IsReady, place_at}
 use Rattle.run_gen.specs.Joining.{HasAll, IsOf, TakesIn, seats_of}
@@ -90,7 +89,7 @@ module _ (first : Place) (clients seed stacks : ℕ) (all : List Seated) (fin : 
         let j = is_client k inside in
         ap (λ (p : Place). p.lock) (d.moved ∙ ap (λ (p : Place). moved p (get_or fin k e).seat) j.seat)
 
-    module _ (begins : first.front ≡ lead_entries) (none : first.split ≡ 0) (now : Place) (each : All (HasAll now) (seats_of fin)) (history : List Entry) (is : history ≡ now.front) (k : ℕ) (h : k < clients) where
+    module _ (begins : first.front ≡ lead_entries) (none : first.split ≡ 0) (now : Place) (each : All (HasAll now) (seats_of fin)) (history : List Entry) (is : history ≡ now.front) (calm : HasNoFault history) (k : ℕ) (h : k < clients) where
       number_is : first.split + k + 1 ≡ k + 1
       number_is = omega arith
 
@@ -110,7 +109,7 @@ module _ (first : Place) (clients seed stacks : ℕ) (all : List Seated) (fin : 
       own_entries : entries_by (k + 1) history ≡ map (entry_by (k + 1)) (bodies_of ran.answered.calls)
       own_entries =
           ap (entries_by (k + 1)) is ∙ subst (λ n. entries_by n now.front ≡ entries_by n (end k h).seat.front) seat_number has_all.entries
-          ∙ answered_own first.lock.opening.header (k + 1) lead_entries _ ran.heads (end k h).outcome (end k h).seat.front ran.answered
+          ∙ answered_all first.lock.opening.header (k + 1) lead_entries _ ran.heads (end k h).outcome (end k h).seat.front ran.answered (calm_before (end k h).seat.front now.front has_all.begins (subst HasNoFault is calm))
           ∙ ap (λ es. es ++ map (entry_by (k + 1)) (bodies_of ran.answered.calls)) (lead_none k)
 
       pub has_client : HasClient first.lock.opening.header seed stacks history k (end k h).outcome
@@ -119,20 +118,20 @@ module _ (first : Place) (clients seed stacks : ℕ) (all : List Seated) (fin : 
       pub has_client_of : (outcome : Result (Unit {0}) LoadFault) → (end k h).outcome ≡ outcome → HasClient first.lock.opening.header seed stacks history k outcome
       has_client_of outcome same = subst (λ o. HasClient first.lock.opening.header seed stacks history k o) same has_client
 
-    module _ (begins : first.front ≡ lead_entries) (none : first.split ≡ 0) (now : Place) (each : All (HasAll now) (seats_of fin)) (history : List Entry) (is : history ≡ now.front) (begun : IsBegun clients history) where
+    module _ (begins : first.front ≡ lead_entries) (none : first.split ≡ 0) (now : Place) (each : All (HasAll now) (seats_of fin)) (history : List Entry) (is : history ≡ now.front) (calm : HasNoFault history) (begun : IsBegun clients history) where
       pub all_landed : All (λ (f : Finished). f.outcome ≡ Ok tt) fin → IsLoaded first.lock.opening.header seed stacks clients history
       all_landed ok =
           let has : (c : ℕ) → c < clients → HasClient first.lock.opening.header seed stacks history c (Ok tt) =
-          λ c h. has_client_of begins none now each history is c h (Ok tt) (ok c (record { seat = first; outcome = Ok tt }) (omega arith)) in
+          λ c h. has_client_of begins none now each history is calm c h (Ok tt) (ok c (record { seat = first; outcome = Ok tt }) (omega arith)) in
           record { begun = begun; each = has; landings = λ c h. landings_of first.lock.opening.header seed stacks history c (has c h) }
 
       pub one_refused : (c : ℕ) → c < length fin → ((d : Finished) → (get_or fin c d).outcome ≡ Err Refused) → IsStopped first.lock.opening.header seed stacks clients history
       one_refused c less refused = record {
         begun = begun;
-        each = λ k h. ((end k h).outcome, has_client begins none now each history is k h);
+        each = λ k h. ((end k h).outcome, has_client begins none now each history is calm k h);
         client = c;
         is_client = omega arith;
-        refused = has_client_of begins none now each history is c (omega arith) (Err Refused) (refused (record { seat = first; outcome = Ok tt }));
+        refused = has_client_of begins none now each history is calm c (omega arith) (Err Refused) (refused (record { seat = first; outcome = Ok tt }));
       }
 
       pub leaves : (outcome : Result (Unit {0}) LoadFault) → OnOk outcome (All (λ (f : Finished). f.outcome ≡ Ok tt) fin) → IfErr outcome (λ fault. (k : ℕ) × (k < length fin) × ((d : Finished) → (get_or fin k d).outcome ≡ Err fault))

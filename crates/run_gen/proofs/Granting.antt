@@ -1,17 +1,17 @@
 -- What a change is granted, and the entry that it makes.
 use Rattle.std.proofs.Common.{◌≡◌, ◌≢◌, ◌<◌, ℕ, true, false, Bool, cond, List, [], ◌∷◌, map, length, refl, subst, arith}
-use Rattle.std.specs.Prelude.{Option, None, Some, Result, Ok, Err, is_some, find, bytes_eq, nat_lt, ok_or, ◌==◌, not}
+use Rattle.std.specs.Prelude.{Option, None, Some, option_map, Result, Ok, Err, is_some, find, bytes_eq, nat_lt, ok_or, ◌==◌, not}
 use Rattle.std.specs.Option.{option_eq, option_to_list}
 use Rattle.std.proofs.lemmas.Bool.{eqb-false}
 use Rattle.sha2.specs.Sha256.{sha256}
 use Rattle.byte_fields.specs.Bytes.{Id, first_some}
 use Rattle.changeset_model.specs.Changeset.{Changeset, id_of, sets_of, touched_paths}
 use Rattle.changeset_model.specs.Decoding.{decoded}
-use Rattle.history_model.specs.History.{Body, Content, Change, Book, Land, Fault, Entry, is_down, known, is_known, content_len}
+use Rattle.history_model.specs.History.{Body, Content, Whole, Change, Book, Land, Policy, Fault, Entry, is_down, known, is_known, content_len}
 use Rattle.history_model.specs.Bookmark.{head}
-use Rattle.history_model.specs.Pushrebase.{fork, clash, rewrite}
+use Rattle.history_model.specs.Pushrebase.{fork, clash, rewrite, moment_of}
 use Rattle.history_model.specs.Journal.{Header, payload_len, most_payload, size, is_full}
-use Rattle.reply_model.specs.Reply.{Down, Merge, NoParent, content_refusal, collides, Collision, NoChangeset, Moved, TooLarge, first_collision, NoBookmark, NoRoot, TooFarBehind, AlreadyIn, StackTooLong, Clash, most_range, most_stack, Ask, PutContent, PutChangeset, SetBookmark, LandDraft, Refusal, Granted, ContentPut, ChangesetPut, BookmarkSet, Landed, Judged, ◌>>=◌, Full, refuse_if, refuse_some, unchanged, entered, put_content, accepted, put_changeset, set_bookmark, enter_landing, land, by_ask, judge}
+use Rattle.reply_model.specs.Reply.{told, is_merge, unresolved_of, Down, Merge, NoParent, Unresolved, MergeInStack, MergeInRange, content_refusal, collides, Collision, NoChangeset, Moved, TooLarge, first_collision, NoBookmark, NoRoot, TooFarBehind, AlreadyIn, StackTooLong, Clash, most_range, most_stack, Ask, PutContent, PutWhole, PutChangeset, SetBookmark, LandDraft, Refusal, Granted, ContentPut, ChangesetPut, BookmarkSet, Landed, Judged, ◌>>=◌, Full, refuse_if, refuse_some, unchanged, entered, put_content, accepted, put_changeset, set_bookmark, enter_landing, land, by_ask, judge}
 use Rattle.run_gen.specs.Calls.{heads_in, landings_in}
 use Rattle.run_gen.specs.Grants.{FitsAsk}
 use Rattle.opening_laws.proofs.Made.{not_refused as passed}
@@ -19,9 +19,11 @@ use Rattle.opening_laws.proofs.Made.{not_refused as passed}
 -- no bookmark has no head after it that had one before it
 abbrev pub KeepsHead : Body → Type 0
 KeepsHead (Content x n) = Unit {0}
+KeepsHead (Whole x n parts) = Unit {0}
 KeepsHead (Change c) = Unit {0}
 KeepsHead (Book move) = ⊥
 KeepsHead (Land landing) = 0 < length landing.new
+KeepsHead (Policy caller text) = Unit {0}
 KeepsHead (Fault breaking) = Unit {0}
 
 abbrev pub KeptBy : Option Body → Type 0
@@ -30,9 +32,10 @@ KeptBy (Some body) = KeepsHead body
 
 abbrev pub KeptIn : Ask → Option Body → Type 0
 KeptIn (PutContent bytes) made = KeptBy made
+KeptIn (PutWhole body pieces) made = KeptBy made
 KeptIn (PutChangeset bytes) made = KeptBy made
-KeptIn (SetBookmark name from to) made = Unit {0}
-KeptIn (LandDraft name draft) made = KeptBy made
+KeptIn (SetBookmark caller name from to) made = Unit {0}
+KeptIn (LandDraft caller name draft moment) made = KeptBy made
 
 pub record Suits (ask : Ask) (granted : Granted) (made : Option Body) : Type 0 where
   pub landings : landings_in (option_to_list made) ≡ length (heads_in granted)
@@ -76,47 +79,51 @@ changeset_suits header h bytes =
     through ask (refuse_if (nat_lt 1 (length c.parents)) Merge) _ (λ _ _.
     through ask (refuse_some (find (λ p. not (is_known (known h) p)) c.parents) NoParent) _ (λ _ _.
     through ask (refuse_some (first_some (λ e. content_refusal e (content_len h e.1.content)) (sets_of c)) (λ refusal. refusal)) _ (λ _ _.
+    through ask (refuse_some (unresolved_of (known h) c c.parents) Unresolved) _ (λ _ _.
     through ask (refuse_if (collides (known h) c) (Collision (id_of c))) _ (λ _ _.
     either ask (is_known (known h) (id_of c)) _ _ (one ask (ChangesetPut (id_of c)) (record { landings = refl; kept = tt; fits = refl }))
-    (entering header h ask (ChangesetPut (id_of c)) (Change c) (record { landings = refl; kept = tt; fits = refl })))))))
+    (entering header h ask (ChangesetPut (id_of c)) (Change c) (record { landings = refl; kept = tt; fits = refl }))))))))
 
-bookmark_suits : (header : Header) (h : List Entry) (name : List ℕ) (from to : Option Id) → Granting (SetBookmark name from to) (set_bookmark header h name from to)
-bookmark_suits header h name from to =
-    let ask : Ask = SetBookmark name from to in
+bookmark_suits : (header : Header) (h : List Entry) (caller name : List ℕ) (from to : Option Id) → Granting (SetBookmark caller name from to) (set_bookmark header h caller name from to)
+bookmark_suits header h caller name from to =
+    let ask : Ask = SetBookmark caller name from to in
     through ask (refuse_some (find (λ x. not (is_known (known h) x)) (option_to_list to)) NoChangeset) _ (λ _ _.
     through ask (refuse_if (not (option_eq bytes_eq (head h name) from)) (Moved (head h name))) _ (λ _ _.
     either ask (option_eq bytes_eq from to) _ _ (one ask BookmarkSet (record { landings = refl; kept = tt; fits = refl }))
-    (entering header h ask BookmarkSet (Book (record { name = name; from = from; to = to })) (record { landings = refl; kept = tt; fits = refl }))))
+    (entering header h ask BookmarkSet (Book (record { name = name; from = from; to = to; caller = told h caller })) (record { landings = refl; kept = tt; fits = refl }))))
 
-some_rewritten : (stack : List Changeset) (head : Id) → length stack ≢ 0 → 0 < length (rewrite stack head)
-some_rewritten [] head some = absurd (some refl)
-some_rewritten (c ∷ cs) head some = omega arith
+some_rewritten : (stack : List Changeset) (head : Id) (moment : ℕ) → length stack ≢ 0 → 0 < length (rewrite stack head moment)
+some_rewritten [] head moment some = absurd (some refl)
+some_rewritten (c ∷ cs) head moment some = omega arith
 
-landing_suits : (header : Header) (h : List Entry) (name : List ℕ) (old draft : Id) (new : List Changeset) → 0 < length new → Granting (LandDraft name draft) (enter_landing header h name old draft new)
-landing_suits header h name old draft new some =
-    let ask : Ask = LandDraft name draft in
-    let body : Body = Land (record { name = name; old = old; draft = draft; new = new }) in
+landing_suits : (header : Header) (h : List Entry) (caller name : List ℕ) (told_as : Option (List ℕ)) (old draft : Id) (new : List Changeset) (moment : ℕ) (dated : Option ℕ) → 0 < length new → Granting (LandDraft caller name draft moment) (enter_landing header h told_as name old draft new dated)
+landing_suits header h caller name told_as old draft new moment dated some =
+    let ask : Ask = LandDraft caller name draft moment in
+    let body : Body = Land (record { name = name; old = old; draft = draft; new = new; moment = dated; caller = told_as }) in
     through ask (refuse_if (nat_lt most_payload (payload_len body)) (TooLarge (payload_len body))) _ (λ _ _.
     through ask (refuse_some (first_collision (known h) new) Collision) _ (λ _ _.
     entering header h ask (Landed old (map id_of new)) body (record { landings = refl; kept = some; fits = tt })))
 
-land_suits : (header : Header) (h : List Entry) (name : List ℕ) (draft : Id) → Granting (LandDraft name draft) (land header h name draft)
-land_suits header h name draft =
-    let ask : Ask = LandDraft name draft in
+land_suits : (header : Header) (h : List Entry) (caller name : List ℕ) (draft : Id) (moment : ℕ) → Granting (LandDraft caller name draft moment) (land header h caller name draft moment)
+land_suits header h caller name draft moment =
+    let ask : Ask = LandDraft caller name draft moment in
     through ask (ok_or (head h name) NoBookmark) _ (λ old _.
     through ask (refuse_if (not (is_known (known h) draft)) (NoChangeset draft)) _ (λ _ _.
     through ask (ok_or (fork (known h) old draft) NoRoot) _ (λ f _.
     through ask (refuse_if (nat_lt most_range (length f.range)) (TooFarBehind (length f.range))) _ (λ _ _.
     through ask (refuse_if (length f.stack == 0) AlreadyIn) _ (λ x e.
     through ask (refuse_if (nat_lt most_stack (length f.stack)) (StackTooLong (length f.stack))) _ (λ _ _.
+    through ask (refuse_some (option_map id_of (find is_merge f.stack)) MergeInStack) _ (λ _ _.
+    through ask (refuse_some (option_map id_of (find is_merge f.range)) MergeInRange) _ (λ _ _.
     through ask (refuse_some (clash (touched_paths f.stack) (touched_paths f.range)) (λ pair. Clash pair.0 pair.1)) _ (λ _ _.
-    landing_suits header h name old draft (rewrite f.stack old) (some_rewritten f.stack old (eqb-false (length f.stack) 0 (passed (length f.stack == 0) AlreadyIn x e))))))))))
+    landing_suits header h caller name (told h caller) old draft (rewrite f.stack old moment) moment (moment_of f.stack moment) (some_rewritten f.stack old moment (eqb-false (length f.stack) 0 (passed (length f.stack == 0) AlreadyIn x e))))))))))))
 
 asked_suits : (header : Header) (h : List Entry) (ask : Ask) → Granting ask (by_ask header h ask)
 asked_suits header h (PutContent bytes) = content_suits header h bytes
+asked_suits header h (PutWhole body pieces) = record { each = tt }
 asked_suits header h (PutChangeset bytes) = changeset_suits header h bytes
-asked_suits header h (SetBookmark name from to) = bookmark_suits header h name from to
-asked_suits header h (LandDraft name draft) = land_suits header h name draft
+asked_suits header h (SetBookmark caller name from to) = bookmark_suits header h caller name from to
+asked_suits header h (LandDraft caller name draft moment) = land_suits header h caller name draft moment
 
 judging : (header : Header) (h : List Entry) (ask : Ask) → Granting ask (judge header h ask)
 judging header h ask = through ask (refuse_if (is_down h) Down) (λ _. by_ask header h ask) (λ _ _. asked_suits header h ask)

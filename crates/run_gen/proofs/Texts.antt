@@ -1,13 +1,12 @@
 -- The texts of a load keep the rules of changesets.
-use Rattle.std.proofs.Common.{◌≡◌, ℕ, ◌+◌, ◌^◌, ◌<◌, ◌≤◌, Bool, true, false, ◌&&◌, List, [], ◌∷◌, ◌++◌, length, refl, sym, ap, ◌∙◌, arith, length-append}
-use Rattle.std.specs.Prelude.{codes, decimal, nat_le}
+use Rattle.std.proofs.Common.{◌≡◌, ℕ, ◌^◌, ◌<◌, ◌≤◌, true, false, ◌&&◌, List, [], ◌∷◌, ◌++◌, length, refl, sym, ap, ◌∙◌, arith, length-append}
+use Rattle.std.specs.Prelude.{codes, decimal}
 use Rattle.std.specs.Fmt.{digits}
 use Rattle.std.specs.Str.{is_utf8, IsUtf8, chars}
 use Rattle.std.proofs.lemmas.Bool.{agree_below_at, and_from, le-leb, both_ways}
 use Rattle.std.proofs.lemmas.Fmt.{IsAscii-decimal, length-decimal-le}
 use Rattle.std.proofs.lemmas.Str.{IsUtf8-append, IsUtf8-from_ascii, IsUtf8-from_is_utf8, is_utf8-from_IsUtf8}
-use Rattle.byte_fields.specs.Bytes.{is_text}
-use Rattle.changeset_model.specs.Path.{Path, elements, is_element, is_path, text_of}
+use Rattle.changeset_model.specs.Path.{elements, is_element, is_path, text_of}
 use Rattle.changeset_model.specs.Changeset.{is_author, is_message}
 use Rattle.changeset_model.proofs.Spelling.{elements-text_of}
 use Rattle.run_gen.specs.Stacks.{client_name, message_of, path_of}

@@ -6,13 +6,14 @@
 --     Enters header h ask body      the change is granted, and makes this entry;  MayBe answer      the answer to a change that is granted, unless there is no memory
 use Rattle.std.specs.Prelude.{◌≡◌, ℕ, true, List, [], Some, Result, Ok, Err}
 use Rattle.disk_model.specs.Meaning.{Meaning}
+use Rattle.changeset_model.specs.Version.{First}
 use Rattle.history_model.specs.Journal.{Header, Stands}
 use Rattle.run_gen.specs.Loads.{lead_entries}
 use Rattle.run_gen.specs.declared.fault.LoadFault.TheVariants.{Memory}
 use Rattle.history_model.specs.History.{Body, Entry}
 use Rattle.reply_model.specs.Reply.{Ask, Granted, judge}
 use Rattle.repo_calls.specs.declared.ask.Granted as own
-use Rattle.repo_state.specs.State.{IsQuiet, State}
+use Rattle.repo_state.specs.State.{IsQuiet, IsSealedAlone, State}
 use Rattle.repo_calls.specs.declared.calls.ChangeFault.{ChangeFault}
 use Rattle.repo_calls.specs.declared.calls.ChangeFault.TheVariants.{Refused, DiskFault}
 use Rattle.run_gen.specs.Outcomes.{fault_of}
@@ -21,7 +22,7 @@ abbrev pub load_capacity : ℕ
 load_capacity = 16_777_216
 
 abbrev pub load_header : Header
-load_header = record { capacity = load_capacity }
+load_header = record { capacity = load_capacity; version = First }
 
 pub record IsFresh (m : Meaning) : Type 0 where
   pub honest : m.honest ≡ true
@@ -39,6 +40,7 @@ pub record IsNew (s : State) : Type 0 where
   pub opened : s.opening.header ≡ load_header
   pub quiet : IsQuiet s.opening
   pub none : s.history ≡ []
+  pub sealed : IsSealedAlone s.history s.sealed
 
 pub record IsLed (s : State) : Type 0 where
   pub header : s.opening.header ≡ load_header

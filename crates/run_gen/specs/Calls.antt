@@ -3,12 +3,12 @@
 --     Went header who from calls to      the seat's front went from the one to the other by these calls
 --     asks_of calls, heads_of calls, bodies_of calls      what they asked, the heads that the landings among them left, and the entries that they made
 --     landings_in bodies      how many of these entries are landings
-use Rattle.std.specs.Prelude.{◌≡◌, ℕ, ◌+◌, zero, suc, List, [], ◌∷◌, map, flat_map, Option}
+use Rattle.std.specs.Prelude.{◌≡◌, ℕ, ◌+◌, List, [], ◌∷◌, map, flat_map, Option}
 use Rattle.std.specs.Option.{option_to_list}
 use Rattle.byte_fields.specs.Bytes.{Id}
-use Rattle.history_model.specs.History.{Body, Content, Change, Book, Land, Fault, Entry}
+use Rattle.history_model.specs.History.{Body, Content, Whole, Change, Book, Land, Policy, Fault, Entry}
 use Rattle.history_model.specs.Journal.{Header}
-use Rattle.reply_model.specs.Reply.{Ask, Granted, ContentPut, ChangesetPut, BookmarkSet, Landed}
+use Rattle.reply_model.specs.Reply.{Ask, Granted, ContentPut, WholePut, ChangesetPut, BookmarkSet, Landed}
 use Rattle.reply_model.specs.After.{After, Asks, Grants}
 
 pub record Call : Type 0 where
@@ -33,6 +33,7 @@ last_id old (x ∷ ids) = last_id x ids
 -- the head that a landing left
 abbrev pub heads_in : Granted → List Id
 heads_in (ContentPut x) = []
+heads_in (WholePut x n) = []
 heads_in (ChangesetPut x) = []
 heads_in BookmarkSet = []
 heads_in (Landed old ids) = last_id old ids ∷ []
@@ -50,9 +51,11 @@ bodies_of calls = flat_map (λ call. option_to_list call.made) calls
 
 abbrev pub landing_count : Body → ℕ
 landing_count (Content x n) = 0
+landing_count (Whole x n parts) = 0
 landing_count (Change c) = 0
 landing_count (Book move) = 0
 landing_count (Land landing) = 1
+landing_count (Policy caller text) = 0
 landing_count (Fault breaking) = 0
 
 abbrev pub landings_in : List Body → ℕ

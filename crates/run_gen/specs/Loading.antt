@@ -1,7 +1,7 @@
 -- What a load tells, and the history that it leaves.
 --     Leaves seed stacks clients outcome state      the state that the clients left: each landed so many stacks, or a call of one was refused
 --     Tells seed stacks clients answer state      the answer of a load, and the state that is handed back, but where memory ran out
-use Rattle.std.specs.Prelude.{◌≡◌, ℕ, Option, None, Some, Result, Ok, Err}
+use Rattle.std.specs.Prelude.{ℕ, Option, None, Some, Result, Ok, Err}
 use Rattle.run_gen.specs.Loads.{IsLoaded, IsStopped}
 use Rattle.run_gen.specs.declared.fault.LoadFault.{LoadFault}
 use Rattle.run_gen.specs.declared.fault.LoadFault.TheVariants.{Refused, Memory}

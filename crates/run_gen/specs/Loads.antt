@@ -19,7 +19,7 @@ abbrev pub base_entry : Entry
 base_entry = unnumbered (Change base)
 
 abbrev pub main_entry : Entry
-main_entry = unnumbered (Book (record { name = main; from = None; to = Some base_id }))
+main_entry = unnumbered (Book (record { name = main; from = None; to = Some base_id; caller = None }))
 
 abbrev pub lead_entries : List Entry
 lead_entries = base_entry ∷ main_entry ∷ []

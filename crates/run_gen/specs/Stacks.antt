@@ -10,14 +10,16 @@ use Rattle.std.specs.Prelude.{ℕ, zero, suc, ◌+◌, ◌==◌, if◌then◌els
 use Rattle.std.specs.Option.{option_to_list}
 use Rattle.sha2.specs.Sha256.{sha256}
 use Rattle.byte_fields.specs.Bytes.{Id}
+use Rattle.changeset_model.specs.Version.{First}
 use Rattle.changeset_model.specs.Path.{Path}
-use Rattle.changeset_model.specs.Changeset.{Changeset, File, FileChange, Set, Delete, Regular, spelling, id_of}
+use Rattle.changeset_model.specs.Changeset.{Changeset, FileChange, Set, Delete, Regular, spelling, id_of}
 use Rattle.reply_model.specs.Reply.{Ask, PutContent, PutChangeset, LandDraft}
+use Rattle.reply_model.specs.Opening.{nobody}
 use Rattle.run_gen.specs.Draws.{advanced, drawn}
 use Rattle.run_gen.specs.declared.part.Part.{Part}
 
 abbrev pub base : Changeset
-base = record { parents = []; author = codes "a"; seconds = pos 0; offset = pos 0; message = []; changes = [] }
+base = record { version = First; parents = []; author = codes "a"; seconds = pos 0; offset = pos 0; message = []; changes = [] }
 
 abbrev pub base_id : Id
 base_id = id_of base
@@ -51,7 +53,7 @@ content_of p = if p.chance == 0 then None else Some (decimal p.number)
 
 abbrev pub change_of : Option (List ℕ) → FileChange
 change_of None = Delete
-change_of (Some bytes) = Set (record { content = sha256 bytes; kind = Regular; size = length bytes })
+change_of (Some bytes) = Set (record { content = sha256 bytes; kind = Regular; size = length bytes }) None
 
 abbrev pub message_of : ℕ → ℕ → List ℕ
 message_of j k = codes "stack " ++ (decimal j ++ (codes " part " ++ decimal k))
@@ -59,7 +61,7 @@ message_of j k = codes "stack " ++ (decimal j ++ (codes " part " ++ decimal k))
 -- with what it does at one path
 abbrev pub edited : ℕ → ℕ → ℕ → Id → Path × FileChange → Changeset
 edited c j k parent edit =
-    record { parents = parent ∷ []; author = client_name c; seconds = pos 0; offset = pos 0; message = message_of j k; changes = edit ∷ [] }
+    record { version = First; parents = parent ∷ []; author = client_name c; seconds = pos 0; offset = pos 0; message = message_of j k; changes = edit ∷ [] }
 
 abbrev pub edit_on : ℕ → Part → Path × FileChange
 edit_on c p = (path_of c p, change_of (content_of p))
@@ -97,8 +99,9 @@ no_parts parent s = record { asks = []; last = parent; state = s }
 abbrev pub parts_on : ℕ → ℕ → Id → ℕ → Stack
 parts_on c j parent s = parts_of c j (drawn 3 (advanced s) + 1) (no_parts parent (advanced s))
 
+-- at the moment 0, by a caller who isn't told
 abbrev pub landed : Stack → Stack
-landed stack = record stack { asks = stack.asks ++ LandDraft main stack.last ∷ [] }
+landed stack = record stack { asks = stack.asks ++ LandDraft nobody main stack.last 0 ∷ [] }
 
 abbrev pub stack_of : ℕ → ℕ → Id → ℕ → Stack
 stack_of c j parent s = landed (parts_on c j parent s)

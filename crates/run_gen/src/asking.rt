@@ -2,6 +2,7 @@
 ghost use Rattle.std.specs.Prelude.{◌≡◌, ◌∷◌, [], IfOk, IsTrue};
 ghost use Rattle.bookmark_lock.specs.Place.{moved};
 ghost use Rattle.reply_model.specs.Reply.{LandDraft};
+ghost use Rattle.reply_model.specs.Opening.{nobody};
 ghost use Rattle.repo_calls.specs.Calls.{ask_seen, granted_seen};
 ghost use Rattle.repo_state.specs.State.{IsQuiet};
 ghost use Rattle.run_gen.specs.Answers.{Answered};
@@ -107,7 +108,7 @@ fn head_of(landed: &Landed) -> Id
     }
 }
 
-/// Asks for a landing, and gives the head that it left.
+/// Asks for a landing at the moment 0, and gives the head that it left.
 pub(crate) fn land<R: Wait, D: Disk>(
     rt: &R,
     alloc: Global,
@@ -119,9 +120,14 @@ pub(crate) fn land<R: Wait, D: Disk>(
     requires place { seat.old.lock ≡ repo.now }
     requires quiet { IsQuiet repo.now.opening }
     ensures seat { seat.new ≡ moved seat.old seat.new }
-    ensures answered { Answered repo.now.opening.header seat.old.number seat.old.front (LandDraft name.now draft ∷ []) (heads_given result) result seat.new.front }
+    ensures answered { Answered repo.now.opening.header seat.old.number seat.old.front (LandDraft nobody name.now draft 0 ∷ []) (heads_given result) result seat.new.front }
 {
-    let answer = ask(rt, alloc, repo, seat, &Ask::Land { name, draft });
+    let landing = Ask::Land {
+        name,
+        draft,
+        moment: 0,
+    };
+    let answer = ask(rt, alloc, repo, seat, &landing);
     left_by(answer)
 }
 

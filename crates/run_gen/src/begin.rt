@@ -3,7 +3,7 @@ ghost use Rattle.std.specs.Prelude.{◌≡◌, ◌∷◌, ◌++◌, [], IfOk, Is
 ghost use Rattle.blob_disk.specs.MemDisk.{told_of};
 ghost use Rattle.history_model.specs.History.{Body, unnumbered};
 ghost use Rattle.repo_calls.specs.Calls.{ask_seen};
-ghost use Rattle.repo_state.specs.State.{IsQuiet};
+ghost use Rattle.repo_state.specs.State.{IsAllSealed, IsQuiet};
 ghost use Rattle.run_gen.specs.Begun.{Enters, IsFresh, IsLed, IsMade, IsNew, MayBe};
 
 use crate::asking::fault_of;
@@ -14,7 +14,7 @@ use object_id::Id;
 use recovery::{OpenFault, Opened, open};
 use repo_calls::{Ask, ChangeFault, Granted};
 use repo_journal::{InitFault, init};
-use repo_state::RepoState;
+use repo_state::{Alone, RepoState};
 use std::alloc::{AllocError, Global};
 use std::hash::RandomState;
 
@@ -74,20 +74,20 @@ fn whether(answer: Result<Granted, ChangeFault>) -> Result<(), AllocError>
     }
 }
 
-// Makes a change that is granted, and makes an entry.
-fn store(alloc: Global, state: &mut RepoState<MemDisk>, change: &Ask) -> Result<(), AllocError>
+// Makes a change that is granted, and makes an entry, which is sealed.
+fn store(alloc: Global, state: &mut Alone<MemDisk>, change: &Ask) -> Result<(), AllocError>
     requires quiet { IsQuiet state.old.opening }
     requires enters { (body : Body) × Enters state.old.header state.old.history (ask_seen change.now) body }
     ensures header { state.new.header ≡ state.old.header }
     ensures opening { state.new.opening ≡ state.old.opening }
     ensures entered { (body : Body) → Enters state.old.header state.old.history (ask_seen change.now) body → OnOk result (state.new.history ≡ state.old.history ++ unnumbered body ∷ []) }
 {
-    let answer = state.store(alloc, 0, change);
+    let answer = state.store(alloc, change);
     whether(answer)
 }
 
 // Stores the base, and makes the bookmark at it.
-fn lead(alloc: Global, state: &mut RepoState<MemDisk>) -> Result<(), AllocError>
+fn lead(alloc: Global, state: &mut Alone<MemDisk>) -> Result<(), AllocError>
     requires { IsNew state.old }
     ensures { OnOk result (IsLed state.new) }
 {
@@ -109,11 +109,12 @@ fn lead(alloc: Global, state: &mut RepoState<MemDisk>) -> Result<(), AllocError>
 /// A new repository in memory with the base and the bookmark at it. No call of its disk will fail.
 /// Its tables by ids are hashed with these keys.
 pub fn begin(alloc: Global, keys: RandomState) -> Result<RepoState<MemDisk>, AllocError>
-    ensures { IfOk result (λ state. IsLed state) }
+    ensures led { IfOk result (λ state. IsLed state) }
+    ensures sealed { IfOk result (λ state. IsAllSealed state.history state.sealed) }
 {
     let mut disk = new_disk(alloc)?;
     make_repository(&mut disk);
-    let mut state = open_repository(alloc, keys, disk)?;
-    lead(alloc, &mut state)?;
-    Ok(state)
+    let mut alone = Alone::new(open_repository(alloc, keys, disk)?);
+    lead(alloc, &mut alone)?;
+    Ok(alone.into_state())
 }

@@ -1,6 +1,6 @@
 //! A whole load, from its first entry to its summary.
 ghost use Rattle.std.specs.Prelude.{◌≡◌, ◌<◌, ◌≤◌, ◌^◌, IfOk, IfSome};
-ghost use Rattle.repo_state.specs.State.{IsQuiet};
+ghost use Rattle.repo_state.specs.State.{IsAllSealed, IsQuiet};
 ghost use Rattle.run_gen.specs.Begun.{load_header};
 ghost use Rattle.run_gen.specs.Loading.{Leaves, Tells};
 
@@ -39,6 +39,7 @@ fn run<R: Threads + Wait + Sync>(
     ensures leaves { IfOk result (λ left. Leaves seed stacks clients left.outcome left.state) }
     ensures quiet { IfOk result (λ left. IsQuiet left.state.opening) }
     ensures header { IfOk result (λ left. left.state.opening.header ≡ load_header) }
+    ensures sealed { IfOk result (λ left. IsAllSealed left.state.history left.state.sealed) }
 {
     let state = begin(alloc, keys)?;
     let (repo, mut lead) = Repo::new(alloc, state)?;
@@ -73,6 +74,7 @@ pub fn load<R: Threads + Wait + Sync>(
     ensures quiet { IfSome result.1 (λ s. IsQuiet s.opening) }
     // Its file may have so many bytes.
     ensures header { IfSome result.1 (λ s. s.opening.header ≡ load_header) }
+    ensures sealed { IfSome result.1 (λ s. IsAllSealed s.history s.sealed) }
 {
     let Ok(Left { outcome, mut state }) = run(rt, alloc, keys, seed, stacks, clients) else {
         return (Err(LoadFault::Memory), None);

@@ -30,6 +30,7 @@ fn head_of<D: Disk>(state: &mut RepoState<D>, alloc: Global) -> Result<Id, Alloc
     ensures head { IfOk result (λ id. head state.old.history main ≡ Some id) }
     ensures same { state.new.history ≡ state.old.history }
     ensures opening { state.new.opening ≡ state.old.opening }
+    ensures sealed { state.new.sealed ≡ state.old.sealed }
 {
     let name = main_name(alloc)?;
     match state.look(alloc, 0, &Question::Head(&name)) {
@@ -44,6 +45,7 @@ fn root_of<D: Disk>(state: &mut RepoState<D>, alloc: Global, id: Id) -> Result<I
     ensures root { IfOk result (λ root. root ≡ fsnode_id (fsnode (files_of (known state.old.history) id) [])) }
     ensures same { state.new.history ≡ state.old.history }
     ensures opening { state.new.opening ≡ state.old.opening }
+    ensures sealed { state.new.sealed ≡ state.old.sealed }
 {
     match state.fsnode(alloc, id, None) {
         Ok(bytes) => Ok(Id::of(bytes.as_slice())),
@@ -59,6 +61,7 @@ pub(crate) fn sum_up<D: Disk>(
     ensures sums { IfOk result (SumsUp state.old.history) }
     ensures same { state.new.history ≡ state.old.history }
     ensures opening { state.new.opening ≡ state.old.opening }
+    ensures sealed { state.new.sealed ≡ state.old.sealed }
 {
     let counts = state.counts();
     let head = head_of(state, alloc)?;

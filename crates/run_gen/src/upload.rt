@@ -1,14 +1,14 @@
 //! What a client uploads for one changeset of a stack.
-ghost use Rattle.std.specs.Prelude.{◌≡◌, ◌<◌, ◌≤◌, ◌∷◌, [], IfOk, IfSome, IsTrue, OnOk, length, option_map, string_bytes};
-ghost use Rattle.changeset_model.specs.Changeset.{id_of, is_change, spelling};
-ghost use Rattle.bonsai.specs.Making.{keeps_size};
+ghost use Rattle.std.specs.Prelude.{◌≡◌, ◌<◌, ◌≤◌, ◌∷◌, [], None, IfOk, IfSome, IsTrue, OnOk, length, option_map, string_bytes};
+ghost use Rattle.changeset_model.specs.Changeset.{id_of, source_of, spelling};
+ghost use Rattle.bonsai.specs.Making.{is_sized, keeps_size};
 ghost use Rattle.bonsai.specs.View.{change_view, edit_view, fields_view};
 ghost use Rattle.run_gen.specs.Stacks.{after_part, change_of, changeset_of, content_of, edit_on, edited, part_of};
 
 use crate::draws::Draws;
 use crate::names::{author, keep_the_rules, message, path};
 use crate::part::Part;
-use bonsai::{Change, Changeset, Edit, Fields, FieldsFault, FileKind, encode};
+use bonsai::{Change, Changeset, Edit, Fields, FieldsFault, FileKind, Version, encode};
 use object_id::Id;
 use std::alloc::{AllocError, Global};
 
@@ -65,6 +65,7 @@ fn edit_of(
     requires short { IfSome content.now (λ text. length (string_bytes text) ≤ 6) }
     ensures edit { IfOk result (λ edit. edit_view edit ≡ edit_on client part.now) }
     ensures rules { IfOk result (λ edit. IsTrue (keeps_size (edit_view edit))) }
+    ensures source { IfOk result (λ edit. source_of (edit_view edit).1 ≡ None) }
 {
     let path = path(alloc, client, part)?;
     let change = change_to(content);
@@ -74,7 +75,8 @@ fn edit_of(
 fn change_to(content: &Option<String>) -> Change
     requires { IfSome content.now (λ text. length (string_bytes text) ≤ 6) }
     ensures change { change_view result ≡ change_of (option_map string_bytes content.now) }
-    ensures rules { IsTrue (is_change (change_view result)) }
+    ensures rules { IsTrue (is_sized (change_view result)) }
+    ensures source { source_of (change_view result) ≡ None }
 {
     let Some(text) = content else {
         return Change::Delete;
@@ -86,6 +88,7 @@ fn change_to(content: &Option<String>) -> Change
         content: id,
         kind: FileKind::Regular,
         size: text.len() as u64,
+        copied: None,
     }
 }
 
@@ -100,6 +103,7 @@ fn changeset(
 ) -> Result<Changeset, AllocError>
     requires client { client < 8 }
     requires edit { IsTrue (keeps_size (edit_view edit)) }
+    requires source { source_of (edit_view edit).1 ≡ None }
     ensures { IfOk result (λ c. c ≡ edited client stack place parent (edit_view edit)) }
 {
     let fields = fields(alloc, client, stack, place, parent, edit)?;
@@ -123,6 +127,7 @@ fn fields(
     ensures { IfOk result (λ fields. fields_view fields ≡ edited client stack place parent (edit_view edit)) }
 {
     Ok(Fields {
+        version: Version::First,
         parents: Vec::from_array(alloc, [parent])?,
         author: author(alloc, client)?,
         seconds: 0,
@@ -151,6 +156,7 @@ fn want_of_memory(fault: FieldsFault) -> AllocError
         | FieldsFault::BadMessage
         | FieldsFault::TooManyEdits
         | FieldsFault::TooLarge
+        | FieldsFault::BadSource
         | FieldsFault::Unordered
         | FieldsFault::SelfConflict { .. } => unreachable!(),
     }

@@ -1,11 +1,19 @@
 -- A seat that shows what a read asks for, or tells why it shows nothing, whatever the history is. It grants no change.
 --     IsTold call answer      it may answer the call so;  lawful      a seat may have this relation
+--     IsLanding entry, IsPage page      the log may tell this of some entry, and this page of some entries, of which there are no more than it says
+use Rattle.std.specs.Prelude.{◌≡◌, ◌≤◌, List, length, Some}
+use Rattle.history_model.specs.History.{Entry}
+use Rattle.reply_model.specs.Log.{line_of, lines_of}
 use Rattle.reply_model.specs.Reply.{Seen}
-use Rattle.reply_model.specs.After.{Call, Asks, Looks, Derives, Answer, Grants, Refuses, Shows, Lacks, Roots, DiskFault, ReadFault, BadBytes, NodeCollision, Memory}
+use Rattle.reply_model.specs.After.{Call, Asks, Joins, Looks, Derives, Answer, Grants, Refuses, Shows, Lacks, Roots, DiskFault, ReadFault, BadBytes, NodeCollision, Memory}
+use Rattle.repo_calls.specs.declared.log.LogEntry.{LogEntry}
+use Rattle.repo_calls.specs.declared.log.LogPage.{LogPage}
+use Rattle.repo_calls.specs.Calls.{line_seen, lines_seen}
 use Rattle.repo_calls.specs.Replying.{Shown, IsReplying}
 
 abbrev pub IsShown : Call → Seen → Type 0
 IsShown (Asks ask) seen = ⊥
+IsShown (Joins body) seen = ⊥
 IsShown (Looks question) seen = Shown question seen
 IsShown (Derives x) seen = ⊥
 
@@ -27,3 +35,9 @@ lawful = record {
   shown = λ header h who question seen new r. r;
   memory = λ header h who call answer new none r. tt;
 }
+
+abbrev pub IsLanding : LogEntry → Type 0
+IsLanding entry = (e : Entry) × (line_of e.body ≡ Some (line_seen entry))
+
+abbrev pub IsPage : LogPage → Type 0
+IsPage page = (entries : List Entry) × (lines_seen page.entries.items ≡ lines_of entries) × (length entries ≤ page.total)

@@ -1,10 +1,11 @@
 //! Sessions by rows: a request, the status, the body of the response, and a header field more, where there is one. `ABC`
 //! and `NIL` are the ids of `abc` and of nothing.
+use crate::ticking::Ticking;
 use crate::told::Told;
 use http_front::ended::Ended;
 use http_front::session::serve_session;
 use object_id::Id;
-use ports::MemLink;
+use ports::{Clock, MemLink};
 use std::alloc::Global;
 use std::test::Fail;
 
@@ -16,6 +17,12 @@ const NIL: &str = "e3b0c44298fc1c149afbf4c8996fb92427ae41e4649b934ca495991b7852b
 const ROWS: &str =
     r#"GET /content/ABC | 500 Internal Server Error | {"code":"bad-bytes","found":"NIL","wanted":"ABC"}
 PUT /content | 503 Service Unavailable | {"code":"memory"}
+POST /land/main/ABC | 503 Service Unavailable | {"code":"memory"}
+PUT /bookmark/main/none/ABC | 503 Service Unavailable | {"code":"memory"}
+POST /land/main/x | 400 Bad Request | {"code":"bad-id","place":0}
+GET /land/main/ABC | 405 Method Not Allowed | {"code":"method"} | Allow: POST
+POST /land/main/NIL | 503 Service Unavailable | {"code":"memory"}
+GET /log/0 | 200 OK | {"code":"log","entries":[{"draft":"ABC","ids":[],"kind":"landing","name":"main","number":0,"old":"NIL"},{"draft":"ABC","ids":[],"kind":"landing","moment":1000,"name":"main","number":1,"old":"NIL"}],"total":2}
 GET /fsnode/ABC | 200 OK | fsnode
 GET /fsnode/ABC/a/b | 200 OK | fsnode a/b
 GET /fsnode/ABC/%61%2Fb?c | 200 OK | fsnode a/b
@@ -39,7 +46,14 @@ GET /history/ABC/a/b | 200 OK | {"code":"history","ids":["NIL","ABC"]}
 GET /history/ABC/dir | 404 Not Found | {"code":"not-a-file"}
 GET /history/ABC/unread | 500 Internal Server Error | {"code":"read-fault"}
 GET /history/ABC | 404 Not Found | {"code":"no-route"}
-PUT /history/ABC/a | 405 Method Not Allowed | {"code":"method"} | Allow: GET"#;
+PUT /history/ABC/a | 405 Method Not Allowed | {"code":"method"} | Allow: GET
+GET /copies/ABC | 200 OK | {"code":"copies","copies":[{"from":"p","parent":0,"to":"q"},{"from":"d/p","parent":1,"to":"r\"s"}]}
+GET /copies/%42A7816bf8f01cfea414140de5dae2223b00361a396177a9cb410ff61f20015ad | 200 OK | {"code":"copies","copies":[{"from":"p","parent":0,"to":"q"},{"from":"d/p","parent":1,"to":"r\"s"}]}
+GET /copies/NIL | 404 Not Found | {"code":"no-changeset","id":"NIL"}
+GET /copies/x | 400 Bad Request | {"code":"bad-id","place":0}
+GET /copies/ABC/a | 404 Not Found | {"code":"no-route"}
+GET /copies | 404 Not Found | {"code":"no-route"}
+PUT /copies/ABC | 405 Method Not Allowed | {"code":"method"} | Allow: GET"#;
 
 // The first field of a row, and those after it.
 fn cut(row: &str) -> (&str, &str) {
@@ -101,7 +115,9 @@ fn rows_are_answered_in_one_session(rt: HostRuntime) -> Result<(), Fail> {
     let mut seat = Told {
         known: Id::of(b"abc"),
         other: Id::of(b""),
+        moments: Vec::new(alloc),
     };
+    let clock = Ticking::new();
     let mut link = MemLink::new(
         alloc,
         requests.into_bytes(),
@@ -110,7 +126,11 @@ fn rows_are_answered_in_one_session(rt: HostRuntime) -> Result<(), Fail> {
         Vec::new(alloc),
         Vec::new(alloc),
     )?;
-    assert_eq!(rt; serve_session(alloc, &mut seat, &mut link), Ended::Whole);
+    let end = serve_session(alloc, &mut seat, &mut link, &clock);
+    assert_eq!(rt; end, Ended::Whole);
     assert_eq!(rt; link.written(), responses.as_bytes());
+    // the clock is read for the two landings, and for nothing else
+    assert_eq!(rt; seat.moments.as_slice(), [1_000, 1_001].as_slice());
+    assert_eq!(rt; clock.now(), 1_002);
     Ok(())
 }

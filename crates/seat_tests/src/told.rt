@@ -1,19 +1,24 @@
 //! A seat whose answers depend on what is asked for alone.
-ghost use Rattle.std.specs.Prelude.{[]};
+ghost use Rattle.std.specs.Prelude.{[], IfOk};
 ghost use Rattle.bookmark_lock.specs.Opening.{unopened};
-ghost use Rattle.seat_tests.specs.Told.{IsTold, lawful};
+ghost use Rattle.seat_tests.specs.Told.{IsTold, IsLanding, IsPage, lawful};
 
 use object_id::Id;
-use repo_calls::{Ask, AskFault, ChangeFault, Granted, Question, Refusal, Seat, Seen};
-use repo_path::RepoPath;
+use repo_calls::{
+    Ask, AskFault, ChangeFault, CopiedPath, Granted, LogEntry, LogPage, Question, Refusal, Seat,
+    Seen,
+};
+use repo_path::{BookName, RepoPath};
 use std::alloc::Global;
 
-/// A seat that knows one changeset, whose id is that of `abc`. Each content has the bytes of another id. All else wants
-/// memory.
+/// A seat that knows one changeset, whose id is that of `abc`, and tells of two landings. Each content has the bytes of
+/// another id. All else wants memory.
 #[derive(Drop)]
 pub(crate) struct Told {
     pub(crate) known: Id,
     pub(crate) other: Id,
+    /// When it was asked to land.
+    pub(crate) moments: Vec<u64>,
 }
 
 impl Seat for Told {
@@ -27,9 +32,10 @@ impl Seat for Told {
 
     ghost home = { λ _. tt };
 
-    ghost replies = { λ _ _ _ call answer _. IsTold call answer };
+    ghost replies = { λ _ _ _ _ call answer _. IsTold call answer };
 
-    fn change(&mut self, _alloc: Global, _ask: &Ask) -> Result<Granted, ChangeFault> {
+    fn change(&mut self, _alloc: Global, ask: &Ask) -> Result<Granted, ChangeFault> {
+        self.note(ask);
         Err(ChangeFault::Refused(Refusal::Memory))
     }
 
@@ -42,14 +48,37 @@ impl Seat for Told {
             Question::Fsnode(id, dir) => Ok(Seen::Bytes(self.node(alloc, id, "fsnode", dir)?)),
             Question::Unode(id, path) => Ok(Seen::Bytes(self.node(alloc, id, "unode", path)?)),
             Question::History(id, path) => Ok(Seen::Ids(self.history(alloc, id, path)?)),
+            Question::Copies(id) => Ok(Seen::Copies(self.copies(alloc, id)?)),
+            Question::Log(0) => Ok(Seen::Log(self.page(alloc)?)),
             _ => Err(AskFault::Memory),
         }
     }
 
-    ghost lawful = { lawful };
+    ghost lawful = { λ _. lawful };
+}
+
+fn path_of(alloc: Global, text: &str) -> Result<RepoPath, AskFault> {
+    match RepoPath::parse(alloc, text) {
+        Ok(path) => Ok(path),
+        Err(_) => Err(AskFault::Memory),
+    }
+}
+
+fn copied(alloc: Global, to: &str, parent: u8, from: &str) -> Result<CopiedPath, AskFault> {
+    Ok(CopiedPath {
+        to: path_of(alloc, to)?,
+        parent,
+        from: path_of(alloc, from)?,
+    })
 }
 
 impl Told {
+    fn note(&mut self, ask: &Ask) {
+        if let Ask::Land { moment, .. } = ask {
+            let _ = self.moments.push(*moment);
+        }
+    }
+
     fn know(&self, id: Id) -> Result<(), AskFault> {
         if id == self.known {
             return Ok(());
@@ -91,5 +120,42 @@ impl Told {
         self.know(id)?;
         self.find(path)?;
         Ok(Vec::from_slice(alloc, &[self.other, self.known])?)
+    }
+
+    fn copies(&self, alloc: Global, id: Id) -> Result<Vec<CopiedPath>, AskFault> {
+        self.know(id)?;
+        let mut copies = Vec::new(alloc);
+        copies.push(copied(alloc, "q", 0, "p")?)?;
+        copies.push(copied(alloc, "r\"s", 1, "d/p")?)?;
+        Ok(copies)
+    }
+
+    // One that landed no changeset.
+    fn landing(&self, alloc: Global, moment: Option<u64>) -> Result<LogEntry, AskFault>
+        ensures { IfOk result IsLanding }
+    {
+        match BookName::parse(alloc, "main") {
+            Ok(name) => Ok(LogEntry::Landing {
+                name,
+                old: self.other,
+                draft: self.known,
+                moment,
+                ids: Vec::new(alloc),
+                caller: None,
+            }),
+            Err(_) => Err(AskFault::Memory),
+        }
+    }
+
+    // Two landings, of which the later one tells when it was.
+    fn page(&self, alloc: Global) -> Result<LogPage, AskFault>
+        ensures { IfOk result IsPage }
+    {
+        let first = self.landing(alloc, None)?;
+        let second = self.landing(alloc, Some(1_000))?;
+        let mut entries = Vec::new(alloc);
+        entries.push(first)?;
+        entries.push(second)?;
+        Ok(LogPage { entries, total: 2 })
     }
 }

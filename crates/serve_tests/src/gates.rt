@@ -24,6 +24,11 @@ impl<'a> FirstWaits<'a> {
         }
     }
 
+    /// How often landings came here by now.
+    pub(crate) fn came(&self) -> &AtomicU64 {
+        &self.came
+    }
+
     /// How often landings came here, and how many gave up waiting.
     pub(crate) fn told(&self) -> (u64, u64) {
         (

@@ -17,20 +17,26 @@ e8795b6f358309976a85a48b88590a7b77ffcdc1ce55d29a761853d4ff0669f0 430101ffb74880a
 6f0fd4791e9901030b778dc51bebc28effb042f328726c7f1689026f5b9c68c8 430101ffb74880ae0d3038b6e6e402ea0840634c79efb3c927e280d44f36567ece7169000161000000000000000000000000000000000000000100017801000000000000000003ba7816bf8f01cfea414140de5dae2223b00361a396177a9cb410ff61f20015ad";
 
 /// How many bytes the answers to a connection's two uploads have.
-const STORED: u64 = ANSWER + 163;
+pub(crate) const STORED: u64 = ANSWER + 163;
 
 /// How many bytes the answer to a landing has.
-const LANDED: u64 = 311;
+pub(crate) const LANDED: u64 = 311;
 
-// The requests of a connection, which put the content and a draft, and land the draft.
-fn requests_of(alloc: Global, row: &str) -> Result<Vec<u8>, Fail> {
-    let (id, digits) = row.split_once(" ").ok_or("a draft")?;
+/// The requests that put the content and a changeset of 103 bytes.
+pub(crate) fn uploads_of(alloc: Global, digits: &str) -> Result<Vec<u8>, Fail> {
     let put = "PUT /changeset HTTP/1.1\r\nContent-Length: 103\r\n\r\n";
     let bytes = hex::decode(alloc, digits)?;
-    let land = format!(in alloc; "POST /land/main/{id} HTTP/1.1\r\n\r\n")?;
     let mut input = Vec::from_slice(alloc, REQUEST)?;
     input.extend_from_slice(put.as_bytes())?;
     input.extend_from_slice(bytes.as_slice())?;
+    Ok(input)
+}
+
+/// The requests of a connection, which put the content and a draft, and land the draft.
+pub(crate) fn requests_of(alloc: Global, row: &str) -> Result<Vec<u8>, Fail> {
+    let (id, digits) = row.split_once(" ").ok_or("a draft")?;
+    let land = format!(in alloc; "POST /land/main/{id} HTTP/1.1\r\n\r\n")?;
+    let mut input = uploads_of(alloc, digits)?;
     input.extend_from_slice(land.as_bytes())?;
     Ok(input)
 }

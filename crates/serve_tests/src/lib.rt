@@ -9,4 +9,6 @@ mod given;
 #[cfg(test)]
 mod landings;
 #[cfg(test)]
+mod moves;
+#[cfg(test)]
 mod servers;

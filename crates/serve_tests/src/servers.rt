@@ -5,7 +5,10 @@ use crate::given::{calls, empty_opener, link_of, opener_of, words};
 use blob_disk::{Disk, MemDisk};
 use command_line::{Ran, Status, run};
 use net_ports::TcpAccept;
-use ports::{Accept, Failed, Gate, Link, MemAccept, MemLink, MemOpener, NoGate, Opener, ZeroBytes};
+use ports::{
+    Accept, Failed, FixedClock, Gate, Link, MemAccept, MemLink, MemOpener, NoGate, Opener,
+    ZeroBytes,
+};
 use std::alloc::Global;
 use std::hash::RandomState;
 use std::io::{Eprint, Read, Write};
@@ -34,7 +37,7 @@ pub(crate) const REQUEST: &[u8] = b"PUT /content HTTP/1.1\r\nContent-Length: 3\r
 pub(crate) const ANSWER: u64 = 170;
 
 /// How many bytes the answer has that tells where `main` is.
-const BOOKMARK: u64 = 179;
+pub(crate) const BOOKMARK: u64 = 179;
 
 /// A link over memory that counts the bytes of writes that were done, where the test can see them.
 #[derive(Drop)]
@@ -136,16 +139,16 @@ const SERVERS: &[Server] = &[
         sent: ANSWER,
         ..TWO
     },
-    // the disk fails, which the first answer says, and reads go on
+    // the disk fails, which the first answer says; on the next connection a change is refused, and reads go on
     Server {
         line: "hg_cli serve repository A 1 0 2",
         file: WITH_MAIN,
         unsynced: Some(1),
-        then: b"GET /bookmark/main HTTP/1.1\r\n\r\n",
+        then: b"PUT /content HTTP/1.1\r\nContent-Length: 3\r\n\r\nabcGET /bookmark/main HTTP/1.1\r\n\r\n",
         status: Status::DiskFault,
         said: "disk fault\n",
         left: None,
-        sent: 111 + BOOKMARK,
+        sent: 111 + 105 + BOOKMARK,
         ..TWO
     },
     // no repository
@@ -221,7 +224,8 @@ where
     G: Gate + Sync,
 {
     let keys = keys()?;
-    Ok(run(rt, alloc, keys, words, link, opener, accept, gate))
+    let clock = FixedClock { moment: 0 };
+    Ok(run(rt, alloc, keys, words, link, opener, accept, gate, &clock))
 }
 
 // A run on this line.

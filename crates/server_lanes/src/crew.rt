@@ -13,7 +13,7 @@ use crate::run::Run;
 use crate::tally::Tally;
 use blob_disk::Disk;
 use derive_pool::{Feed, ids_channel};
-use ports::{Accept, Gate, Link};
+use ports::{Accept, Clock, Gate, Link};
 use routes::Routes;
 use shared_repo::{Repo, RepoSeat};
 use std::alloc::{AllocError, Global};
@@ -87,10 +87,12 @@ pub(crate) fn run_crew<
     L: Link + Send,
     K: Run + Send + Sync,
     E: Ledger + Send + Sync,
+    C: Clock + Sync,
 >(
     rt: &R,
     alloc: Global,
     routes: &Routes,
+    clock: &C,
     door: &Mutex<Door<A, L, K, E>>,
     lanes: &mut [Lane<'_, R, D, G, L, K, E>],
     derivers: &mut [Deriver<'_, R, D>],
@@ -109,7 +111,7 @@ pub(crate) fn run_crew<
         &|_, lane: &mut Lane<'_, R, D, G, L, K, E>|
             requires { lane.old.tally.parts ≡ 1 }
             ensures { HasRun lane.old lane.new }
-        { serve_links(rt, alloc, routes, door, lane) },
+        { serve_links(rt, alloc, routes, door, lane, clock) },
         derivers,
         lanes,
     );

@@ -9,7 +9,7 @@ use crate::run::Run;
 use crate::tally::Tally;
 use blob_disk::Disk;
 use derive_pool::Feed;
-use ports::{Accept, Gate, Link};
+use ports::{Accept, Clock, Gate, Link};
 use routes::Routes;
 use shared_repo::{RepoSeat, Served};
 use std::alloc::Global;
@@ -43,12 +43,13 @@ impl<'a, R: Wait, D: Disk, G: Gate, L: Link, K: Run, E: Ledger> Lane<'a, R, D, G
     }
 
     // Takes a link of the door and serves it to its end. Says whether there was one.
-    fn serve_next<A: Accept<L>>(
+    fn serve_next<A: Accept<L>, C: Clock>(
         &mut self,
         rt: &R,
         alloc: Global,
         routes: &Routes,
         door: &Mutex<Door<A, L, K, E>>,
+        clock: &C,
     ) -> bool
         requires { 0 < self.old.tally.parts }
         ensures home { home_of self.new.place ≡ home_of self.old.place }
@@ -56,7 +57,7 @@ impl<'a, R: Wait, D: Disk, G: Gate, L: Link, K: Run, E: Ledger> Lane<'a, R, D, G
         ensures told { OnFalse result (0 < self.new.tally.told) }
     {
         self.tally
-            .serve_next(rt, alloc, routes, door, &mut self.seat)
+            .serve_next(rt, alloc, routes, door, &mut self.seat, clock)
     }
 
     // Tells the derivers, if there are any, the heads of the bookmarks, unless another lane does.
@@ -108,19 +109,29 @@ impl<'a, R: Wait, D: Disk, G: Gate, L: Link, K: Run, E: Ledger> Lane<'a, R, D, G
 /// The lane takes links of the door, one after another, and serves each to its end, however that is,
 /// until no more will come. Before the first it tells the derivers the heads of the bookmarks, if that is left to it, and
 /// after each what the log has since.
-pub(crate) fn serve_links<R: Wait, D: Disk, G: Gate, L: Link, K: Run, E: Ledger, A: Accept<L>>(
+pub(crate) fn serve_links<
+    R: Wait,
+    D: Disk,
+    G: Gate,
+    L: Link,
+    K: Run,
+    E: Ledger,
+    A: Accept<L>,
+    C: Clock,
+>(
     rt: &R,
     alloc: Global,
     routes: &Routes,
     door: &Mutex<Door<A, L, K, E>>,
     lane: &mut Lane<'_, R, D, G, L, K, E>,
+    clock: &C,
 )
     requires { 0 < lane.old.tally.parts }
     ensures { HasRun lane.old lane.new }
 {
     lane.tell_heads(rt, alloc);
     for _ in rt.forever() {
-        let served = lane.serve_next(rt, alloc, routes, door);
+        let served = lane.serve_next(rt, alloc, routes, door, clock);
         if !served {
             lane.end_feed();
             return;

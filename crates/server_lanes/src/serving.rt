@@ -3,6 +3,7 @@ ghost use Rattle.std.specs.Prelude.{◌≡◌, ◌+◌, ◌<◌, ◌≤◌, ◌^
 ghost use mathlib.Core.List.{IsPrefix};
 ghost use Rattle.history_model.specs.History.{Entry};
 ghost use Rattle.repo_machine.specs.Seats.{cleared};
+ghost use Rattle.repo_state.specs.State.{IsAllSealed};
 ghost use Rattle.bookmark_lock.specs.Place.{lead_place};
 ghost use Rattle.shared_repo.specs.Front.{IsFront};
 ghost use Rattle.server_lanes.specs.Derivers.{AreNumbered, AreUnused, IsIdle};
@@ -18,7 +19,7 @@ use crate::run::Run;
 use crate::tally::Tally;
 use blob_disk::Disk;
 use http_front::connection::ServedLinks;
-use ports::{Accept, Gate, Link};
+use ports::{Accept, Clock, Gate, Link};
 use repo_state::RepoState;
 use routes::Routes;
 use shared_repo::{Repo, RepoSeat};
@@ -38,10 +39,12 @@ fn serve_by<
     L: Link + Send,
     K: Run + Send + Sync,
     E: Ledger + Send + Sync,
+    C: Clock + Sync,
 >(
     rt: &R,
     alloc: Global,
     routes: &Routes,
+    clock: &C,
     repo: &Repo<D>,
     lead: &mut RepoSeat,
     crew: Crew<'_, R, D, G, L, K, E>,
@@ -70,6 +73,7 @@ fn serve_by<
         rt,
         alloc,
         routes,
+        clock,
         &shared,
         lanes.as_mut_slice(),
         derivers.as_mut_slice(),
@@ -89,10 +93,12 @@ fn serve_on<
     L: Link + Send,
     K: Run + Send + Sync,
     E: Ledger + Send + Sync,
+    C: Clock + Sync,
 >(
     rt: &R,
     alloc: Global,
     routes: &Routes,
+    clock: &C,
     repo: Repo<D>,
     lead: RepoSeat,
     gate: &G,
@@ -116,6 +122,7 @@ fn serve_on<
     ensures begins { IfSome result.state (λ s. IsPrefix lead.front s.history) }
     ensures front { IfSome result.state (λ s. IsFront s.opening s.history) }
     ensures numbers { IfSome result.state (λ s. All (λ (e : Entry). e.who ≤ numbers.lanes) s.history) }
+    ensures sealed { IfSome result.state (λ s. IsAllSealed s.history s.sealed) }
 {
     let mut lead = lead;
     let mut tally = tally;
@@ -126,7 +133,9 @@ fn serve_on<
             served: ServedLinks::new(),
         };
     };
-    let (accept, served) = serve_by(rt, alloc, routes, &repo, &mut lead, crew, door, tally);
+    let (accept, served) = serve_by(
+        rt, alloc, routes, clock, &repo, &mut lead, crew, door, tally,
+    );
     Closing {
         state: Some(repo.close(lead)),
         accept,
@@ -143,18 +152,21 @@ fn run<
     L: Link + Send,
     K: Run + Send + Sync,
     E: Ledger + Send + Sync,
+    C: Clock + Sync,
 >(
     rt: &R,
     alloc: Global,
     state: RepoState<D>,
     accept: A,
     gate: &G,
+    clock: &C,
     lanes: u64,
     derivers: u64,
     connections: u64,
     links: Blank,
     ends: Blank,
 ) -> Closing<D, A, L>
+    requires sealed { IsAllSealed state.history state.sealed }
     requires lanes { (0 < lanes) × (lanes ≤ 2 ^ 63) }
     requires room { lanes + derivers ≤ 2 ^ 63 }
     requires links { (links.name ≡ K.name) × (links.parts ≡ K.parts) × (links.parts ≡ lanes) }
@@ -171,6 +183,7 @@ fn run<
     ensures begins { IfSome result.state (λ s. IsPrefix (cleared state.history) s.history) }
     ensures front { IfSome result.state (λ s. IsFront s.opening s.history) }
     ensures numbers { IfSome result.state (λ s. All (λ (e : Entry). e.who ≤ lanes) s.history) }
+    ensures sealed { IfSome result.state (λ s. IsAllSealed s.history s.sealed) }
 {
     let Ok(routes) = Routes::new(alloc) else {
         return Closing {
@@ -195,11 +208,13 @@ fn run<
     let (ends, told) = ends.open::<E>();
     let door = Door::new(accept, connections, links, ends);
     let tally = Tally::new(counted, told);
-    serve_on(rt, alloc, &routes, repo, lead, gate, numbers, door, tally)
+    serve_on(
+        rt, alloc, &routes, clock, repo, lead, gate, numbers, door, tally,
+    )
 }
 
 /// Serves so many connections of the accept, or all that it gives, at most `lanes` of them at once.
-/// Each link that it gives has a session of its own. So many derivers derive the manifests of new
+/// Each link that it gives has a session of its own, and the clock is read once for each landing. So many derivers derive the manifests of new
 /// changesets meanwhile, and make no entry. Where memory is refused, no link is taken.
 pub fn serve_all<
     R: Threads + Wait + Sync,
@@ -207,16 +222,19 @@ pub fn serve_all<
     A: Accept<L> + Send,
     L: Link + Send,
     G: Gate + Sync,
+    C: Clock + Sync,
 >(
     rt: &R,
     alloc: Global,
     state: RepoState<D>,
     accept: A,
     gate: &G,
+    clock: &C,
     lanes: u64,
     derivers: u64,
     connections: u64,
 ) -> Closing<D, A, L>
+    requires sealed { IsAllSealed state.history state.sealed }
     requires lanes { (0 < lanes) × (lanes ≤ 2 ^ 63) }
     requires room { lanes + derivers ≤ 2 ^ 63 }
     ensures served { Gave result.served (A.given accept) (A.given result.accept) }
@@ -228,13 +246,15 @@ pub fn serve_all<
     ensures begins { IfSome result.state (λ s. IsPrefix (cleared state.history) s.history) }
     ensures front { IfSome result.state (λ s. IsFront s.opening s.history) }
     ensures numbers { IfSome result.state (λ s. All (λ (e : Entry). e.who ≤ lanes) s.history) }
+    ensures sealed { IfSome result.state (λ s. IsAllSealed s.history s.sealed) }
 {
-    run::<R, D, G, A, L, Brand, Brand>(
+    run::<R, D, G, A, L, Brand, Brand, C>(
         rt,
         alloc,
         state,
         accept,
         gate,
+        clock,
         lanes,
         derivers,
         connections,

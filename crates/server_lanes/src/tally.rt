@@ -5,7 +5,7 @@ ghost use Rattle.server_lanes.specs.Serving.{Gave, IsThrough};
 use crate::door::Door;
 use crate::run::Run;
 use http_front::connection::{ServedLinks, serve_link};
-use ports::{Accept, Link};
+use ports::{Accept, Clock, Link};
 use repo_calls::Seat;
 use routes::Routes;
 use std::alloc::Global;
@@ -75,13 +75,14 @@ impl<L: Link, K: Run, E: Ledger> Tally<L, K, E> {
     }
 
     /// Takes a link of the door, serves it at this seat to its end and counts it; or is told that no more will come.
-    pub(crate) fn serve_next<R: Wait, A: Accept<L>, T: Seat>(
+    pub(crate) fn serve_next<R: Wait, A: Accept<L>, T: Seat, C: Clock>(
         &mut self,
         rt: &R,
         alloc: Global,
         routes: &Routes,
         door: &Mutex<Door<A, L, K, E>>,
         seat: &mut T,
+        clock: &C,
     ) -> bool
         requires { 0 < self.old.parts }
         ensures parts { self.new.parts ≡ self.old.parts }
@@ -97,7 +98,7 @@ impl<L: Link, K: Run, E: Ledger> Tally<L, K, E> {
         let Some(link) = next_link(rt, door, links, told) else {
             return false;
         };
-        served.add(serve_link(alloc, routes, seat, link));
+        served.add(serve_link(alloc, routes, seat, link, clock));
         true
     }
 

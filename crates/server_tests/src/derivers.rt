@@ -57,6 +57,7 @@ fn moved(alloc: Global) -> Result<LogEntry, Fail> {
         name: name(alloc, "main")?,
         from: None,
         to: Some(id("head")),
+        caller: None,
     })
 }
 
@@ -66,7 +67,9 @@ fn landed(alloc: Global) -> Result<LogEntry, Fail> {
         name: name(alloc, "next")?,
         old: id("old"),
         draft: id("draft"),
+        moment: None,
         ids,
+        caller: None,
     })
 }
 

@@ -7,7 +7,7 @@ use object_id::Id;
 use ports::{MemAccept, MemLink, NoGate};
 use repo_calls::Ask;
 use repo_path::BookName;
-use repo_state::RepoState;
+use repo_state::{Alone, RepoState};
 use server_lanes::Closing;
 use std::alloc::{AllocError, Global};
 use std::process::Abort;
@@ -25,8 +25,8 @@ const DRAFTS: &str = "\
 
 const LANDED: &[u8] = b"\r\n\r\n{\"code\":\"landed\"";
 
-fn change(alloc: Global, state: &mut RepoState<MemDisk>, ask: &Ask) -> Result<(), Fail> {
-    if state.store(alloc, 0, ask).is_err() {
+fn change(alloc: Global, alone: &mut Alone<MemDisk>, ask: &Ask) -> Result<(), Fail> {
+    if alone.store(alloc, ask).is_err() {
         return Err(Fail::from("a change"));
     }
     Ok(())
@@ -37,24 +37,24 @@ fn main_name(alloc: Global) -> Result<BookName, Fail> {
 }
 
 // Stores the content and the root, and makes the bookmark there.
-fn make_main(alloc: Global, state: &mut RepoState<MemDisk>, name: &BookName) -> Result<(), Fail> {
+fn make_main(alloc: Global, alone: &mut Alone<MemDisk>, name: &BookName) -> Result<(), Fail> {
     let root = hex::decode(alloc, ROOT)?;
-    change(alloc, state, &Ask::PutContent(b"abc"))?;
-    change(alloc, state, &Ask::PutChangeset(root.as_slice()))?;
+    change(alloc, alone, &Ask::PutContent(b"abc"))?;
+    change(alloc, alone, &Ask::PutChangeset(root.as_slice()))?;
     let ask = Ask::SetBookmark {
         name,
         from: None,
         to: Some(Id::of(root.as_slice())),
     };
-    change(alloc, state, &ask)
+    change(alloc, alone, &ask)
 }
 
 // A repository with the content and the root, where `main` stands.
-fn with_main(alloc: Global) -> Result<RepoState<MemDisk>, Fail> {
+fn with_main(alloc: Global) -> Result<Alone<MemDisk>, Fail> {
     let name = main_name(alloc)?;
-    let mut state = new_repository(alloc)?;
-    make_main(alloc, &mut state, &name)?;
-    Ok(state)
+    let mut alone = new_repository(alloc)?;
+    make_main(alloc, &mut alone, &name)?;
+    Ok(alone)
 }
 
 // The request that puts a changeset.
@@ -160,12 +160,12 @@ fn left_in<D: Disk, A: Drop, L: Drop>(
 fn left_of<R: Threads + Wait + Sync, D: Disk + Send>(
     rt: &R,
     alloc: Global,
-    state: RepoState<D>,
+    alone: Alone<D>,
     derivers: u64,
 ) -> Result<Left, Fail> {
     let landed = AtomicU64::new(0);
     let accept = accept_of(alloc, &landed)?;
-    let closing = serve(rt, alloc, state, accept, &NoGate, 2, derivers, 2)?;
+    let closing = serve(rt, alloc, alone, accept, &NoGate, 2, derivers, 2)?;
     left_in(alloc, closing, landed.load(Ordering::SeqCst))
 }
 
@@ -192,8 +192,8 @@ fn head_is_derived<R: Threads + Wait + Sync>(
     derivers: u64,
 ) -> Result<bool, Fail> {
     let accept = MemAccept::<MemLink>::new(Vec::new(alloc), Vec::new(alloc));
-    let state = with_main(alloc)?;
-    let closing = serve(rt, alloc, state, accept, &NoGate, 2, derivers, 2)?;
+    let alone = with_main(alloc)?;
+    let closing = serve(rt, alloc, alone, accept, &NoGate, 2, derivers, 2)?;
     let state = closing.state.ok_or("memory")?;
     is_derived(alloc, &state, ROOT)
 }

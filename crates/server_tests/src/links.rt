@@ -4,7 +4,7 @@ use crate::serving::{MOST_DERIVERS, serve};
 use crate::watched::Watched;
 use blob_disk::Disk;
 use ports::{Accept, Failed, MemAccept, MemLink, NoGate};
-use repo_state::RepoState;
+use repo_state::Alone;
 use server_lanes::Closing;
 use std::alloc::{AllocError, Global};
 use std::process::Abort;
@@ -209,7 +209,7 @@ fn left_in<D: Disk, A: Accept<L>, L: Drop>(
 fn left_of<R: Threads + Wait + Sync, D: Disk + Send>(
     rt: &R,
     alloc: Global,
-    state: RepoState<D>,
+    alone: Alone<D>,
     row: &Row,
     derivers: u64,
 ) -> Result<Left, Fail> {
@@ -218,7 +218,7 @@ fn left_of<R: Threads + Wait + Sync, D: Disk + Send>(
     let closing = serve(
         rt,
         alloc,
-        state,
+        alone,
         accept,
         &NoGate,
         row.lanes,

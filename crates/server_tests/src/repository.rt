@@ -3,7 +3,7 @@ use blob_disk::{Disk, MemDisk};
 use ports::ZeroBytes;
 use recovery::{Opened, open};
 use repo_journal::init;
-use repo_state::RepoState;
+use repo_state::{Alone, RepoState};
 use std::alloc::Global;
 use std::hash::RandomState;
 use std::test::Fail;
@@ -26,14 +26,14 @@ fn keys() -> Result<RandomState, Fail> {
 }
 
 // The repository in a file.
-fn open_file<D: Disk>(alloc: Global, keys: RandomState, disk: D) -> Result<RepoState<D>, Fail> {
+fn open_file<D: Disk>(alloc: Global, keys: RandomState, disk: D) -> Result<Alone<D>, Fail> {
     let mut disk = disk;
     let Opened { machine, journal } = open(alloc, keys, &mut disk)?;
-    Ok(RepoState::new(alloc, machine, journal, disk))
+    Ok(Alone::new(RepoState::new(alloc, machine, journal, disk)))
 }
 
 /// A new repository of 65,536 bytes at most.
-pub(crate) fn new_repository(alloc: Global) -> Result<RepoState<MemDisk>, Fail> {
+pub(crate) fn new_repository(alloc: Global) -> Result<Alone<MemDisk>, Fail> {
     let mut disk = new_disk(alloc)?;
     make_file(&mut disk)?;
     open_file(alloc, keys()?, disk)

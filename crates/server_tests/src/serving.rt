@@ -1,7 +1,7 @@
 //! Servers with few lanes and derivers.
 use blob_disk::Disk;
-use ports::{Accept, Gate, Link};
-use repo_state::RepoState;
+use ports::{Accept, FixedClock, Gate, Link};
+use repo_state::Alone;
 use server_lanes::{Closing, serve_all};
 use std::alloc::Global;
 use std::sync::Wait;
@@ -16,7 +16,7 @@ pub(crate) const MOST_DERIVERS: u64 = 2;
 pub(crate) fn serve<R, D, A, L, G>(
     rt: &R,
     alloc: Global,
-    state: RepoState<D>,
+    alone: Alone<D>,
     accept: A,
     gate: &G,
     lanes: u64,
@@ -33,5 +33,16 @@ where
     if lanes == 0 || lanes > MOST_LANES || derivers > MOST_DERIVERS {
         return Err(Fail::from("lanes"));
     }
-    Ok(serve_all(rt, alloc, state, accept, gate, lanes, derivers, connections))
+    let clock = FixedClock { moment: 0 };
+    Ok(serve_all(
+        rt,
+        alloc,
+        alone.into_state(),
+        accept,
+        gate,
+        &clock,
+        lanes,
+        derivers,
+        connections,
+    ))
 }

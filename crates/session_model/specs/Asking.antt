@@ -7,16 +7,17 @@ use Rattle.std.specs.Prelude.{ℕ, if◌then◌else◌, List, [], ◌∷◌, len
 use Rattle.byte_fields.specs.Bytes.{Id}
 use Rattle.changeset_model.specs.Path.{Path}
 use Rattle.reply_model.specs.Log.{lines_of}
-use Rattle.reply_model.specs.Reply.{◌>>=◌, Ask, PutContent, PutChangeset, SetBookmark, LandDraft, Granted, ContentPut, ChangesetPut, BookmarkSet, Landed, Refusal, Down, TooLong, BadEncoding, SelfConflict, Merge, NoParent, NoContent, WrongSize, Collision, NoChangeset, Moved, NoBookmark, NoRoot, TooFarBehind, AlreadyIn, StackTooLong, Clash, TooLarge, Full, Question, HeadOf, ContentOf, ChangesetOf, LogFrom, FsnodeOf, UnodeOf, HistoryOf, Seen, SeenHead, SeenBytes, SeenLog, SeenIds, Absent, AbsentContent, AbsentChangeset, NoPath, NotADir, NotAFile}
+use Rattle.reply_model.specs.Opening.{nobody}
+use Rattle.reply_model.specs.Reply.{◌>>=◌, Ask, PutContent, PutWhole, PutChangeset, SetBookmark, LandDraft, Granted, ContentPut, WholePut, ChangesetPut, BookmarkSet, Landed, Refusal, Down, TooLong, BadEncoding, SelfConflict, Merge, BadParts, OldFormat, NoPiece, NotAPiece, NoParent, NoContent, WrongSize, Unresolved, Collision, NoChangeset, Moved, NoBookmark, NoRoot, TooFarBehind, AlreadyIn, StackTooLong, MergeInStack, MergeInRange, Clash, TooLarge, Full, Question, HeadOf, ContentOf, ChangesetOf, LogFrom, FsnodeOf, UnodeOf, HistoryOf, CopiesOf, Seen, SeenHead, SeenBytes, SeenLog, SeenIds, SeenCopies, Absent, AbsentContent, AbsentChangeset, NoPath, NotADir, NotAFile}
 use Rattle.reply_model.specs.After.{Answer, Grants, Refuses, Shows, Lacks, Roots, DiskFault, ReadFault, BadBytes, NodeCollision, Memory}
 use Rattle.http_model.specs.Head.{path_of}
 use Rattle.http_model.specs.Stream.{Request}
 use Rattle.session_model.specs.declared.status.Status.TheVariants.{Fine, BadRequest, NotFound, MethodNotAllowed, Conflict, ContentTooLarge, UnprocessableContent, InternalServerError, InsufficientStorage}
 use Rattle.session_model.specs.declared.route_name.RouteName.{RouteName}
-use Rattle.session_model.specs.declared.route_name.RouteName.TheVariants.{Contents, Content, Changesets, Changeset, Head, Move, Land, Log, RootFsnode, Fsnode, RootUnode, Unode, History}
+use Rattle.session_model.specs.declared.route_name.RouteName.TheVariants.{Contents, Content, Changesets, Changeset, Head, Move, Land, Log, RootFsnode, Fsnode, RootUnode, Unode, History, Copies}
 use Rattle.session_model.specs.Methods.{method_text, method_of}
 use Rattle.session_model.specs.Responses.{Response, Json}
-use Rattle.session_model.specs.Bodies.{coded, id_text, maybe_id_text, path_text, content_body, changeset_body, bookmark_body, landed_body, log_body, history_body, json, of_code, octets, memory}
+use Rattle.session_model.specs.Bodies.{coded, id_text, maybe_id_text, path_text, content_body, whole_body, changeset_body, bookmark_body, landed_body, log_body, history_body, copies_body, json, of_code, octets, memory}
 use Rattle.session_model.specs.Routes.{Route, value, is_target, route_of}
 use Rattle.session_model.specs.Parameters.{name_parameter, id_parameter, maybe_id_parameter, number_parameter, path_parameter}
 
@@ -40,7 +41,7 @@ at_path question value = do
   p ← path_parameter (value 1)
   Ok (Read (question x p))
 
--- the parameters from left to right: the first that is refused decides
+-- The parameters from left to right: the first that is refused decides. A request tells neither who asks nor when: a landing's moment is left open, and 0 stands in its place.
 abbrev pub by_name : RouteName → (ℕ → List ℕ) → List ℕ → Result Asked Response
 by_name Contents value body = Ok (Change (PutContent body))
 by_name Content value body = do
@@ -57,11 +58,11 @@ by_name Move value body = do
   m ← name_parameter (value 0)
   before ← maybe_id_parameter (value 1)
   after ← maybe_id_parameter (value 2)
-  Ok (Change (SetBookmark m before after))
+  Ok (Change (SetBookmark nobody m before after))
 by_name Land value body = do
   m ← name_parameter (value 0)
   d ← id_parameter (value 1)
-  Ok (Change (LandDraft m d))
+  Ok (Change (LandDraft nobody m d 0))
 by_name Log value body = do
   n ← number_parameter (value 0)
   Ok (Read (LogFrom n))
@@ -70,6 +71,9 @@ by_name Fsnode value body = at_path FsnodeOf value
 by_name RootUnode value body = at_root UnodeOf value
 by_name Unode value body = at_path UnodeOf value
 by_name History value body = at_path HistoryOf value
+by_name Copies value body = do
+  x ← id_parameter (value 0)
+  Ok (Read (CopiesOf x))
 
 abbrev pub by_route : Route → List ℕ → Result Asked Response
 by_route route body = by_name route.name (value route) body
@@ -94,9 +98,10 @@ asked q = let path = path_of q.target in if is_target path then on_route (route_
 -- no change is granted what another one asks for
 abbrev pub granted : Ask → Granted → Response
 granted (PutContent bytes) (ContentPut x) = json Fine (content_body x (length bytes))
+granted (PutWhole body pieces) (WholePut x size) = json Fine (whole_body x size)
 granted (PutChangeset bytes) (ChangesetPut x) = json Fine (changeset_body x)
-granted (SetBookmark name from to) BookmarkSet = json Fine (bookmark_body to name)
-granted (LandDraft name draft) (Landed old ids) = json Fine (landed_body old ids)
+granted (SetBookmark caller name from to) BookmarkSet = json Fine (bookmark_body to name)
+granted (LandDraft caller name draft moment) (Landed old ids) = json Fine (landed_body old ids)
 granted _ _ = of_code Fine []
 
 abbrev pub refused : Refusal → Response
@@ -105,9 +110,14 @@ refused (TooLong n) = json ContentTooLarge (coded (codes "too-long") ((codes "le
 refused (BadEncoding at) = json UnprocessableContent (coded (codes "bad-encoding") ((codes "place", decimal at) ∷ []))
 refused (SelfConflict short long) = json UnprocessableContent (coded (codes "self-conflict") ((codes "long", path_text long) ∷ (codes "short", path_text short) ∷ []))
 refused Merge = of_code UnprocessableContent (codes "merge")
+refused (BadParts n) = json BadRequest (coded (codes "bad-parts") ((codes "length", decimal n) ∷ []))
+refused OldFormat = of_code Conflict (codes "old-format")
+refused (NoPiece x) = json UnprocessableContent (coded (codes "no-piece") ((codes "id", id_text x) ∷ []))
+refused (NotAPiece x) = json UnprocessableContent (coded (codes "not-a-piece") ((codes "id", id_text x) ∷ []))
 refused (NoParent x) = json UnprocessableContent (coded (codes "no-parent") ((codes "id", id_text x) ∷ []))
 refused (NoContent p x) = json UnprocessableContent (coded (codes "missing-content") ((codes "id", id_text x) ∷ (codes "path", path_text p) ∷ []))
 refused (WrongSize p wanted found) = json UnprocessableContent (coded (codes "wrong-size") ((codes "found", decimal found) ∷ (codes "path", path_text p) ∷ (codes "wanted", decimal wanted) ∷ []))
+refused (Unresolved p) = json UnprocessableContent (coded (codes "unresolved") ((codes "path", path_text p) ∷ []))
 refused (Collision x) = json Conflict (coded (codes "collision") ((codes "id", id_text x) ∷ []))
 refused (NoChangeset x) = json NotFound (coded (codes "no-changeset") ((codes "id", id_text x) ∷ []))
 refused (Moved found) = json Conflict (coded (codes "moved") ((codes "found", maybe_id_text found) ∷ []))
@@ -116,6 +126,8 @@ refused NoRoot = of_code Conflict (codes "no-root")
 refused (TooFarBehind n) = json ContentTooLarge (coded (codes "too-far-behind") ((codes "distance", decimal n) ∷ []))
 refused AlreadyIn = of_code Conflict (codes "already-in")
 refused (StackTooLong n) = json ContentTooLarge (coded (codes "stack-too-long") ((codes "count", decimal n) ∷ []))
+refused (MergeInStack x) = json Conflict (coded (codes "merge-in-stack") ((codes "id", id_text x) ∷ []))
+refused (MergeInRange x) = json Conflict (coded (codes "merge-in-range") ((codes "id", id_text x) ∷ []))
 refused (Clash left right) = json Conflict (coded (codes "clash") ((codes "left", path_text left) ∷ (codes "right", path_text right) ∷ []))
 refused (TooLarge n) = json ContentTooLarge (coded (codes "too-large") ((codes "length", decimal n) ∷ []))
 refused (Full size n) = json InsufficientStorage (coded (codes "full") ((codes "length", decimal n) ∷ (codes "size", decimal size) ∷ []))
@@ -145,6 +157,7 @@ seen (LogFrom n) (SeenLog page total) = json Fine (log_body n (lines_of page) to
 seen (FsnodeOf x d) (SeenBytes bytes) = octets bytes
 seen (UnodeOf x p) (SeenBytes bytes) = octets bytes
 seen (HistoryOf x p) (SeenIds ids) = json Fine (history_body ids)
+seen (CopiesOf x) (SeenCopies copies) = json Fine (copies_body copies)
 seen _ _ = of_code Fine []
 
 abbrev pub absent : Absent → Response

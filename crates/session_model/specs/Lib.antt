@@ -6,3 +6,4 @@ pub mod Routes
 pub mod Parameters
 pub mod Asking
 pub mod Session
+pub mod Dating

@@ -5,7 +5,7 @@ use Rattle.std.specs.Prelude.{ℕ, List, codes}
 use Rattle.session_model.specs.declared.method.Method.{Method}
 use Rattle.session_model.specs.declared.method.Method.TheVariants.{Get, Post, Put}
 use Rattle.session_model.specs.declared.route_name.RouteName.{RouteName}
-use Rattle.session_model.specs.declared.route_name.RouteName.TheVariants.{Contents, Content, Changesets, Changeset, Head, Move, Land, Log, RootFsnode, Fsnode, RootUnode, Unode, History}
+use Rattle.session_model.specs.declared.route_name.RouteName.TheVariants.{Contents, Content, Changesets, Changeset, Head, Move, Land, Log, RootFsnode, Fsnode, RootUnode, Unode, History, Copies}
 
 abbrev pub method_text : Method → List ℕ
 method_text Get = codes "GET"
@@ -26,3 +26,4 @@ method_of Fsnode = Get
 method_of RootUnode = Get
 method_of Unode = Get
 method_of History = Get
+method_of Copies = Get

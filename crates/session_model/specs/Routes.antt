@@ -10,7 +10,7 @@ use Rattle.std.specs.List.{starts_with}
 use Rattle.byte_fields.specs.Bytes.{is_text, first_some}
 use Rattle.changeset_model.specs.Path.{elements, text_of}
 use Rattle.session_model.specs.declared.route_name.RouteName.{RouteName}
-use Rattle.session_model.specs.declared.route_name.RouteName.TheVariants.{Contents, Content, Changesets, Changeset, Head, Move, Land, Log, RootFsnode, Fsnode, RootUnode, Unode, History}
+use Rattle.session_model.specs.declared.route_name.RouteName.TheVariants.{Contents, Content, Changesets, Changeset, Head, Move, Land, Log, RootFsnode, Fsnode, RootUnode, Unode, History, Copies}
 
 pub record Pattern : Type 0 where
   pub word : List ℕ
@@ -38,10 +38,11 @@ pattern_of Fsnode = of_path (codes "fsnode")
 pattern_of RootUnode = of_word (codes "unode") (codes "id" ∷ [])
 pattern_of Unode = of_path (codes "unode")
 pattern_of History = of_path (codes "history")
+pattern_of Copies = of_word (codes "copies") (codes "id" ∷ [])
 
 -- a router keeps its routes in this order
 abbrev pub order : List RouteName
-order = Move ∷ Head ∷ Changeset ∷ Changesets ∷ Content ∷ Contents ∷ Fsnode ∷ RootFsnode ∷ History ∷ Land ∷ Log ∷ Unode ∷ RootUnode ∷ []
+order = Move ∷ Head ∷ Changeset ∷ Changesets ∷ Content ∷ Contents ∷ Copies ∷ Fsnode ∷ RootFsnode ∷ History ∷ Land ∷ Log ∷ Unode ∷ RootUnode ∷ []
 
 pub record Route : Type 0 where
   pub name : RouteName

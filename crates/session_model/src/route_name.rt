@@ -32,6 +32,8 @@ pub enum RouteName {
     Unode,
     /// The history of a file.
     History,
+    /// What a changeset sets as copies.
+    Copies,
 }
 
 impl RouteName {
@@ -52,7 +54,8 @@ impl RouteName {
             | RouteName::Fsnode
             | RouteName::RootUnode
             | RouteName::Unode
-            | RouteName::History => Method::Get,
+            | RouteName::History
+            | RouteName::Copies => Method::Get,
         }
     }
 }

@@ -224,11 +224,11 @@ fn put_story(alloc: Global, out: &mut String, rows: &str, failing: u64) -> Resul
     Ok(())
 }
 
-// All changes where the one with this number meets the fault. Then reads.
+// All changes where the one with this number meets the fault. Then reads, which still see its entry.
 fn stopped_story(alloc: Global, failing: u64) -> Result<String, AllocError> {
     let mut lines = String::new(alloc);
     put_story(alloc, &mut lines, story(alloc)?.as_str(), failing)?;
-    lines.push_str(reads_of(alloc, failing)?.as_str())?;
+    lines.push_str(reads_of(alloc, failing.saturating_add(1))?.as_str())?;
     Ok(lines)
 }
 

@@ -1,7 +1,7 @@
 //! Runs of the program over memory.
 use blob_disk::{CallKind, Disk, MemDisk};
 use command_line::{Status, run};
-use ports::{Link, MemAccept, MemLink, MemOpener, NoGate, Opener, Slot, ZeroBytes};
+use ports::{FixedClock, Link, MemAccept, MemLink, MemOpener, NoGate, Opener, Slot, ZeroBytes};
 use std::alloc::{AllocError, Global};
 use std::hash::RandomState;
 use std::process::Abort;
@@ -104,7 +104,8 @@ fn run_words<R: Threads + Wait + Sync, D: Disk + Send, O: Opener<D>, L: Link>(
     opener: &mut O,
 ) -> (Status, Option<D>) {
     let none = no_links(alloc);
-    let ran = run(rt, alloc, keys, words, link, opener, none, &NoGate);
+    let clock = FixedClock { moment: 0 };
+    let ran = run(rt, alloc, keys, words, link, opener, none, &NoGate, &clock);
     (ran.status, ran.disk)
 }
 

@@ -1,16 +1,18 @@
 -- From what a turn read to the answer.
 use Rattle.std.proofs.Common.{◌≡◌, ◌≢◌, ℕ, List, length, refl, sym, ap, ◌∙◌}
-use Rattle.std.specs.Prelude.{Some, Vec, Result, Ok, ok_or, IfOk, IfErr}
+use Rattle.std.specs.Prelude.{Some, Vec, Result, Ok, Err, ok_or, IfOk, IfErr}
 use Rattle.sha2.specs.Sha256.{sha256}
 use Rattle.byte_fields.specs.Bytes.{Id}
-use Rattle.changeset_model.specs.Changeset.{Changeset, spelling}
+use Rattle.changeset_model.specs.Path.{Path}
+use Rattle.changeset_model.specs.Changeset.{Changeset, CopySource, copies_of, spelling}
 use Rattle.history_model.specs.History.{Entry, changeset_of, content_len, known}
 use Rattle.history_model.specs.Journal.{Header}
-use Rattle.reply_model.specs.Reply.{ContentOf, ChangesetOf, SeenBytes, AbsentChangeset, ◌>>=◌}
-use Rattle.reply_model.specs.After.{After, Looks, Shows, SeesMore}
+use Rattle.reply_model.specs.Reply.{ContentOf, ChangesetOf, CopiesOf, SeenBytes, SeenCopies, AbsentChangeset, ◌>>=◌}
+use Rattle.reply_model.specs.After.{After, Answer, Answers, Looks, Shows, SeesMore, nothing}
 use Rattle.repo_calls.specs.declared.calls.AskFault.{AskFault}
 use Rattle.repo_calls.specs.declared.calls.AskFault.TheVariants.{BadBytes}
-use Rattle.repo_calls.specs.Asking.{bytes_answer}
+use Rattle.repo_calls.specs.Asking.{IsAnswer, bytes_answer, fault_answer}
+use Rattle.repo_state.proofs.Answered.{copies_answered, copies_not_seen}
 use Rattle.repo_state.proofs.Looking.{checked_answers}
 use Rattle.shared_repo.proofs.Fronts.{after_nothing}
 
@@ -24,3 +26,11 @@ pub after_encoded : (header : Header) (old new : List Entry) (who : ℕ) (x : Id
 after_encoded header old new who x m bytes sees found is =
     after_nothing header old new who (Looks (ChangesetOf x)) (Shows (SeenBytes bytes)) sees
     (refl, ap (λ b. Ok (SeenBytes b)) is ∙ sym (ap (λ o. ok_or o (AbsentChangeset x) >>= λ c. Ok (SeenBytes (spelling c))) found))
+
+pub after_copies : (header : Header) (old new : List Entry) (who : ℕ) (x : Id) (c : Changeset) (copies : List (Path × CopySource)) → SeesMore old who new → changeset_of (known new) x ≡ Some c → copies ≡ copies_of c
+    → After header old who (Looks (CopiesOf x)) (Shows (SeenCopies copies)) new
+after_copies header old new who x c copies sees found is = after_nothing header old new who (Looks (CopiesOf x)) (Shows (SeenCopies copies)) sees (copies_answered header new x c copies found is)
+
+pub after_no_copies : (header : Header) (old new : List Entry) (who : ℕ) (x : Id) (fault : AskFault) → SeesMore old who new → Answers header new (Looks (ChangesetOf x)) (fault_answer fault) nothing
+    → (answer : Answer) × IsAnswer (Err fault) answer × After header old who (Looks (CopiesOf x)) answer new
+after_no_copies header old new who x fault sees a = (fault_answer fault, refl, after_nothing header old new who (Looks (CopiesOf x)) (fault_answer fault) sees (copies_not_seen header new x fault a))

@@ -1,6 +1,6 @@
 -- From the turns of a derivation to its answer, and to that of a read.
 use Rattle.std.proofs.Common.{◌≡◌, ℕ, ◌+◌, ◌<◌, List, ◌++◌, length, length-append, refl, sym, ap, subst, ◌∙◌, arith}
-use Rattle.std.specs.Prelude.{Result, Err}
+use Rattle.std.specs.Prelude.{Result, Err, false}
 use mathlib.Core.List.{IsPrefix}
 use Rattle.byte_fields.specs.Bytes.{Id}
 use Rattle.history_model.specs.History.{Entry, Known, known}
@@ -8,12 +8,13 @@ use Rattle.history_model.specs.Chain.{line}
 use Rattle.history_model.specs.Journal.{Header}
 use Rattle.byte_fields.proofs.Lists.{prefix_self, prefix_trans}
 use Rattle.reply_model.specs.After.{After, Answer, Answers, Call, Derives, Looks, nothing, SeesMore}
-use Rattle.reply_model.specs.Reply.{Question, HeadOf, ContentOf, ChangesetOf, LogFrom, FsnodeOf, UnodeOf, HistoryOf}
+use Rattle.reply_model.specs.Reply.{Question, HeadOf, ContentOf, ChangesetOf, LogFrom, FsnodeOf, UnodeOf, HistoryOf, CopiesOf, PathLogOf, DeletedOf}
 use Rattle.reply_model.proofs.Lines.{known-append, line_grows}
 use Rattle.changeset_store.specs.Store.{known_at}
 use Rattle.changeset_store.proofs.Places.{known_at-append}
-use Rattle.repo_calls.specs.Asking.{IsAnswer, fault_answer}
+use Rattle.repo_calls.specs.Asking.{IsAnswer, fault_answer, is_bad_bytes}
 use Rattle.repo_calls.specs.declared.calls.AskFault.{AskFault}
+use Rattle.repo_calls.specs.declared.calls.AskFault.TheVariants as faults
 use Rattle.repo_calls.specs.declared.calls.Seen.{Seen}
 use Rattle.derive_step.specs.Jobs.{IsJobOf, IsDoneOf}
 use Rattle.derive_step.specs.declared.done.Done.{Done}
@@ -62,6 +63,18 @@ derived_later g h done begins w = record { then = w.then; begins = prefix_trans 
 
 -- ---- reads
 
+-- a request to derive reads no content
+pub derives_fine : (header : Header) (h : List Entry) (x : Id) (fault : AskFault) → Answers header h (Derives x) (fault_answer fault) nothing → is_bad_bytes {T = Seen} (Err fault) ≡ false
+derives_fine header h x (faults.NoContent id) a = refl
+derives_fine header h x (faults.NoChangeset id) a = refl
+derives_fine header h x faults.NoPath a = refl
+derives_fine header h x faults.NotADir a = refl
+derives_fine header h x faults.NotAFile a = refl
+derives_fine header h x (faults.Collision id) a = refl
+derives_fine header h x faults.ReadFault a = refl
+derives_fine header h x (faults.BadBytes wanted found) a = absurd a
+derives_fine header h x faults.Memory a = refl
+
 pub reads_after : (header : Header) (old between new : List Entry) (who : ℕ) (call : Call) (result : Result Seen AskFault) → SeesMore old who between → (answer : Answer) × IsAnswer result answer × After header between who call answer new
     → (answer : Answer) × IsAnswer result answer × After header old who call answer new
 reads_after header old between new who call result sees told = (told.0, told.1, after_more header old between new who call told.0 sees told.2)
@@ -81,6 +94,9 @@ module _ (header : Header) (old new : List Entry) (who : ℕ) (x : Id) (fault : 
   not_derived (ContentOf id) of = absurd of
   not_derived (ChangesetOf id) of = absurd of
   not_derived (LogFrom n) of = absurd of
+  not_derived (CopiesOf id) of = absurd of
+  not_derived (PathLogOf id p) of = absurd of
+  not_derived (DeletedOf id p) of = absurd of
   not_derived (FsnodeOf id d) of = at (λ z. FsnodeOf z d) id of (reading.fsnode_not_derived header new x d fault a)
   not_derived (UnodeOf id p) of = at (λ z. UnodeOf z p) id of (reading.unode_not_derived header new x p fault a)
   not_derived (HistoryOf id p) of = at (λ z. HistoryOf z p) id of (reading.history_not_derived header new x p fault a)

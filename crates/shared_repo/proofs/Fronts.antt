@@ -2,10 +2,13 @@
 use Rattle.std.proofs.Common.{◌≡◌, ℕ, List, Option, None, Some, refl, ap, sym, ◌∙◌, subst, append-nil}
 use mathlib.Core.List.{IsPrefix}
 use Rattle.byte_fields.specs.Bytes.{Id}
-use Rattle.history_model.specs.History.{Entry}
+use Rattle.history_model.specs.History.{Entry, is_breaking}
 use Rattle.history_model.specs.Journal.{Header}
 use Rattle.byte_fields.proofs.Lists.{prefix_self, prefix_trans}
+use Rattle.std.specs.Prelude.{filter, not}
+use Rattle.reply_model.proofs.Fronts.{replies_after}
 use Rattle.reply_model.specs.Reply.{Ask, LandDraft}
+use Rattle.reply_model.specs.Opening.{nobody}
 use Rattle.reply_model.specs.After.{Call, Asks, Answer, Answers, After, Memory, nothing, SeesMore}
 use Rattle.repo_machine.specs.Plans.{PlannedLanding, RebasedLanding, IsPlan, WasPlanned, rebased_of}
 use Rattle.repo_machine.proofs.Renewed.{was_plan, was_plan_later}
@@ -18,35 +21,38 @@ pub sees_twice : (old between new : List Entry) (who : ℕ) → SeesMore old who
 sees_twice old between new who s t = record { begins = prefix_trans old between new s.begins t.begins; own = t.own ∙ s.own }
 
 -- a turn without an entry, and then the call
-pub after_more : (header : Header) (old between new : List Entry) (who : ℕ) (call : Call) (answer : Answer) → SeesMore old who between → After header between who call answer new → After header old who call answer new
+abbrev pub after_more : (header : Header) (old between new : List Entry) (who : ℕ) (call : Call) (answer : Answer) → SeesMore old who between → After header between who call answer new → After header old who call answer new
 after_more header old between new who call answer s a = record {
   before = a.before;
   made = a.made;
-  grows = record { begins = prefix_trans old between a.before s.begins a.grows.begins; own = a.grows.own ∙ s.own; new_is = a.grows.new_is };
+  grows = record {
+    begins = prefix_trans old between a.before s.begins a.grows.begins;
+    own = a.grows.own ∙ ap (filter (λ (e : Entry). not (is_breaking e.body))) s.own;
+    stands = a.grows.stands;
+    only = a.grows.only;
+    last = a.grows.last;
+    failed = a.grows.failed;
+  };
   answers = a.answers;
 }
 
 -- a turn without an entry, at whose end the call is answered so
 pub after_nothing : (header : Header) (old new : List Entry) (who : ℕ) (call : Call) (answer : Answer) → SeesMore old who new → Answers header new call answer nothing → After header old who call answer new
-after_nothing header old new who call answer s a = record {
-  before = new;
-  made = nothing;
-  grows = record { begins = s.begins; own = s.own; new_is = sym (append-nil new) };
-  answers = a;
-}
+after_nothing header old new who call answer s a = replies_after header old new who call answer new s (record { made = nothing; answers = a; new_is = sym (append-nil new) })
 
 -- a plan that was made here
-pub planned_here : (h : List Entry) (name : List ℕ) (draft : Id) (plan : PlannedLanding) (r : RebasedLanding) → IsPlan h name draft plan → r ≡ rebased_of plan → WasPlanned h r
-planned_here h name draft plan r p is = record {
+pub planned_here : (h : List Entry) (name : List ℕ) (draft : Id) (plan : PlannedLanding) (r : RebasedLanding) (moment : ℕ) → IsPlan h name draft plan → r ≡ rebased_of plan moment → WasPlanned h r
+planned_here h name draft plan r moment p is = record {
   then = h;
   begins = prefix_self h;
   plan = plan;
   planned = subst (λ (t : List ℕ × Id). IsPlan h t.0 t.1 plan) (λ i. (sym (ap (λ (r : RebasedLanding). r.name) is ∙ p.names) i, sym (ap (λ (r : RebasedLanding). r.draft) is ∙ p.drafts) i)) p;
-  rebased_is = is;
+  rebased_is = is ∙ ap (rebased_of plan) (sym (ap (λ (r : RebasedLanding). r.asked) is));
 }
 
-pub asked_for : (h : List Entry) (name : List ℕ) (draft : Id) (plan : PlannedLanding) (r : RebasedLanding) → IsPlan h name draft plan → r ≡ rebased_of plan → LandDraft r.name r.draft ≡ LandDraft name draft
-asked_for h name draft plan r p is = (λ i. LandDraft ((ap (λ (r : RebasedLanding). r.name) is ∙ p.names) i) ((ap (λ (r : RebasedLanding). r.draft) is ∙ p.drafts) i))
+pub asked_for : (h : List Entry) (name : List ℕ) (draft : Id) (plan : PlannedLanding) (r : RebasedLanding) (moment : ℕ) → IsPlan h name draft plan → r ≡ rebased_of plan moment → LandDraft nobody r.name r.draft r.asked ≡ LandDraft nobody name draft moment
+asked_for h name draft plan r moment p is =
+    (λ i. LandDraft nobody ((ap (λ (r : RebasedLanding). r.name) is ∙ p.names) i) ((ap (λ (r : RebasedLanding). r.draft) is ∙ p.drafts) i) (ap (λ (r : RebasedLanding). r.asked) is i))
 
 -- the plan of the attempt before
 pub earlier_later : (g h : List Entry) (name : List ℕ) (draft : Id) (earlier : Option PlannedLanding) → IsPrefix g h → IsEarlier g name draft earlier → IsEarlier h name draft earlier
@@ -63,7 +69,3 @@ own_plan h name draft plan p = subst (λ (t : List ℕ × Id). IsPlan h t.0 t.1 
 -- want of memory outside of every turn
 pub after_memory : (header : Header) (h : List Entry) (who : ℕ) (ask : Ask) → After header h who (Asks ask) Memory h
 after_memory header h who ask = after_nothing header h h who (Asks ask) Memory (sees_nothing h who) refl
-
--- a plan that was refused, in a turn of the seat `number`
-pub after_refusal : (header : Header) (old between new : List Entry) (who number : ℕ) (call : Call) (answer : Answer) → SeesMore old who between → number ≡ who → SeesMore between number new → Answers header new call answer nothing → After header old who call answer new
-after_refusal header old between new who number call answer s n t a = after_nothing header old new who call answer (sees_twice old between new who s (subst (λ (w : ℕ). SeesMore between w new) n t)) a

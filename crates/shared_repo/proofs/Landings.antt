@@ -1,45 +1,72 @@
 -- What an exchange answers.
-use Rattle.std.proofs.Common.{◌≡◌, ℕ, List, Some, refl, sym, subst, inl, inr, ◌∙◌}
-use Rattle.std.specs.Prelude.{IsSome, MatchOption}
+use Rattle.std.proofs.Common.{◌≡◌, ℕ, false, List, Option, Some, Result, Ok, Err, refl, sym, subst, inl, inr, ◌∙◌}
+use Rattle.std.proofs.lemmas.List.{append-nil}
+use Rattle.std.specs.Prelude.{IsSome, MatchOption, OnOk}
+use Rattle.std.specs.Result.{is_err, IfErr}
 use Rattle.byte_fields.specs.Bytes.{Id}
 use Rattle.history_model.specs.Bookmark.{head}
 use Rattle.history_model.specs.History.{Entry}
 use Rattle.history_model.specs.Journal.{Header}
 use Rattle.reply_model.specs.Reply.{Ask, LandDraft, judge}
+use Rattle.reply_model.specs.Opening.{nobody}
 use Rattle.reply_model.specs.After.{Answer, Answers, Asks, Replies, nothing}
+use Rattle.repo_calls.specs.declared.ask.Granted.{Granted}
 use Rattle.repo_calls.specs.declared.refusal.Refusal.{Refusal}
 use Rattle.repo_calls.specs.Calls.{refused}
-use Rattle.repo_machine.specs.Landings.{IsRefusal}
+use Rattle.repo_machine.specs.Landings.{IsRefusal, IsLandingRefusal}
 use Rattle.repo_machine.specs.Plans.{PlannedLanding, RebasedLanding, IsPlan}
 use Rattle.repo_state.specs.Exchanging.{Exchanges}
 use Rattle.repo_state.specs.declared.exchanged.Exchanged.{Exchanged}
-use Rattle.repo_state.specs.declared.exchanged.Exchanged.TheVariants.{Landed, HeadMoved, Refused, DiskFault}
-use Rattle.repo_calls.specs.Asking.{stored_answer}
-use Rattle.shared_repo.specs.Landing.{IsMadeBefore, outcome_of}
+use Rattle.repo_state.specs.declared.exchanged.Exchanged.TheVariants.{Landed, HeadMoved, Refused}
+use Rattle.repo_state.specs.State.{entered_answer}
+use Rattle.shared_repo.specs.Landing.{IsMadeBefore, RefusesLanding, outcome_of}
 
 pub outcome_replies : (header : Header) (h new : List Entry) (who : ℕ) (r : RebasedLanding) (x : Exchanged) → Exchanges header h who r x new
-    → MatchOption (outcome_of x) (new ≡ h) (λ answer. Replies header h who (Asks (LandDraft r.name r.draft)) (stored_answer answer) new)
+    → MatchOption (outcome_of x) (new ≡ h) (λ entered. Replies header h who (Asks (LandDraft nobody r.name r.draft r.asked)) (entered_answer entered) new)
 outcome_replies header h new who r (Landed landed) e = e.1
 outcome_replies header h new who r (HeadMoved found) e = e.3
 outcome_replies header h new who r (Refused refusal) e = e.2
-outcome_replies header h new who r DiskFault e = e.1
+
+pub counted_replies : (header opened : Header) (h before new : List Entry) (who : ℕ) (r : RebasedLanding) (x : Exchanged) (granted : Result Granted Refusal) (answer : Answer) → Exchanges header h who r x new → header ≡ opened → h ≡ before → outcome_of x ≡ Some granted → answer ≡ entered_answer granted
+    → Replies opened before who (Asks (LandDraft nobody r.name r.draft r.asked)) answer new
+counted_replies header opened h before new who r x granted answer e heads same some is =
+    let ask = Asks (LandDraft nobody r.name r.draft r.asked) in
+    let told : Replies header h who ask (entered_answer granted) new =
+    subst (λ (o : Option (Result Granted Refusal)). MatchOption o (new ≡ h) (λ entered. Replies header h who ask (entered_answer entered) new)) some (outcome_replies header h new who r x e) in
+    subst (λ (a : Answer). Replies opened before who ask a new) (sym is)
+    (subst (λ (b : List Entry). Replies opened b who ask (entered_answer granted) new) same (subst (λ (o : Header). Replies o h who ask (entered_answer granted) new) heads told))
 
 -- where the head is the planned one, it hasn't moved
 pub outcome_there : (header : Header) (h new : List Entry) (who : ℕ) (r : RebasedLanding) (x : Exchanged) → Exchanges header h who r x new → head h r.name ≡ Some r.old → IsSome (outcome_of x)
 outcome_there header h new who r (Landed landed) e at = refl
 outcome_there header h new who r (HeadMoved found) e at = absurd (e.2 (e.1 ∙ at))
 outcome_there header h new who r (Refused refusal) e at = refl
-outcome_there header h new who r DiskFault e at = refl
 
 -- a refusal of a plan is an answer that makes nothing
-pub refused_plan : (header : Header) (h : List Entry) (ask : Ask) (e : Refusal) → IsRefusal (judge header h ask) e → Answers header h (Asks ask) (refused e) nothing
-refused_plan header h ask e (inl memory) = subst (λ (x : Refusal). Answers header h (Asks ask) (refused x) nothing) (sym memory) refl
-refused_plan header h ask e (inr told) = subst (λ (a : Answer). Answers header h (Asks ask) a nothing) (sym told.2) (refl, told.1)
+refused_so : (header : Header) (h : List Entry) (ask : Ask) (e : Refusal) → IsRefusal (judge header h ask) e → Answers header h (Asks ask) (refused e) nothing
+refused_so header h ask e (inl memory) = subst (λ (x : Refusal). Answers header h (Asks ask) (refused x) nothing) (sym memory) refl
+refused_so header h ask e (inr told) = subst (λ (a : Answer). Answers header h (Asks ask) a nothing) (sym told.2) (refl, told.1)
+
+pub refused_plan : (header : Header) (h : List Entry) (name : List ℕ) (draft : Id) (e : Refusal) → IsLandingRefusal header h name draft e → RefusesLanding header h name draft e
+refused_plan header h name draft e always = λ moment. refused_so header h (LandDraft nobody name draft moment) e (always moment)
+
+pub refused_plan_in : {A : Type 0} (header opened : Header) (h : List Entry) (name : List ℕ) (draft : Id) (result : Result A Refusal) → header ≡ opened → IfErr result (IsLandingRefusal header h name draft)
+    → IfErr result (RefusesLanding opened h name draft)
+refused_plan_in header opened h name draft (Ok x) same told = tt
+refused_plan_in header opened h name draft (Err e) same told = subst (λ (o : Header). RefusesLanding o h name draft e) same (refused_plan header h name draft e told)
+
+-- a change that is refused makes nothing
+pub refused_alone : (header : Header) (h new : List Entry) (who : ℕ) (ask : Ask) (e : Refusal) → Answers header h (Asks ask) (refused e) nothing → new ≡ h → Replies header h who (Asks ask) (refused e) new
+refused_alone header h new who ask e told same = record { made = nothing; answers = told; new_is = same ∙ sym (append-nil h) }
 
 -- what is told of a plan that was made again is told of the landing
 pub planned_again : (h : List Entry) (name : List ℕ) (draft : Id) (before plan : PlannedLanding) → IsMadeBefore h name draft before → IsPlan h before.name before.draft plan → IsPlan h name draft plan
 planned_again h name draft before plan m p = subst (λ (t : List ℕ × Id). IsPlan h t.0 t.1 plan) (λ i. (m.names i, m.drafts i)) p
 
-pub refused_again : (header : Header) (h : List Entry) (name : List ℕ) (draft : Id) (before : PlannedLanding) (answer : Answer) → IsMadeBefore h name draft before
-    → Answers header h (Asks (LandDraft before.name before.draft)) answer nothing → Answers header h (Asks (LandDraft name draft)) answer nothing
-refused_again header h name draft before answer m a = subst (λ (ask : Ask). Answers header h (Asks ask) answer nothing) (λ i. LandDraft (m.names i) (m.drafts i)) a
+pub refused_again : (header : Header) (h : List Entry) (name : List ℕ) (draft : Id) (before : PlannedLanding) (e : Refusal) → IsMadeBefore h name draft before → RefusesLanding header h before.name before.draft e → RefusesLanding header h name draft e
+refused_again header h name draft before e m always = λ moment. subst (λ (ask : Ask). Answers header h (Asks ask) (refused e) nothing) (λ i. LandDraft nobody (m.names i) (m.drafts i) moment) (always moment)
+
+-- what holds where a call was done
+pub where_ok : {A E P : Type 0} (result : Result A E) → is_err result ≡ false → OnOk result P → P
+where_ok (Ok x) done holds = holds
+where_ok (Err e) done holds = absurd cc

@@ -4,5 +4,7 @@ pub mod Derivations
 pub mod Fronts
 pub mod Landings
 pub mod Made
+pub mod Sealings
 pub mod Sending
+pub mod Stored
 pub mod Turning

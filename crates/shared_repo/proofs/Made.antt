@@ -1,17 +1,57 @@
--- A planned landing makes one entry at most.
-use Rattle.std.proofs.Common.{◌≡◌, ℕ, ◌+◌, arith, length, length-append, append-nil, List, [], ◌∷◌, ◌++◌, Bool, true, false, Option, None, Some, refl, sym, ◌∙◌, ap, inl, inr}
+-- A change or a read makes one entry at most in its turn.
+use Rattle.std.proofs.Common.{◌≡◌, ℕ, ◌+◌, arith, length, length-append, append-nil, List, [], ◌∷◌, ◌++◌, Bool, true, false, Option, None, Some, Result, Ok, Err, refl, sym, subst, ◌∙◌, ap, inl, inr, ⊎_elim}
 use Rattle.std.specs.Prelude.{◌⊎◌, ◌≢◌, MatchBool}
 use Rattle.history_model.specs.History.{Entry, Body, Fault}
 use Rattle.history_model.specs.Journal.{Header}
 use Rattle.reply_model.specs.Reply as reply
-use Rattle.reply_model.specs.Reply.{Ask, LandDraft}
-use Rattle.reply_model.specs.After.{Asks, Answer, Grants, Refuses, Shows, Lacks, Roots, ReadFault, BadBytes, NodeCollision, Memory, Answers, Made, nothing, only_fault, entries_of}
+use Rattle.reply_model.specs.Reply.{Ask, LandDraft, Question, HeadOf, ContentOf, ChangesetOf, LogFrom, FsnodeOf, UnodeOf, HistoryOf, CopiesOf, PathLogOf, DeletedOf}
+use Rattle.reply_model.specs.Opening.{nobody}
 use Rattle.reply_model.specs.After as answers
+use Rattle.reply_model.specs.After.{Asks, Looks, Answer, Grants, Refuses, Shows, Lacks, Roots, ReadFault, BadBytes, NodeCollision, Memory, Answers, Made, Replies, nothing, only_fault, entries_of}
+use Rattle.repo_calls.specs.declared.refusal.Refusal.{Refusal}
+use Rattle.repo_calls.specs.declared.refusal.Refusal.TheVariants as refusals
 use Rattle.repo_calls.specs.Calls.{refused}
 use Rattle.repo_machine.specs.Plans.{RebasedLanding}
 use Rattle.repo_state.specs.Exchanging.{Exchanges}
 use Rattle.repo_state.specs.declared.exchanged.Exchanged.{Exchanged}
-use Rattle.repo_state.specs.declared.exchanged.Exchanged.TheVariants.{Landed, HeadMoved, Refused, DiskFault}
+use Rattle.repo_state.specs.declared.exchanged.Exchanged.TheVariants.{Landed, HeadMoved, Refused}
+use Rattle.shared_repo.specs.declared.turns.Placed.{Placed}
+use Rattle.shared_repo.specs.Sealed.{placed_answer}
+
+-- ---- refusals
+
+refused_is : (r : Refusal) → ((x : reply.Refusal) × (refused r ≡ Refuses x)) ⊎ (refused r ≡ Memory)
+refused_is refusals.Down = inl (_, refl)
+refused_is (refusals.TooLong n) = inl (_, refl)
+refused_is (refusals.BadEncoding at) = inl (_, refl)
+refused_is (refusals.SelfConflict short long) = inl (_, refl)
+refused_is refusals.Merge = inl (_, refl)
+refused_is (refusals.NoParent id) = inl (_, refl)
+refused_is (refusals.NoContent path id) = inl (_, refl)
+refused_is (refusals.WrongSize path wanted found) = inl (_, refl)
+refused_is (refusals.Collision id) = inl (_, refl)
+refused_is (refusals.NoChangeset id) = inl (_, refl)
+refused_is (refusals.Moved found) = inl (_, refl)
+refused_is refusals.NoBookmark = inl (_, refl)
+refused_is refusals.NoRoot = inl (_, refl)
+refused_is (refusals.TooFarBehind distance) = inl (_, refl)
+refused_is refusals.AlreadyIn = inl (_, refl)
+refused_is (refusals.StackTooLong count) = inl (_, refl)
+refused_is (refusals.Clash left right) = inl (_, refl)
+refused_is (refusals.TooLarge n) = inl (_, refl)
+refused_is (refusals.Full size n) = inl (_, refl)
+refused_is refusals.Memory = inr refl
+
+refused_made : (header : Header) (h : List Entry) (ask : Ask) (r : Refusal) (made : Made) → Answers header h (Asks ask) (refused r) made → made ≡ nothing
+refused_made header h ask r made a = ⊎_elim
+    (λ (t : (x : reply.Refusal) × (refused r ≡ Refuses x)). (subst (λ (answer : Answer). Answers header h (Asks ask) answer made) t.1 a).0)
+    (λ (m : refused r ≡ Memory). subst (λ (answer : Answer). Answers header h (Asks ask) answer made) m a)
+    (refused_is r)
+
+pub not_granted : (r : Refusal) (granted : reply.Granted) → refused r ≡ Grants granted → ⊥
+not_granted r granted e = ⊎_elim (λ (t : (x : reply.Refusal) × (refused r ≡ Refuses x)). absurd (cc (t.1, e))) (λ (m : refused r ≡ Memory). absurd (cc (m, e))) (refused_is r)
+
+-- ---- what a turn makes
 
 abbrev IsFew : ℕ → Made → Type 0
 IsFew who made = (entries_of who made ≡ []) ⊎ ((e : Entry) × (e.who ≡ who) × (entries_of who made ≡ e ∷ []))
@@ -23,33 +63,52 @@ of_body : (who : ℕ) (made : Made) (body : Option Body) → made ≡ record { e
 of_body who made None e = inl (ap (entries_of who) e)
 of_body who made (Some body) e = inr (record { who = who; body = body }, refl, ap (entries_of who) e)
 
-few : (header : Header) (h : List Entry) (who : ℕ) (ask : Ask) (answer : Answer) (made : Made) → Answers header h (Asks ask) answer made → IsFew who made
-few header h who ask (Grants granted) made a = of_body who made made.entry (ap (λ f. record { entry = made.entry; fault = f }) a.0)
-few header h who ask (Refuses r) made a = of_nothing who made a.0
-few header h who ask (Shows s) made a = absurd a
-few header h who ask (Lacks s) made a = absurd a
-few header h who ask (Roots f u) made a = absurd a
-few header h who ask answers.DiskFault made a = inr (record { who = who; body = Fault true }, refl, ap (entries_of who) a.0)
-few header h who ask ReadFault made a = absurd a
-few header h who ask (BadBytes w f) made a = absurd a
-few header h who ask (NodeCollision x) made a = of_nothing who made a.0
-few header h who ask Memory made a = of_nothing who made a
+granted_few : (who : ℕ) (made : Made) → made.fault ≡ None → IsFew who made
+granted_few who made none = of_body who made made.entry (ap (λ f. record { entry = made.entry; fault = f }) none)
 
-record Makes (who : ℕ) (h new : List Entry) : Type 0 where
-  made : Made
-  few_is : IsFew who made
-  new_is : new ≡ h ++ entries_of who made
+changed : (header : Header) (h : List Entry) (who : ℕ) (ask : Ask) (entered : Result Placed Refusal) (made : Made) → Answers header h (Asks ask) (placed_answer entered) made → IsFew who made
+changed header h who ask (Ok placed) made a = granted_few who made a.0
+changed header h who ask (Err refusal) made a = of_nothing who made (refused_made header h ask refusal made a)
 
-makes : (header : Header) (h new : List Entry) (who : ℕ) (r : RebasedLanding) (x : Exchanged) → Exchanges header h who r x new → Makes who h new
-makes header h new who r (Landed landed) e =
-    let told = e.1 in record { made = told.made; few_is = few header h who (LandDraft r.name r.draft) (Grants (reply.Landed landed.old landed.ids.items)) told.made told.answers; new_is = told.new_is }
-makes header h new who r (HeadMoved found) e = record { made = nothing; few_is = inl refl; new_is = e.3 ∙ sym (append-nil h) }
-makes header h new who r (Refused refusal) e =
-    let told = e.2 in record { made = told.made; few_is = few header h who (LandDraft r.name r.draft) (refused refusal) told.made told.answers; new_is = told.new_is }
-makes header h new who r DiskFault e =
-    let told = e.1 in record { made = told.made; few_is = few header h who (LandDraft r.name r.draft) answers.DiskFault told.made told.answers; new_is = told.new_is }
+abbrev pub IsLook : Made → Type 0
+IsLook made = (made ≡ nothing) ⊎ (made ≡ only_fault false)
 
--- what was added, by the lengths
+pub looked : (header : Header) (h : List Entry) (q : Question) (answer : Answer) (made : Made) → Answers header h (Looks q) answer made → IsLook made
+looked header h q (Grants g) made a = absurd a
+looked header h q (Refuses r) made a = absurd a
+looked header h q (Shows s) made a = inl a.0
+looked header h q (Lacks b) made a = inl a.0
+looked header h q (Roots f u) made a = absurd a
+looked header h q answers.DiskFault made a = absurd a
+looked header h (HeadOf m) ReadFault made a = absurd a
+looked header h (ContentOf c) ReadFault made a = inr a.0
+looked header h (ChangesetOf c) ReadFault made a = absurd a
+looked header h (LogFrom n) ReadFault made a = absurd a
+looked header h (FsnodeOf c p) ReadFault made a = absurd a
+looked header h (UnodeOf c p) ReadFault made a = absurd a
+looked header h (HistoryOf c p) ReadFault made a = absurd a
+looked header h (CopiesOf c) ReadFault made a = absurd a
+looked header h (PathLogOf c p) ReadFault made a = absurd a
+looked header h (DeletedOf c p) ReadFault made a = absurd a
+looked header h (HeadOf m) (BadBytes w f) made a = absurd a
+looked header h (ContentOf c) (BadBytes w f) made a = inl a.0
+looked header h (ChangesetOf c) (BadBytes w f) made a = absurd a
+looked header h (LogFrom n) (BadBytes w f) made a = absurd a
+looked header h (FsnodeOf c p) (BadBytes w f) made a = absurd a
+looked header h (UnodeOf c p) (BadBytes w f) made a = absurd a
+looked header h (HistoryOf c p) (BadBytes w f) made a = absurd a
+looked header h (CopiesOf c) (BadBytes w f) made a = absurd a
+looked header h (PathLogOf c p) (BadBytes w f) made a = absurd a
+looked header h (DeletedOf c p) (BadBytes w f) made a = absurd a
+looked header h q (NodeCollision z) made a = inl a.0
+looked header h q Memory made a = inl a
+
+look_few : (who : ℕ) (made : Made) → IsLook made → IsFew who made
+look_few who made (inl none) = of_nothing who made none
+look_few who made (inr fault) = inr (record { who = who; body = Fault false }, refl, ap (entries_of who) fault)
+
+-- ---- what was added, by the lengths
+
 adds : (who : ℕ) (h new : List Entry) (made : Made) → IsFew who made → new ≡ h ++ entries_of who made → (n m : ℕ) → n ≡ length new → m ≡ length h → (added : Bool) → MatchBool added (n ≢ m) (n ≡ m)
     → MatchBool added ((e : Entry) × (e.who ≡ who) × (new ≡ h ++ e ∷ [])) (new ≡ h)
 adds who h new made (inl none) is n m new_is old_is true differ =
@@ -60,6 +119,32 @@ adds who h new made (inr some) is n m new_is old_is true differ = (some.0, some.
 adds who h new made (inr some) is n m new_is old_is false equal =
     let longer : length new ≡ length h + 1 = ap length (is ∙ ap (λ es. h ++ es) some.2) ∙ length-append h (some.0 ∷ []) in
     absurd (omega arith)
+
+pub change_adds : (header : Header) (h new : List Entry) (who : ℕ) (ask : Ask) (entered : Result Placed Refusal) → Replies header h who (Asks ask) (placed_answer entered) new → (n m : ℕ) → n ≡ length new → m ≡ length h → (added : Bool) → MatchBool added (n ≢ m) (n ≡ m)
+    → MatchBool added ((e : Entry) × (e.who ≡ who) × (new ≡ h ++ e ∷ [])) (new ≡ h)
+change_adds header h new who ask entered r = adds who h new r.made (changed header h who ask entered r.made r.answers) r.new_is
+
+pub look_adds : (header : Header) (h new : List Entry) (who : ℕ) (q : Question) (answer : Answer) → Replies header h who (Looks q) answer new → (n m : ℕ) → n ≡ length new → m ≡ length h → (added : Bool) → MatchBool added (n ≢ m) (n ≡ m)
+    → MatchBool added ((e : Entry) × (e.who ≡ who) × (new ≡ h ++ e ∷ [])) (new ≡ h)
+look_adds header h new who q answer r = adds who h new r.made (look_few who r.made (looked header h q answer r.made r.answers)) r.new_is
+
+-- a refusal leaves the history as it was
+pub refused_same : (header : Header) (h new : List Entry) (who : ℕ) (ask : Ask) (r : Refusal) → Replies header h who (Asks ask) (refused r) new → new ≡ h
+refused_same header h new who ask r told = told.new_is ∙ ap (λ made. h ++ entries_of who made) (refused_made header h ask r told.made told.answers) ∙ append-nil h
+
+-- ---- landings
+
+record Makes (who : ℕ) (h new : List Entry) : Type 0 where
+  made : Made
+  few_is : IsFew who made
+  new_is : new ≡ h ++ entries_of who made
+
+makes : (header : Header) (h new : List Entry) (who : ℕ) (r : RebasedLanding) (x : Exchanged) → Exchanges header h who r x new → Makes who h new
+makes header h new who r (Landed landed) e =
+    let told = e.1 in record { made = told.made; few_is = granted_few who told.made told.answers.0; new_is = told.new_is }
+makes header h new who r (HeadMoved found) e = record { made = nothing; few_is = inl refl; new_is = e.3 ∙ sym (append-nil h) }
+makes header h new who r (Refused refusal) e =
+    let told = e.2 in record { made = told.made; few_is = of_nothing who told.made (refused_made header h (LandDraft nobody r.name r.draft r.asked) refusal told.made told.answers); new_is = told.new_is }
 
 pub exchange_adds : (header : Header) (h new : List Entry) (who : ℕ) (r : RebasedLanding) (x : Exchanged) → Exchanges header h who r x new → (n m : ℕ) → n ≡ length new → m ≡ length h → (added : Bool) → MatchBool added (n ≢ m) (n ≡ m)
     → MatchBool added ((e : Entry) × (e.who ≡ who) × (new ≡ h ++ e ∷ [])) (new ≡ h)

@@ -29,16 +29,16 @@ use Rattle.std.specs.contracts.alloc.Global as Heap
 use Rattle.std.specs.contracts.impls.GlobalAllocator.TheImpl.{ghosts}
 
 pub commit_send : IsSend Commit.the_row
-commit_send = search (own.crosses, sendable) depth 60
+commit_send = search (own.crosses, sendable) depth 60 fits 20000
 
 pub commit_sync : IsSync Commit.the_row
-commit_sync = search (own.crosses, sendable) depth 60
+commit_sync = search (own.crosses, sendable) depth 60 fits 20000
 
 pub store_send : IsSend Store.the_row
 store_send = search (commit_send, commit_sync, own.crosses, maps.crosses, sendable) depth 60
 
 pub machine_send : IsSend Machine.the_row
-machine_send = search (store_send, own.crosses, maps.crosses, sendable) depth 60
+machine_send = search (store_send, own.crosses, maps.crosses, sendable) depth 60 fits 20000
 
 pub journal_send : IsSend Journal.the_row
 journal_send = search (own.crosses, sendable) depth 60

@@ -1,44 +1,217 @@
--- Turns in which each entry is sealed as it is made.
-use Rattle.std.proofs.Common.{◌≡◌, ℕ, ◌+◌, ◌≤◌, List, [], ◌∷◌, ◌++◌, length, map, Option, None, Bool, true, false, refl, sym, ap, subst, ◌∙◌, arith, length-append}
-use Rattle.std.specs.Prelude.{MatchBool, filter}
+-- What a turn tells its seat.
+use Rattle.std.proofs.Common.{◌≡◌, ℕ, ◌<◌, ◌≤◌, List, [], ◌∷◌, ◌++◌, Option, None, Some, Result, Ok, Err, Bool, true, false, cond, not, refl, sym, ap, subst, ◌∙◌, arith, append-nil}
+use Rattle.std.specs.Prelude.{MatchBool, IfSome, OnOk, OnErr, IsTrue, ◌↔◌, is_err, filter, nat_lt, nat_le}
 use Rattle.std.specs.Fn.{Once}
 use denote.Ref.{MutBor}
-use Rattle.std.proofs.lemmas.List.{map-append}
+use mathlib.Core.List.{IsPrefix}
+use Rattle.std.proofs.lemmas.Bool.{and_parts, ltb-true, lt-ltb}
 use Rattle.std.proofs.lemmas.List.Elements.{filter-append}
-use Rattle.history_model.specs.History.{Entry, bodies, is_stored}
+use Rattle.history_model.specs.History.{Entry, Fault, is_breaking, is_down, entries_by}
 use Rattle.history_model.specs.Journal.{Header}
+use Rattle.byte_fields.proofs.Lists.{prefix_self}
+use Rattle.bookmark_lock.specs.Opening.{Opening}
 use Rattle.bookmark_lock.specs.Place.{Place}
-use Rattle.bookmark_lock.specs.Turns.{Entered, IsTurn, kept_after, stored_length}
+use Rattle.bookmark_lock.specs.Turns.{Entered, IsTurn, adds_unsealed, kept_after, still, stored_length}
 use Rattle.bookmark_lock.proofs.Waitings.{sealed_keeps_none}
-use Rattle.reply_model.specs.After.{Answer, Call, Replies, entries_of}
-use Rattle.repo_state.specs.State.{State}
-use Rattle.shared_repo.specs.Front.{history_of, opening_of, sealed_of}
+use Rattle.reply_model.specs.Reply.{Ask}
+use Rattle.reply_model.specs.After.{After, Answer, Asks, Call, Replies, SeesMore, calm_by, entry_by}
+use Rattle.reply_model.proofs.Fronts.{replies_after}
+use Rattle.repo_calls.specs.declared.refusal.Refusal.{Refusal}
+use Rattle.repo_state.specs.State.{State, after_seal, breaks}
+use Rattle.shared_repo.specs.declared.turns.Placed.{Placed}
+use Rattle.shared_repo.specs.Front.{IsFront, history_of, opening_of, sealed_of}
+use Rattle.shared_repo.specs.Sealed.{IsAt, IsEntered, IsSeen, IsTold, Tells, placed_answer}
+use Rattle.shared_repo.proofs.Made.{refused_same}
+use Rattle.shared_repo.proofs.Stored.{stored_fault, stored_grows}
 
--- what was added takes away nothing
-stored_more : (h more : List Entry) → stored_length h ≤ stored_length (h ++ more)
-stored_more h more =
-    let split : bodies (h ++ more) ≡ bodies h ++ bodies more =
-    ap (λ bs. filter is_stored bs) (map-append (λ (e : Entry). e.body) h more) ∙ filter-append is_stored (map (λ (e : Entry). e.body) h) (map (λ (e : Entry). e.body) more) in
-    let long : stored_length (h ++ more) ≡ stored_length h + stored_length more = ap length split ∙ length-append (bodies h) (bodies more) in
-    omega (arith, long)
+-- ---- the entry that a seat keeps
 
-pub replies_seal : (header : Header) (h new : List Entry) (who : ℕ) (call : Call) (answer : Answer) → Replies header h who call answer new → stored_length h ≤ stored_length new
-replies_seal header h new who call answer r = subst (λ (g : List Entry). stored_length h ≤ stored_length g) (sym r.new_is) (stored_more h (entries_of who r.made))
+adds_less : (before after : List Entry) (n : ℕ) → adds_unsealed before after n ≡ true → stored_length before < stored_length after
+adds_less before after n e = ltb-true (stored_length before) (stored_length after) (and_parts (nat_lt (stored_length before) (stored_length after)) (nat_le n (stored_length before)) e).0
 
-pub same_seals : (h new : List Entry) → new ≡ h → stored_length h ≤ stored_length new
-same_seals h new same = let is = ap stored_length same in omega (arith, is)
+-- of one that keeps none, it is stored in this turn
+kept_below : (before after : List Entry) (n : ℕ) → IfSome (kept_after None before after n) (λ i. i < stored_length after)
+kept_below before after n = by (is_down after) (adds_unsealed before after n) refl
+  where
+    by : (down adds : Bool) → adds_unsealed before after n ≡ adds → IfSome (cond down None (cond adds (Some (stored_length before)) None)) (λ i. i < stored_length after)
+    by true adds e = tt
+    by false false e = tt
+    by false true e = adds_less before after n e
 
-pub adds_seal : (who : ℕ) (h new : List Entry) (added : Bool) → MatchBool added ((e : Entry) × (e.who ≡ who) × (new ≡ h ++ e ∷ [])) (new ≡ h) → stored_length h ≤ stored_length new
-adds_seal who h new true adds = subst (λ (g : List Entry). stored_length h ≤ stored_length g) (sym adds.2) (stored_more h (adds.0 ∷ []))
-adds_seal who h new false adds = same_seals h new adds
+-- where nothing was stored it keeps what it kept and isn't sealed
+kept_same : (u : Option ℕ) (before after : List Entry) (n : ℕ) → stored_length after ≡ stored_length before → still u n ≡ None → kept_after u before after n ≡ None
+kept_same u before after n same none = by (is_down after) (adds_unsealed before after n) refl
+  where
+    by : (down adds : Bool) → adds_unsealed before after n ≡ adds → cond down None (cond adds (Some (stored_length before)) (still u n)) ≡ None
+    by true adds e = refl
+    by false false e = none
+    by false true e = let less = adds_less before after n e in absurd (omega arith)
 
--- a turn without an entry
-pub still_turn : (who : ℕ) (before after : State) → after.history ≡ before.history → after.opening ≡ before.opening → IsTurn history_of opening_of sealed_of who None before after false
-still_turn who before after same opened = record { opened = opened; adds = same; seals = same_seals before.history after.history same; one = λ up adds. refl }
+kept_down : (u : Option ℕ) (before after : List Entry) (n : ℕ) → is_down after ≡ true → kept_after u before after n ≡ None
+kept_down u before after n down = ap (λ (d : Bool). cond d None (cond (adds_unsealed before after n) (Some (stored_length before)) (still u n))) down
 
--- a seat that keeps no entry keeps none then
-pub keeps_none : {F X : Type 0} (g : Once F (MutBor State × Unit {0}) ((Bool × X) × (MutBor State × Unit {0}))) (act : F) (seat now : Place) (answer : X) → Entered history_of opening_of sealed_of g act seat now answer → seat.unsealed ≡ None → now.unsealed ≡ None
-keeps_none g act seat now answer e none =
-    let before = e.before.history in
-    let after = e.after.history in
-    ap (λ (p : Place). p.unsealed) e.moved ∙ (ap (λ (u : Option ℕ). kept_after u before after (stored_length after)) none ∙ sealed_keeps_none before after (stored_length after) (omega arith))
+still_none : (u : Option ℕ) (upto n : ℕ) → IfSome u (λ i. i < upto) → upto ≤ n → still u n ≡ None
+still_none None upto n below le = refl
+still_none (Some i) upto n below le = ap (λ (b : Bool). cond b None (Some i)) (lt-ltb i n (omega arith))
+
+-- ---- seals
+
+seal_stores : (who : ℕ) (failed : Bool) (h new : List Entry) → new ≡ after_seal who failed h → stored_length new ≡ stored_length h
+seal_stores who failed h new is = by (breaks failed h) is
+  where
+    by : (b : Bool) → new ≡ cond b (h ++ entry_by who (Fault true) ∷ []) h → stored_length new ≡ stored_length h
+    by true e = ap stored_length e ∙ stored_fault h who true
+    by false e = ap stored_length e
+
+seal_adds : (who : ℕ) (failed : Bool) (h new : List Entry) → new ≡ after_seal who failed h → MatchBool (breaks failed h) ((e : Entry) × (e.who ≡ who) × (new ≡ h ++ e ∷ [])) (new ≡ h)
+seal_adds who failed h new is = by (breaks failed h) is
+  where
+    by : (b : Bool) → new ≡ cond b (h ++ entry_by who (Fault true) ∷ []) h → MatchBool b ((e : Entry) × (e.who ≡ who) × (new ≡ h ++ e ∷ [])) (new ≡ h)
+    by true e = (entry_by who (Fault true), refl, e)
+    by false e = e
+
+pub seal_turns : (who : ℕ) (failed added : Bool) (unsealed : Option ℕ) (before after : State) → after.history ≡ after_seal who failed before.history → added ≡ breaks failed before.history → after.opening ≡ before.opening → before.sealed ≤ after.sealed
+    → IsTurn history_of opening_of sealed_of who unsealed before after added
+seal_turns who failed added unsealed before after is adds_is opened seals =
+    let adds = seal_adds who failed before.history after.history is in
+    record {
+      opened = opened;
+      adds = subst (λ (b : Bool). MatchBool b ((e : Entry) × (e.who ≡ who) × (after.history ≡ before.history ++ e ∷ [])) (after.history ≡ before.history)) (sym adds_is) adds;
+      seals = seals;
+      one = λ up more. (let same = seal_stores who failed before.history after.history is in
+          let less = adds_less before.history after.history after.sealed more in absurd (omega arith));
+    }
+
+pub seal_turn : (who number : ℕ) (unsealed : Option ℕ) (shown before left after : State) (added : Bool) → who ≡ number → shown ≡ before → left ≡ after → ((u : Option ℕ) → IsTurn history_of opening_of sealed_of who u shown left added)
+    → IsTurn history_of opening_of sealed_of number unsealed before after added
+seal_turn who number unsealed shown before left after added who_is shows leaves turn =
+    subst (λ (n : ℕ). IsTurn history_of opening_of sealed_of n unsealed before after added) who_is
+    (subst (λ (b : State). IsTurn history_of opening_of sealed_of who unsealed b after added) shows
+    (subst (λ (a : State). IsTurn history_of opening_of sealed_of who unsealed shown a added) leaves (turn unsealed)))
+
+pub seal_fails : {A E : Type 0} (result : Result A E) (down : Bool) (m n : ℕ) → IsTrue (is_err result) ↔ (IsTrue down × (m < n)) → OnErr result (down ≡ true)
+seal_fails (Ok x) down m n told = tt
+seal_fails (Err e) down m n told = (told.0 refl).0
+
+-- ---- a turn without an entry
+
+pub still_turn : (who : ℕ) (before after : State) → after.history ≡ before.history → after.opening ≡ before.opening → after.sealed ≡ before.sealed → IsTurn history_of opening_of sealed_of who None before after false
+still_turn who before after same opened sealed = record { opened = opened; adds = same; seals = omega arith; one = λ up adds. refl }
+
+-- ---- what the lock tells
+
+module _ {F X : Type 0} (g : Once F (MutBor State × Unit {0}) ((Bool × X) × (MutBor State × Unit {0}))) (act : F) (seat now : Place) (answer : X) (e : Entered history_of opening_of sealed_of g act seat now answer) where
+  front_is : now.front ≡ e.after.history
+  front_is = ap (λ (p : Place). p.front) e.moved
+
+  sealed_is : now.sealed ≡ e.after.sealed
+  sealed_is = ap (λ (p : Place). p.sealed) e.moved
+
+  unsealed_is : now.unsealed ≡ kept_after seat.unsealed e.before.history e.after.history e.after.sealed
+  unsealed_is = ap (λ (p : Place). p.unsealed) e.moved
+
+  keeps_of_none : seat.unsealed ≡ None → now.unsealed ≡ kept_after None e.before.history e.after.history e.after.sealed
+  keeps_of_none none = unsealed_is ∙ ap (λ (u : Option ℕ). kept_after u e.before.history e.after.history e.after.sealed) none
+
+  pub sees_in : SeesMore seat.front seat.number e.before.history
+  sees_in = record { begins = e.found.goes_on.begins; own = e.found.goes_on.own }
+
+  -- in a turn in which the history stayed as it was
+  pub sees_still : e.after.history ≡ e.before.history → SeesMore seat.front seat.number now.front
+  sees_still same = subst (SeesMore seat.front seat.number) (sym (front_is ∙ same)) sees_in
+
+  pub seals_in : seat.sealed ≤ now.sealed
+  seals_in = let told = e.found.told in let more = e.seals in let is = sealed_is in omega arith
+
+  -- a seat that keeps no entry keeps none then, where nothing was stored
+  pub keeps_none : seat.unsealed ≡ None → stored_length e.after.history ≡ stored_length e.before.history → now.unsealed ≡ None
+  keeps_none none same = keeps_of_none none ∙ kept_same None e.before.history e.after.history e.after.sealed same refl
+
+  pub entered_in : (ask : Ask) (entered : Result Placed Refusal) → Replies e.before.opening.header e.before.history seat.number (Asks ask) (placed_answer entered) e.after.history → IsEntered seat.lock.opening.header seat ask entered now.front
+  entered_in ask entered r = record {
+    before = e.before.history;
+    sees = sees_in;
+    replies =
+        let of_lock = subst (λ (header : Header). Replies header e.before.history seat.number (Asks ask) (placed_answer entered) e.after.history) (ap (λ o. o.header) e.found.opened) r in
+        subst (λ (h : List Entry). Replies seat.lock.opening.header e.before.history seat.number (Asks ask) (placed_answer entered) h) (sym front_is) of_lock;
+  }
+
+  pub told_in : seat.unsealed ≡ None → (header : Header) (ask : Ask) (entered : Result Placed Refusal) → Replies header e.before.history seat.number (Asks ask) (placed_answer entered) e.after.history → Tells entered e.after → IsTold entered now
+  told_in none header ask (Ok placed) r t =
+      let before = e.before.history in
+      let after = e.after.history in
+      let n = e.after.sealed in
+      record {
+        stored_is = t.0 ∙ ap stored_length (sym front_is);
+        told = let is = sealed_is in let told = t.1 in omega arith;
+        keeps = subst (λ (m : ℕ). IfSome now.unsealed (λ i. i < m)) (sym t.0) (subst (λ (u : Option ℕ). IfSome u (λ i. i < stored_length after)) (sym (keeps_of_none none)) (kept_below before after n));
+        all = λ le. keeps_of_none none ∙ sealed_keeps_none before after n (let stored = t.0 in let told = t.1 in omega arith);
+      }
+  told_in none header ask (Err refusal) r t =
+      keeps_none none (ap stored_length (refused_same header e.before.history e.after.history seat.number ask refusal r))
+
+  -- a seat that has no entry of its own past these sees them sealed, or a breaking fault
+  module _ {A E : Type 0} (result : Result A E) (upto : ℕ) (history : e.after.history ≡ after_seal seat.number (is_err result) e.before.history) where
+    calm_seal : calm_by seat.number e.after.history ≡ calm_by seat.number seat.front
+    calm_seal = by (breaks (is_err result) e.before.history) history
+      where
+        is_calm : Entry → Bool
+        is_calm x = not (is_breaking x.body)
+
+        by : (b : Bool) → e.after.history ≡ cond b (e.before.history ++ entry_by seat.number (Fault true) ∷ []) e.before.history → calm_by seat.number e.after.history ≡ calm_by seat.number seat.front
+        by true grew =
+            ap (filter is_calm) (e.own_one (entry_by seat.number (Fault true)) grew)
+            ∙ (filter-append is_calm (entries_by seat.number seat.front) (entry_by seat.number (Fault true) ∷ []) ∙ append-nil (calm_by seat.number seat.front))
+        by false same = ap (filter is_calm) (e.own_none same)
+
+    none_left : IfSome seat.unsealed (λ i. i < upto) → OnOk result (upto ≤ e.after.sealed) → OnErr result (is_down e.after.history ≡ true) → now.unsealed ≡ None
+    none_left below = by result history
+      where
+        by : (r : Result A E) → e.after.history ≡ after_seal seat.number (is_err r) e.before.history → OnOk r (upto ≤ e.after.sealed) → OnErr r (is_down e.after.history ≡ true) → now.unsealed ≡ None
+        by (Ok x) is done failed =
+            unsealed_is
+            ∙ kept_same seat.unsealed e.before.history e.after.history e.after.sealed (seal_stores seat.number false e.before.history e.after.history is) (still_none seat.unsealed upto e.after.sealed below done)
+        by (Err x) is done failed = unsealed_is ∙ kept_down seat.unsealed e.before.history e.after.history e.after.sealed failed
+
+    seen_in : IfSome seat.unsealed (λ i. i < upto) → OnOk result (upto ≤ e.after.sealed) → OnErr result (is_down e.after.history ≡ true) → IsSeen seat now
+    seen_in below done failed = record {
+      begins = subst (λ (h : List Entry). IsPrefix seat.front h) (sym front_is) e.begins;
+      own = ap (calm_by seat.number) front_is ∙ calm_seal;
+      seals = seals_in;
+      none = none_left below done failed;
+    }
+
+  -- by what the turn shows and leaves
+  pub sealed_in : (who : ℕ) → who ≡ seat.number → {A E : Type 0} (result : Result A E) (upto : ℕ) (shown left : State) → shown ≡ e.before → left ≡ e.after → left.history ≡ after_seal who (is_err result) shown.history → IfSome seat.unsealed (λ i. i < upto)
+      → OnOk result (upto ≤ left.sealed) → OnErr result (is_down left.history ≡ true) → IsSeen seat now
+  sealed_in who who_is result upto shown left shows leaves history below done failed =
+      seen_in result upto
+      (ap (λ (s : State). s.history) (sym leaves) ∙ (history ∙ (ap (λ (s : State). after_seal who (is_err result) s.history) shows ∙ ap (λ (n : ℕ). after_seal n (is_err result) e.before.history) who_is)))
+      below (subst (λ (s : State). OnOk result (upto ≤ s.sealed)) leaves done) (subst (λ (s : State). OnErr result (is_down s.history ≡ true)) leaves failed)
+
+  module _ (who : ℕ) (who_is : who ≡ seat.number) (shown left : State) (shows : shown ≡ e.before) (leaves : left ≡ e.after) where
+    -- the seat knows the answer that it had in the turn
+    pub replied_in : (call : Call) (answer : Answer) → Replies shown.opening.header shown.history who call answer left.history → After seat.lock.opening.header seat.front seat.number call answer now.front
+    replied_in call answer r =
+        let one = subst (λ (s : State). Replies s.opening.header s.history who call answer left.history) shows r in
+        let two = subst (λ (s : State). Replies e.before.opening.header e.before.history who call answer s.history) leaves one in
+        let three = subst (λ (n : ℕ). Replies e.before.opening.header e.before.history n call answer e.after.history) who_is two in
+        let four = subst (λ (o : Opening). Replies o.header e.before.history seat.number call answer e.after.history) e.found.opened three in
+        replies_after seat.lock.opening.header seat.front e.before.history seat.number call answer now.front sees_in (subst (λ (h : List Entry). Replies seat.lock.opening.header e.before.history seat.number call answer h) (sym front_is) four)
+
+    pub front_in : IsFront left.opening left.history → IsFront now.lock.opening now.front
+    front_in f =
+        let after = subst (λ (s : State). IsFront s.opening s.history) leaves f in
+        let opened = e.opened ∙ ap (λ (p : Place). p.lock.opening) (sym e.moved) in
+        subst (λ (h : List Entry). IsFront now.lock.opening h) (sym front_is) (subst (λ (o : Opening). IsFront o e.after.history) opened after)
+
+    pub stores_none : seat.unsealed ≡ None → stored_length left.history ≡ stored_length shown.history → now.unsealed ≡ None
+    stores_none none same = keeps_none none (ap (λ (s : State). stored_length s.history) (sym leaves) ∙ (same ∙ ap (λ (s : State). stored_length s.history) shows))
+
+-- so many are stored in what the seat finds
+pub stored_in : (upto : ℕ) (g h : List Entry) → IsPrefix g h → upto ≡ stored_length g → upto ≤ stored_length h
+stored_in upto g h p is = let more = stored_grows g h p in omega arith
+
+-- where all is sealed already, no other turn is needed
+pub seen_same : (placed : Placed) (seat : Place) → IsAt placed seat → placed.stored ≤ placed.sealed → IsSeen seat seat
+seen_same placed seat at le = record { begins = prefix_self seat.front; own = refl; seals = omega arith; none = at.all le }

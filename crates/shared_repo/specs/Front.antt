@@ -1,12 +1,11 @@
 -- What a seat has seen of a repository that was opened so.
 --     IsFront opening h      a legal history, without a fault where the disk fails no call on a file within the capacity
---     history_of, opening_of, sealed_of      what the lock sees of a repository, all of whose entries are sealed
+--     history_of, opening_of, sealed_of      what the lock sees of a repository
 use Rattle.std.specs.Prelude.{ℕ, List}
 use Rattle.history_model.specs.History.{Entry}
 use Rattle.reply_model.specs.Legal.{IsLegal}
 use Rattle.repo_state.specs.State.{HasNoFault, IsQuiet, State}
 use Rattle.bookmark_lock.specs.Opening.{Opening}
-use Rattle.bookmark_lock.specs.Turns.{stored_length}
 
 pub record IsFront (opening : Opening) (h : List Entry) : Type 0 where
   pub legal : IsLegal opening.header h
@@ -19,4 +18,4 @@ abbrev pub opening_of : State → Opening
 opening_of s = s.opening
 
 abbrev pub sealed_of : State → ℕ
-sealed_of s = stored_length s.history
+sealed_of s = s.sealed

@@ -1,3 +1,4 @@
 pub mod Derivation
 pub mod Front
 pub mod Landing
+pub mod Sealed

@@ -1,10 +1,12 @@
-//! The calls of a seat by their names, each one of its changes or reads.
-ghost use Rattle.std.specs.Prelude.{◌≡◌};
+//! The calls of a seat by their names, each one of its changes or reads. What a change is granted is sealed before it is answered.
+ghost use Rattle.std.specs.Prelude.{◌≡◌, ◌≤◌, false, IsTrue};
 ghost use Rattle.bookmark_lock.specs.Place.{moved};
-ghost use Rattle.reply_model.specs.Reply.{PutContent, PutChangeset, SetBookmark, LandDraft, HeadOf, ContentOf, ChangesetOf, LogFrom, FsnodeOf, UnodeOf, HistoryOf};
-ghost use Rattle.reply_model.specs.After.{After, Answer, Asks, Looks};
-ghost use Rattle.repo_calls.specs.Asking.{IsAnswer, place_of, stored_answer};
+ghost use Rattle.reply_model.specs.Reply.{PutContent, PutChangeset, SetBookmark, LandDraft, HeadOf, SeenHead, ContentOf, ChangesetOf, LogFrom, FsnodeOf, UnodeOf, HistoryOf, CopiesOf};
+ghost use Rattle.reply_model.specs.After.{After, Answer, Asks, Looks, Shows};
+ghost use Rattle.reply_model.specs.Opening.{nobody};
+ghost use Rattle.repo_calls.specs.Asking.{IsAnswer, is_bad_bytes, place_of, stored_answer};
 ghost use Rattle.shared_repo.specs.Front.{IsFront};
+ghost use Rattle.shared_repo.specs.Sealed.{IsSealedAfter, IsState, UnlessRefused};
 
 use crate::repo::Repo;
 use crate::seat::RepoSeat;
@@ -28,6 +30,9 @@ impl<D: Disk> Repo<D> {
         requires place { seat.old.lock ≡ self.now }
         ensures seat { seat.new ≡ moved seat.old seat.new }
         ensures after { After self.now.opening.header seat.old.front seat.old.number (Asks (PutContent bytes.now)) (stored_answer result) seat.new.front }
+        ensures sealed { IsSealedAfter self.now.opening.header seat.old.front seat.old.number (PutContent bytes.now) (stored_answer result) seat.new.front seat.new.sealed }
+        ensures seals { seat.old.sealed ≤ seat.new.sealed }
+        ensures stands { UnlessRefused result (IsState self.now.opening seat.new.front seat.new.sealed) }
         ensures front { IsFront self.now.opening seat.new.front }
     {
         self.change(rt, alloc, seat, &Ask::PutContent(bytes), &NoGate)
@@ -44,6 +49,9 @@ impl<D: Disk> Repo<D> {
         requires place { seat.old.lock ≡ self.now }
         ensures seat { seat.new ≡ moved seat.old seat.new }
         ensures after { After self.now.opening.header seat.old.front seat.old.number (Asks (PutChangeset bytes.now)) (stored_answer result) seat.new.front }
+        ensures sealed { IsSealedAfter self.now.opening.header seat.old.front seat.old.number (PutChangeset bytes.now) (stored_answer result) seat.new.front seat.new.sealed }
+        ensures seals { seat.old.sealed ≤ seat.new.sealed }
+        ensures stands { UnlessRefused result (IsState self.now.opening seat.new.front seat.new.sealed) }
         ensures front { IsFront self.now.opening seat.new.front }
     {
         self.change(rt, alloc, seat, &Ask::PutChangeset(bytes), &NoGate)
@@ -61,7 +69,10 @@ impl<D: Disk> Repo<D> {
     ) -> Result<Granted, ChangeFault>
         requires place { seat.old.lock ≡ self.now }
         ensures seat { seat.new ≡ moved seat.old seat.new }
-        ensures after { After self.now.opening.header seat.old.front seat.old.number (Asks (SetBookmark name.now from to)) (stored_answer result) seat.new.front }
+        ensures after { After self.now.opening.header seat.old.front seat.old.number (Asks (SetBookmark nobody name.now from to)) (stored_answer result) seat.new.front }
+        ensures sealed { IsSealedAfter self.now.opening.header seat.old.front seat.old.number (SetBookmark nobody name.now from to) (stored_answer result) seat.new.front seat.new.sealed }
+        ensures seals { seat.old.sealed ≤ seat.new.sealed }
+        ensures stands { UnlessRefused result (IsState self.now.opening seat.new.front seat.new.sealed) }
         ensures front { IsFront self.now.opening seat.new.front }
     {
         self.change(
@@ -73,7 +84,8 @@ impl<D: Disk> Repo<D> {
         )
     }
 
-    /// Lands a draft on a bookmark. Each attempt but the last passes the gate between its plan and its entry.
+    /// Lands a draft on a bookmark. What is of the second version is dated at the moment, in seconds since 1970-01-01 00:00
+    /// UTC. Each attempt but the last passes the gate between its plan and its entry.
     pub fn land<R: Wait, G: Gate>(
         &self,
         rt: &R,
@@ -81,30 +93,33 @@ impl<D: Disk> Repo<D> {
         seat: &mut RepoSeat,
         name: &BookName,
         draft: Id,
+        moment: u64,
         gate: &G,
     ) -> Result<Granted, ChangeFault>
         requires place { seat.old.lock ≡ self.now }
         ensures seat { seat.new ≡ moved seat.old seat.new }
-        ensures after { After self.now.opening.header seat.old.front seat.old.number (Asks (LandDraft name.now draft)) (stored_answer result) seat.new.front }
+        ensures after { After self.now.opening.header seat.old.front seat.old.number (Asks (LandDraft nobody name.now draft moment)) (stored_answer result) seat.new.front }
+        ensures sealed { IsSealedAfter self.now.opening.header seat.old.front seat.old.number (LandDraft nobody name.now draft moment) (stored_answer result) seat.new.front seat.new.sealed }
+        ensures seals { seat.old.sealed ≤ seat.new.sealed }
+        ensures stands { UnlessRefused result (IsState self.now.opening seat.new.front seat.new.sealed) }
         ensures front { IsFront self.now.opening seat.new.front }
     {
-        self.change(rt, alloc, seat, &Ask::Land { name, draft }, gate)
+        let ask = Ask::Land {
+            name,
+            draft,
+            moment,
+        };
+        self.change(rt, alloc, seat, &ask, gate)
     }
 
-    /// The head of a bookmark.
-    pub fn head<R: Wait>(
-        &self,
-        rt: &R,
-        alloc: Global,
-        seat: &mut RepoSeat,
-        name: &BookName,
-    ) -> Result<Seen, AskFault>
+    /// The head of a bookmark, which is known in its turn.
+    pub fn head<R: Wait>(&self, rt: &R, seat: &mut RepoSeat, name: &BookName) -> Option<Id>
         requires place { seat.old.lock ≡ self.now }
         ensures seat { seat.new ≡ moved seat.old seat.new }
-        ensures after { (answer : Answer) × IsAnswer result answer × After self.now.opening.header seat.old.front seat.old.number (Looks (HeadOf name.now)) answer seat.new.front }
+        ensures after { After self.now.opening.header seat.old.front seat.old.number (Looks (HeadOf name.now)) (Shows (SeenHead result)) seat.new.front }
         ensures front { IsFront self.now.opening seat.new.front }
     {
-        self.look(rt, alloc, seat, &Question::Head(name))
+        self.head_in_turn(rt, seat, name)
     }
 
     /// The bytes of a content.
@@ -118,6 +133,7 @@ impl<D: Disk> Repo<D> {
         requires place { seat.old.lock ≡ self.now }
         ensures seat { seat.new ≡ moved seat.old seat.new }
         ensures after { (answer : Answer) × IsAnswer result answer × After self.now.opening.header seat.old.front seat.old.number (Looks (ContentOf id)) answer seat.new.front }
+        ensures honest { IsTrue self.now.opening.honest → is_bad_bytes result ≡ false }
         ensures front { IsFront self.now.opening seat.new.front }
     {
         self.look(rt, alloc, seat, &Question::Content(id))
@@ -137,6 +153,22 @@ impl<D: Disk> Repo<D> {
         ensures front { IsFront self.now.opening seat.new.front }
     {
         self.look(rt, alloc, seat, &Question::Changeset(id))
+    }
+
+    /// What a changeset sets as copies.
+    pub fn copies<R: Wait>(
+        &self,
+        rt: &R,
+        alloc: Global,
+        seat: &mut RepoSeat,
+        id: Id,
+    ) -> Result<Seen, AskFault>
+        requires place { seat.old.lock ≡ self.now }
+        ensures seat { seat.new ≡ moved seat.old seat.new }
+        ensures after { (answer : Answer) × IsAnswer result answer × After self.now.opening.header seat.old.front seat.old.number (Looks (CopiesOf id)) answer seat.new.front }
+        ensures front { IsFront self.now.opening seat.new.front }
+    {
+        self.look(rt, alloc, seat, &Question::Copies(id))
     }
 
     /// A page of the log, from this number on.

@@ -1,17 +1,19 @@
 //! Changes of a repository that many seats share. An upload is hashed, decoded and put into its record outside of the turn,
-//! which has what needs the repository, and no more.
-ghost use Rattle.std.specs.Prelude.{◌≡◌, None};
+//! which has what needs the repository, and no more. What is granted is sealed in a turn of its own before it is answered.
+ghost use Rattle.std.specs.Prelude.{◌≡◌, ◌≤◌, None};
 ghost use Rattle.bookmark_lock.specs.Place.{moved};
 ghost use Rattle.bookmark_lock.specs.Turns.{IsTurn};
 ghost use Rattle.reply_model.specs.After.{After, Asks, Replies};
 ghost use Rattle.repo_calls.specs.Calls.{ask_seen};
 ghost use Rattle.repo_calls.specs.Asking.{stored_answer};
 ghost use Rattle.shared_repo.specs.Front.{IsFront, history_of, opening_of, sealed_of};
+ghost use Rattle.shared_repo.specs.Sealed.{IsEntered, IsSealedAfter, IsState, IsTold, Tells, placed_answer, UnlessRefused};
 
 use crate::repo::Repo;
 use crate::seat::RepoSeat;
-use crate::turns::TurnChange;
+use crate::turns::{Placed, TurnChange};
 use blob_disk::Disk;
+use bookmark_lock::Seat;
 use ports::Gate;
 use repo_calls::{Ask, ChangeFault, Granted, Refusal};
 use repo_machine::prepare;
@@ -32,18 +34,27 @@ impl<D: Disk> Repo<D> {
         requires place { seat.old.lock ≡ self.now }
         ensures seat { seat.new ≡ moved seat.old seat.new }
         ensures after { After self.now.opening.header seat.old.front seat.old.number (Asks (ask_seen ask.now)) (stored_answer result) seat.new.front }
+
+        // Where it is granted, all up to its place is sealed.
+        ensures sealed { IsSealedAfter self.now.opening.header seat.old.front seat.old.number (ask_seen ask.now) (stored_answer result) seat.new.front seat.new.sealed }
+        ensures seals { seat.old.sealed ≤ seat.new.sealed }
+        ensures stands { UnlessRefused result (IsState self.now.opening seat.new.front seat.new.sealed) }
         ensures front { IsFront self.now.opening seat.new.front }
     {
         match *ask {
             Ask::PutContent(_) | Ask::PutChangeset(_) | Ask::SetBookmark { .. } => {
                 self.store(rt, alloc, seat, ask)
             }
-            Ask::Land { name, draft } => self.land_in_turns(rt, alloc, seat, name, draft, gate),
+            Ask::Land {
+                name,
+                draft,
+                moment,
+            } => self.land_in_turns(rt, alloc, seat, name, draft, moment, gate),
         }
     }
 
-    // A change that is made in one turn.
-    #[tactic(auto, using(crate::proofs::Fronts::after_memory))]
+    // A change that is entered in one turn.
+    #[tactic(auto, using(crate::proofs::Sealings::memory_sealed, crate::proofs::Sealings::state_front, crate::proofs::Sealings::state_unless))]
     fn store<R: Wait>(
         &self,
         rt: &R,
@@ -53,7 +64,9 @@ impl<D: Disk> Repo<D> {
     ) -> Result<Granted, ChangeFault>
         requires place { seat.old.lock ≡ self.now }
         ensures seat { seat.new ≡ moved seat.old seat.new }
-        ensures after { After self.now.opening.header seat.old.front seat.old.number (Asks (ask_seen ask.now)) (stored_answer result) seat.new.front }
+        ensures sealed { IsSealedAfter self.now.opening.header seat.old.front seat.old.number (ask_seen ask.now) (stored_answer result) seat.new.front seat.new.sealed }
+        ensures seals { seat.old.sealed ≤ seat.new.sealed }
+        ensures stands { UnlessRefused result (IsState self.now.opening seat.new.front seat.new.sealed) }
         ensures front { IsFront self.now.opening seat.new.front }
     {
         // It keeps its rules.
@@ -61,33 +74,38 @@ impl<D: Disk> Repo<D> {
         let Ok(prepared) = prepare(alloc, ask) else {
             return Err(ChangeFault::Refused(Refusal::Memory));
         };
-        self.store_in_turn(rt, alloc, seat, prepared)
+        let entered = self.enter_change(rt, alloc, &mut seat.inner, prepared);
+        self.answer_sealed(rt, &mut seat.inner, entered)
     }
 
     // The turn of a change that is ready.
-    #[tactic(auto, using(crate::proofs::Turning::keeps_none))]
-    fn store_in_turn<R: Wait, C: TurnChange<D>>(
+    #[tactic(auto, using(crate::proofs::Turning::entered_in, crate::proofs::Turning::told_in))]
+    fn enter_change<R: Wait, C: TurnChange<D>>(
         &self,
         rt: &R,
         alloc: Global,
-        seat: &mut RepoSeat,
+        seat: &mut Seat,
         change: C,
-    ) -> Result<Granted, ChangeFault>
+    ) -> Result<Placed, Refusal>
         requires place { seat.old.lock ≡ self.now }
+        requires none { seat.old.unsealed ≡ None }
         requires ready { C.ready change }
         ensures seat { seat.new ≡ moved seat.old seat.new }
-        ensures after { After self.now.opening.header seat.old.front seat.old.number (Asks (C.asked change)) (stored_answer result) seat.new.front }
-        ensures front { IsFront self.now.opening seat.new.front }
+        ensures entered { IsEntered self.now.opening.header seat.old (C.asked change) result seat.new.front }
+        ensures told { IsTold result seat.new }
+        ensures seals { seat.old.sealed ≤ seat.new.sealed }
+        ensures stands { IsState self.now.opening seat.new.front seat.new.sealed }
     {
-        let who = seat.inner.number();
+        let who = seat.number();
         self.lock.enter(
             rt,
-            &mut seat.inner,
-            |state: &mut RepoState<D>| -> (bool, Result<Granted, ChangeFault>)
+            seat,
+            |state: &mut RepoState<D>| -> (bool, Result<Placed, Refusal>)
                 requires { C.ready change }
-                ensures reply { Replies state.old.opening.header state.old.history who (Asks (C.asked change)) (stored_answer result.1) state.new.history }
+                ensures reply { Replies state.old.opening.header state.old.history who (Asks (C.asked change)) (placed_answer result.1) state.new.history }
+                ensures told { Tells result.1 state.new }
                 ensures turn { IsTurn history_of opening_of sealed_of who None state.old state.new result.0 }
-                ensures front { IsFront state.new.opening state.new.history }
+                ensures stands { IsState state.new.opening state.new.history state.new.sealed }
             { change.store_in(state, alloc, who) },
         )
     }

@@ -119,6 +119,7 @@ impl<D: Disk> Repo<D> {
             |state: &mut RepoState<D>| -> (bool, Result<Next, AskFault>)
                 ensures same { state.new.history ≡ state.old.history }
                 ensures opening { state.new.opening ≡ state.old.opening }
+                ensures sealed { state.new.sealed ≡ state.old.sealed }
                 ensures none { result.0 ≡ false }
                 ensures ok { IfOk result.1 (IsNextSome state.old.opening.header state.old.history id) }
                 ensures err { IfErr result.1 (λ fault. Answers state.old.opening.header state.old.history (Derives id) (fault_answer fault) nothing) }
@@ -150,6 +151,7 @@ impl<D: Disk> Repo<D> {
                 requires { WasDerived state.old.history done }
                 ensures same { state.new.history ≡ state.old.history }
                 ensures opening { state.new.opening ≡ state.old.opening }
+                ensures sealed { state.new.sealed ≡ state.old.sealed }
                 ensures none { result.0 ≡ false }
                 ensures err { IfErr result.1 (λ fault. IsCollision (known state.new.history) fault) }
                 ensures front { IsFront state.new.opening state.new.history }

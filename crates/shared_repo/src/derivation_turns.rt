@@ -35,6 +35,7 @@ pub(crate) fn next_in<D: Disk>(
 ) -> Result<Next, AskFault>
     ensures same { state.new.history ≡ state.old.history }
     ensures opening { state.new.opening ≡ state.old.opening }
+    ensures sealed { state.new.sealed ≡ state.old.sealed }
     ensures ok { IfOk result (IsNextAt state.old.opening.header state.old.history state.old.table id) }
     ensures err { IfErr result (λ fault. Answers state.old.opening.header state.old.history (Derives id) (fault_answer fault) nothing) }
     ensures front { IsFront state.new.opening state.new.history }
@@ -60,6 +61,7 @@ pub(crate) fn settle_in<D: Disk>(
     requires derived { WasDerived state.old.history done }
     ensures same { state.new.history ≡ state.old.history }
     ensures opening { state.new.opening ≡ state.old.opening }
+    ensures sealed { state.new.sealed ≡ state.old.sealed }
     ensures ok { OnOk result (state.new.table ≡ settled_by (known state.old.history) state.old.table done) }
     ensures err { IfErr result (λ fault. IsCollision (known state.new.history) fault) }
     ensures front { IsFront state.new.opening state.new.history }

@@ -1,20 +1,22 @@
-//! Landings: planned under one turn, rebased outside of every turn, and entered under another.
-ghost use Rattle.std.specs.Prelude.{◌≡◌, IfOk, IfErr, MatchOption, false, None};
+//! Landings: planned under one turn, rebased outside of every turn, entered under another, and sealed under a third.
+ghost use Rattle.std.specs.Prelude.{◌≡◌, ◌≤◌, IfOk, IfErr, IfSome, MatchOption, false, None};
 ghost use Rattle.bookmark_lock.specs.Place.{moved};
 ghost use Rattle.bookmark_lock.specs.Turns.{IsTurn};
 ghost use Rattle.reply_model.specs.Reply.{LandDraft};
-ghost use Rattle.reply_model.specs.After.{After, Answers, Asks, Replies, nothing, SeesMore};
-ghost use Rattle.repo_calls.specs.Calls.{refused};
+ghost use Rattle.reply_model.specs.After.{Asks, Replies, SeesMore};
+ghost use Rattle.reply_model.specs.Opening.{nobody};
 ghost use Rattle.repo_machine.specs.Plans.{IsPlan, WasPlanned};
 ghost use Rattle.repo_calls.specs.Asking.{stored_answer};
 ghost use Rattle.shared_repo.specs.Front.{IsFront, history_of, opening_of, sealed_of};
-ghost use Rattle.shared_repo.specs.Landing.{IsEarlier};
+ghost use Rattle.shared_repo.specs.Landing.{IsEarlier, RefusesLanding};
+ghost use Rattle.shared_repo.specs.Sealed.{IsEntered, IsSealedAfter, IsState, IsTold, Tells, placed_answer, UnlessRefused};
 
 use crate::landing_turns::{land_in, plan_from};
 use crate::repo::Repo;
 use crate::seat::RepoSeat;
-use crate::turns::exchange_in;
+use crate::turns::{Placed, exchange_in};
 use blob_disk::Disk;
+use bookmark_lock::Seat;
 use object_id::Id;
 use ports::Gate;
 use repo_calls::{ChangeFault, Granted, Refusal};
@@ -29,10 +31,11 @@ const MOST_ATTEMPTS: u32 = 99;
 
 impl<D: Disk> Repo<D> {
     // An attempt plans under one turn, then rebases the stack and passes the gate outside of every turn, and enters the
-    // landing under another turn. Where the bookmark's head has moved meanwhile it is made again, at most 99 times in all.
+    // landing under another turn; where it is granted, it is sealed under a third. Where the bookmark's head has moved
+    // meanwhile it is made again, at most 99 times in all.
     // After that one turn is kept from the plan to the entry, and no gate is passed. Each attempt after the first makes the
     // plan of the one before again, which looks at what is new since then alone.
-    #[tactic(auto, using(crate::proofs::Fronts::sees_nothing, crate::proofs::Fronts::after_more, crate::proofs::Fronts::own_plan, crate::proofs::Fronts::made_before))]
+    #[tactic(auto, using(crate::proofs::Fronts::sees_nothing, crate::proofs::Fronts::own_plan, crate::proofs::Fronts::made_before))]
     pub(crate) fn land_in_turns<R: Wait, G: Gate>(
         &self,
         rt: &R,
@@ -40,11 +43,14 @@ impl<D: Disk> Repo<D> {
         seat: &mut RepoSeat,
         name: &BookName,
         draft: Id,
+        moment: u64,
         gate: &G,
     ) -> Result<Granted, ChangeFault>
         requires place { seat.old.lock ≡ self.now }
         ensures seat { seat.new ≡ moved seat.old seat.new }
-        ensures after { After self.now.opening.header seat.old.front seat.old.number (Asks (LandDraft name.now draft)) (stored_answer result) seat.new.front }
+        ensures sealed { IsSealedAfter self.now.opening.header seat.old.front seat.old.number (LandDraft nobody name.now draft moment) (stored_answer result) seat.new.front seat.new.sealed }
+        ensures seals { seat.old.sealed ≤ seat.new.sealed }
+        ensures stands { UnlessRefused result (IsState self.now.opening seat.new.front seat.new.sealed) }
         ensures front { IsFront self.now.opening seat.new.front }
     {
         let mut earlier = None;
@@ -53,12 +59,12 @@ impl<D: Disk> Repo<D> {
                 Ok(plan) => plan,
                 Err(refusal) => return Err(ChangeFault::Refused(refusal)),
             };
-            if let Some(answer) = self.attempt(rt, alloc, seat, &plan, gate, attempt) {
+            if let Some(answer) = self.attempt(rt, alloc, seat, &plan, moment, gate, attempt) {
                 return answer;
             }
             earlier = Some(plan);
         }
-        self.land_in_one_turn(rt, alloc, seat, name, draft, earlier)
+        self.land_in_one_turn(rt, alloc, seat, name, draft, moment, earlier)
     }
 
     // The first turn of an attempt. There may be the plan of the attempt before.
@@ -76,8 +82,9 @@ impl<D: Disk> Repo<D> {
         requires earlier { IsEarlier seat.old.front name.now draft earlier }
         ensures seat { seat.new ≡ moved seat.old seat.new }
         ensures more { SeesMore seat.old.front seat.old.number seat.new.front }
+        ensures seals { seat.old.sealed ≤ seat.new.sealed }
         ensures ok { IfOk result (IsPlan seat.new.front name.now draft) }
-        ensures err { IfErr result (λ e. Answers self.now.opening.header seat.new.front (Asks (LandDraft name.now draft)) (refused e) nothing) }
+        ensures err { IfErr result (RefusesLanding self.now.opening.header seat.new.front name.now draft) }
         ensures front { IsFront self.now.opening seat.new.front }
     {
         self.lock.enter(
@@ -87,69 +94,78 @@ impl<D: Disk> Repo<D> {
                 requires { IsEarlier state.old.history name.now draft earlier }
                 ensures same { state.new.history ≡ state.old.history }
                 ensures opening { state.new.opening ≡ state.old.opening }
+                ensures sealed { state.new.sealed ≡ state.old.sealed }
                 ensures none { result.0 ≡ false }
                 ensures ok { IfOk result.1 (IsPlan state.old.history name.entry.now draft) }
-                ensures err { IfErr result.1 (λ e. Answers state.old.opening.header state.old.history (Asks (LandDraft name.entry.now draft)) (refused e) nothing) }
+                ensures err { IfErr result.1 (RefusesLanding state.old.opening.header state.old.history name.entry.now draft) }
                 ensures front { IsFront state.new.opening state.new.history }
             { (false, plan_from(state, alloc, name, draft, earlier)) },
         )
     }
 
     // The rest of an attempt: the landing's answer, or none where the head moved since the plan.
-    #[tactic(auto, using(crate::proofs::Fronts::after_memory, crate::proofs::Fronts::planned_here))]
+    #[tactic(auto, using(crate::proofs::Sealings::memory_sealed, crate::proofs::Sealings::state_front, crate::proofs::Sealings::state_unless, crate::proofs::Fronts::planned_here))]
     fn attempt<R: Wait, G: Gate>(
         &self,
         rt: &R,
         alloc: Global,
         seat: &mut RepoSeat,
         plan: &Plan,
+        moment: u64,
         gate: &G,
         attempt: u32,
     ) -> Option<Result<Granted, ChangeFault>>
         requires place { seat.old.lock ≡ self.now }
         requires planned { IsPlan seat.old.front plan.now.name plan.now.draft plan.now }
         ensures seat { seat.new ≡ moved seat.old seat.new }
-        ensures after { MatchOption result (SeesMore seat.old.front seat.old.number seat.new.front) (λ answer. After self.now.opening.header seat.old.front seat.old.number (Asks (LandDraft plan.now.name plan.now.draft)) (stored_answer answer) seat.new.front) }
+        ensures sealed { MatchOption result (SeesMore seat.old.front seat.old.number seat.new.front) (λ answer. IsSealedAfter self.now.opening.header seat.old.front seat.old.number (LandDraft nobody plan.now.name plan.now.draft moment) (stored_answer answer) seat.new.front seat.new.sealed) }
+        ensures seals { seat.old.sealed ≤ seat.new.sealed }
+        ensures stands { IfSome result (λ answer. UnlessRefused answer (IsState self.now.opening seat.new.front seat.new.sealed)) }
         ensures front { IsFront self.now.opening seat.new.front }
     {
         let who = seat.inner.number();
-        let Ok(rebased) = plan.rebased(alloc) else {
+        let Ok(rebased) = plan.rebased(alloc, moment) else {
             return Some(Err(ChangeFault::Refused(Refusal::Memory)));
         };
         gate.between(who, attempt);
-        self.exchange(rt, alloc, seat, rebased)
+        let entered = self.exchange(rt, alloc, &mut seat.inner, rebased)?;
+        Some(self.answer_sealed(rt, &mut seat.inner, entered))
     }
 
-    // The second turn of an attempt: the landing's answer, or none where the head has moved.
-    #[tactic(auto, using(repo_machine::proofs::Planning::was_planned, crate::proofs::Turning::keeps_none))]
+    // The second turn of an attempt: what came of the landing, or none where the head has moved.
+    #[tactic(auto, using(repo_machine::proofs::Planning::was_planned, crate::proofs::Turning::entered_in, crate::proofs::Turning::told_in))]
     fn exchange<R: Wait>(
         &self,
         rt: &R,
         alloc: Global,
-        seat: &mut RepoSeat,
+        seat: &mut Seat,
         rebased: Rebased,
-    ) -> Option<Result<Granted, ChangeFault>>
+    ) -> Option<Result<Placed, Refusal>>
         requires place { seat.old.lock ≡ self.now }
+        requires none { seat.old.unsealed ≡ None }
         requires planned { WasPlanned seat.old.front rebased }
         ensures seat { seat.new ≡ moved seat.old seat.new }
-        ensures after { MatchOption result (SeesMore seat.old.front seat.old.number seat.new.front) (λ answer. After self.now.opening.header seat.old.front seat.old.number (Asks (LandDraft rebased.name rebased.draft)) (stored_answer answer) seat.new.front) }
-        ensures front { IsFront self.now.opening seat.new.front }
+        ensures entered { MatchOption result (SeesMore seat.old.front seat.old.number seat.new.front) (λ entered. IsEntered self.now.opening.header seat.old (LandDraft nobody rebased.name rebased.draft rebased.asked) entered seat.new.front) }
+        ensures told { MatchOption result (seat.new.unsealed ≡ None) (λ entered. IsTold entered seat.new) }
+        ensures seals { seat.old.sealed ≤ seat.new.sealed }
+        ensures stands { IsState self.now.opening seat.new.front seat.new.sealed }
     {
-        let who = seat.inner.number();
+        let who = seat.number();
         self.lock.enter(
             rt,
-            &mut seat.inner,
-            |state: &mut RepoState<D>| -> (bool, Option<Result<Granted, ChangeFault>>)
+            seat,
+            |state: &mut RepoState<D>| -> (bool, Option<Result<Placed, Refusal>>)
                 requires { WasPlanned state.old.history rebased }
-                ensures reply { MatchOption result.1 (state.new.history ≡ state.old.history) (λ answer. Replies state.old.opening.header state.old.history who (Asks (LandDraft rebased.name rebased.draft)) (stored_answer answer) state.new.history) }
+                ensures reply { MatchOption result.1 (state.new.history ≡ state.old.history) (λ entered. Replies state.old.opening.header state.old.history who (Asks (LandDraft nobody rebased.name rebased.draft rebased.asked)) (placed_answer entered) state.new.history) }
+                ensures told { IfSome result.1 (λ entered. Tells entered state.new) }
                 ensures turn { IsTurn history_of opening_of sealed_of who None state.old state.new result.0 }
-                ensures front { IsFront state.new.opening state.new.history }
+                ensures stands { IsState state.new.opening state.new.history state.new.sealed }
             { exchange_in(state, alloc, who, rebased) },
         )
     }
 
     // The last attempt: the bookmark can't move from its plan to its entry.
-    #[tactic(auto, using(crate::proofs::Fronts::earlier_later, crate::proofs::Turning::keeps_none))]
+    #[tactic(auto, using(crate::proofs::Sealings::state_front, crate::proofs::Sealings::state_unless))]
     fn land_in_one_turn<R: Wait>(
         &self,
         rt: &R,
@@ -157,24 +173,53 @@ impl<D: Disk> Repo<D> {
         seat: &mut RepoSeat,
         name: &BookName,
         draft: Id,
+        moment: u64,
         earlier: Option<Plan>,
     ) -> Result<Granted, ChangeFault>
         requires place { seat.old.lock ≡ self.now }
         requires earlier { IsEarlier seat.old.front name.now draft earlier }
         ensures seat { seat.new ≡ moved seat.old seat.new }
-        ensures after { After self.now.opening.header seat.old.front seat.old.number (Asks (LandDraft name.now draft)) (stored_answer result) seat.new.front }
+        ensures sealed { IsSealedAfter self.now.opening.header seat.old.front seat.old.number (LandDraft nobody name.now draft moment) (stored_answer result) seat.new.front seat.new.sealed }
+        ensures seals { seat.old.sealed ≤ seat.new.sealed }
+        ensures stands { UnlessRefused result (IsState self.now.opening seat.new.front seat.new.sealed) }
         ensures front { IsFront self.now.opening seat.new.front }
     {
-        let who = seat.inner.number();
+        let entered = self.enter_landing(rt, alloc, &mut seat.inner, name, draft, moment, earlier);
+        self.answer_sealed(rt, &mut seat.inner, entered)
+    }
+
+    // The turn of the last attempt.
+    #[tactic(auto, using(crate::proofs::Fronts::earlier_later, crate::proofs::Turning::entered_in, crate::proofs::Turning::told_in))]
+    fn enter_landing<R: Wait>(
+        &self,
+        rt: &R,
+        alloc: Global,
+        seat: &mut Seat,
+        name: &BookName,
+        draft: Id,
+        moment: u64,
+        earlier: Option<Plan>,
+    ) -> Result<Placed, Refusal>
+        requires place { seat.old.lock ≡ self.now }
+        requires none { seat.old.unsealed ≡ None }
+        requires earlier { IsEarlier seat.old.front name.now draft earlier }
+        ensures seat { seat.new ≡ moved seat.old seat.new }
+        ensures entered { IsEntered self.now.opening.header seat.old (LandDraft nobody name.now draft moment) result seat.new.front }
+        ensures told { IsTold result seat.new }
+        ensures seals { seat.old.sealed ≤ seat.new.sealed }
+        ensures stands { IsState self.now.opening seat.new.front seat.new.sealed }
+    {
+        let who = seat.number();
         self.lock.enter(
             rt,
-            &mut seat.inner,
-            |state: &mut RepoState<D>| -> (bool, Result<Granted, ChangeFault>)
+            seat,
+            |state: &mut RepoState<D>| -> (bool, Result<Placed, Refusal>)
                 requires { IsEarlier state.old.history name.now draft earlier }
-                ensures reply { Replies state.old.opening.header state.old.history who (Asks (LandDraft name.entry.now draft)) (stored_answer result.1) state.new.history }
+                ensures reply { Replies state.old.opening.header state.old.history who (Asks (LandDraft nobody name.entry.now draft moment)) (placed_answer result.1) state.new.history }
+                ensures told { Tells result.1 state.new }
                 ensures turn { IsTurn history_of opening_of sealed_of who None state.old state.new result.0 }
-                ensures front { IsFront state.new.opening state.new.history }
-            { land_in(state, alloc, who, name, draft, earlier) },
+                ensures stands { IsState state.new.opening state.new.history state.new.sealed }
+            { land_in(state, alloc, who, name, draft, moment, earlier) },
         )
     }
 }

@@ -1,20 +1,20 @@
 //! What a landing does in its turns, where an attempt before may have left its plan.
 ghost use Rattle.std.specs.Prelude.{◌≡◌, ◌<◌, IfOk, IfErr, None};
 ghost use Rattle.bookmark_lock.specs.Turns.{IsTurn};
-ghost use Rattle.reply_model.specs.After.{Answers, Asks, Replies, nothing};
+ghost use Rattle.reply_model.specs.After.{Asks, Replies};
+ghost use Rattle.reply_model.specs.Opening.{nobody};
 ghost use Rattle.reply_model.specs.Reply.{LandDraft};
-ghost use Rattle.repo_calls.specs.Calls.{refused};
 ghost use Rattle.repo_machine.specs.Again.{WasPlan};
 ghost use Rattle.repo_machine.specs.Plans.{IsPlan};
-ghost use Rattle.repo_calls.specs.Asking.{stored_answer};
 ghost use Rattle.shared_repo.specs.Front.{IsFront, history_of, opening_of, sealed_of};
-ghost use Rattle.shared_repo.specs.Landing.{IsEarlier};
+ghost use Rattle.shared_repo.specs.Landing.{IsEarlier, RefusesLanding};
+ghost use Rattle.shared_repo.specs.Sealed.{IsState, Tells, placed_answer};
 
-use crate::turns::{exchange_in, plan_in};
+use crate::turns::{Placed, exchange_in, plan_in};
 use ancestry::Steps;
 use blob_disk::Disk;
 use object_id::Id;
-use repo_calls::{ChangeFault, Granted, Refusal};
+use repo_calls::Refusal;
 use repo_machine::Plan;
 use repo_path::BookName;
 use repo_state::RepoState;
@@ -34,9 +34,11 @@ pub(crate) fn plan_from<D: Disk>(
     requires earlier { IsEarlier state.old.history name.now draft earlier }
     ensures same { state.new.history ≡ state.old.history }
     ensures opening { state.new.opening ≡ state.old.opening }
+    ensures sealed { state.new.sealed ≡ state.old.sealed }
     ensures ok { IfOk result (IsPlan state.old.history name.now draft) }
-    ensures err { IfErr result (λ e. Answers state.old.opening.header state.old.history (Asks (LandDraft name.now draft)) (refused e) nothing) }
+    ensures err { IfErr result (RefusesLanding state.old.opening.header state.old.history name.now draft) }
     ensures front { IsFront state.new.opening state.new.history }
+    ensures stands { IsState state.new.opening state.new.history state.new.sealed }
 {
     match earlier {
         Some(plan) => plan_again_in::<D, Brand>(state, alloc, plan, Blank::new(1)),
@@ -58,9 +60,11 @@ fn plan_again_in<D: Disk, L: Ledger>(
     requires planned { WasPlan state.old.history plan }
     ensures same { state.new.history ≡ state.old.history }
     ensures opening { state.new.opening ≡ state.old.opening }
+    ensures sealed { state.new.sealed ≡ state.old.sealed }
     ensures ok { IfOk result (IsPlan state.old.history plan.name plan.draft) }
-    ensures err { IfErr result (λ e. Answers state.old.opening.header state.old.history (Asks (LandDraft plan.name plan.draft)) (refused e) nothing) }
+    ensures err { IfErr result (RefusesLanding state.old.opening.header state.old.history plan.name plan.draft) }
     ensures front { IsFront state.new.opening state.new.history }
+    ensures stands { IsState state.new.opening state.new.history state.new.sealed }
 {
     // It keeps its rules.
     let _ = state.history_length();
@@ -76,20 +80,22 @@ pub(crate) fn land_in<D: Disk>(
     who: u64,
     name: &BookName,
     draft: Id,
+    moment: u64,
     earlier: Option<Plan>,
-) -> (bool, Result<Granted, ChangeFault>)
+) -> (bool, Result<Placed, Refusal>)
     requires earlier { IsEarlier state.old.history name.now draft earlier }
-    ensures reply { Replies state.old.opening.header state.old.history who (Asks (LandDraft name.now draft)) (stored_answer result.1) state.new.history }
+    ensures reply { Replies state.old.opening.header state.old.history who (Asks (LandDraft nobody name.now draft moment)) (placed_answer result.1) state.new.history }
+    ensures told { Tells result.1 state.new }
     ensures turn { IsTurn history_of opening_of sealed_of who None state.old state.new result.0 }
-    ensures front { IsFront state.new.opening state.new.history }
+    ensures stands { IsState state.new.opening state.new.history state.new.sealed }
 {
     let plan = match plan_from(state, alloc, name, draft, earlier) {
         Ok(plan) => plan,
-        Err(refusal) => return (false, Err(ChangeFault::Refused(refusal))),
+        Err(refusal) => return (false, Err(refusal)),
     };
-    let Ok(rebased) = plan.rebased(alloc) else {
-        return (false, Err(ChangeFault::Refused(Refusal::Memory)));
+    let Ok(rebased) = plan.rebased(alloc, moment) else {
+        return (false, Err(Refusal::Memory));
     };
-    let (added, answer) = exchange_in(state, alloc, who, rebased);
-    (added, answer.unwrap())
+    let (added, entered) = exchange_in(state, alloc, who, rebased);
+    (added, entered.unwrap())
 }

@@ -1,23 +1,27 @@
-//! Reads of a repository that many seats share. A content's bytes are hashed and a changeset is encoded outside of the turn,
-//! and what a read of manifests lacks is derived before its turn.
-ghost use Rattle.std.specs.Prelude.{◌≡◌, false, length, Some, IfOk, IfErr, None};
+//! Reads of a repository that many seats share. A content's bytes are hashed, a changeset is encoded and its copies
+//! are told outside of the turn, and what a read of manifests lacks is derived before its turn.
+ghost use Rattle.std.specs.Prelude.{◌≡◌, false, length, Some, IfOk, IfErr, IsTrue, None};
 ghost use Rattle.std.specs.Arc.{arc_value};
+ghost use Rattle.sha2.specs.Sha256.{sha256};
 ghost use Rattle.bookmark_lock.specs.Place.{moved};
 ghost use Rattle.bookmark_lock.specs.Turns.{IsTurn};
-ghost use Rattle.reply_model.specs.Reply.{ContentOf, ChangesetOf};
+ghost use Rattle.reply_model.specs.Reply.{HeadOf, SeenHead, ContentOf, ChangesetOf, CopiesOf};
+ghost use Rattle.history_model.specs.Bookmark.{head};
 ghost use Rattle.history_model.specs.History.{changeset_of, content_len, known};
-ghost use Rattle.reply_model.specs.After.{After, Answer, Answers, Looks, Replies, nothing, SeesMore};
-ghost use Rattle.repo_calls.specs.Asking.{IsAnswer, bytes_answer, fault_answer, question_seen};
+ghost use Rattle.reply_model.specs.After.{After, Answer, Answers, Looks, Replies, Shows, nothing, SeesMore};
+ghost use Rattle.repo_calls.specs.Asking.{IsAnswer, bytes_answer, fault_answer, is_bad_bytes, question_seen};
 ghost use Rattle.shared_repo.specs.Derivation.{AsksManifestOf};
 ghost use Rattle.shared_repo.specs.Front.{IsFront, history_of, opening_of, sealed_of};
 
 use crate::repo::Repo;
 use crate::seat::RepoSeat;
-use crate::turns::{TurnRead, changeset_in, content_in};
+use crate::turns::{TurnRead, changeset_in, content_in, head_in};
 use blob_disk::Disk;
 use bonsai::{Commit, encode};
 use object_id::Id;
 use repo_calls::{AskFault, Question, Seen};
+use repo_machine::copied_paths;
+use repo_path::BookName;
 use repo_state::{RepoState, check_digest};
 use std::alloc::Global;
 use std::sync::{Arc, Wait};
@@ -34,12 +38,14 @@ impl<D: Disk> Repo<D> {
         requires place { seat.old.lock ≡ self.now }
         ensures seat { seat.new ≡ moved seat.old seat.new }
         ensures after { (answer : Answer) × IsAnswer result answer × After self.now.opening.header seat.old.front seat.old.number (Looks (question_seen question.now)) answer seat.new.front }
+        ensures honest { IsTrue self.now.opening.honest → is_bad_bytes result ≡ false }
         ensures front { IsFront self.now.opening seat.new.front }
     {
         match *question {
             Question::Head(_) | Question::Log(_) => self.look_in_turn(rt, alloc, seat, question),
             Question::Content(id) => self.checked_content(rt, alloc, seat, id),
             Question::Changeset(id) => self.encoded_changeset(rt, alloc, seat, id),
+            Question::Copies(id) => self.told_copies(rt, alloc, seat, id),
             Question::Fsnode(id, _) | Question::Unode(id, _) | Question::History(id, _) => {
                 self.look_derived(rt, alloc, seat, id, question)
             }
@@ -47,7 +53,6 @@ impl<D: Disk> Repo<D> {
     }
 
     // The turn of a read that is answered in it.
-    #[tactic(auto, using(crate::proofs::Turning::keeps_none))]
     fn look_in_turn<R: Wait, Q: TurnRead<D>>(
         &self,
         rt: &R,
@@ -58,6 +63,7 @@ impl<D: Disk> Repo<D> {
         requires place { seat.old.lock ≡ self.now }
         ensures seat { seat.new ≡ moved seat.old seat.new }
         ensures after { (answer : Answer) × IsAnswer result answer × After self.now.opening.header seat.old.front seat.old.number (Looks (Q.asked question.now)) answer seat.new.front }
+        ensures honest { IsTrue self.now.opening.honest → is_bad_bytes result ≡ false }
         ensures front { IsFront self.now.opening seat.new.front }
     {
         let who = seat.inner.number();
@@ -66,14 +72,42 @@ impl<D: Disk> Repo<D> {
             &mut seat.inner,
             |state: &mut RepoState<D>| -> (bool, Result<Seen, AskFault>)
                 ensures reply { (answer : Answer) × IsAnswer result.1 answer × Replies state.old.opening.header state.old.history who (Looks (Q.asked question.entry.now)) answer state.new.history }
+                ensures honest { IsTrue state.old.opening.honest → is_bad_bytes result.1 ≡ false }
                 ensures turn { IsTurn history_of opening_of sealed_of who None state.old state.new result.0 }
                 ensures front { IsFront state.new.opening state.new.history }
             { question.look_in(state, alloc, who) },
         )
     }
 
+    // The turn in which a head is read.
+    #[tactic(auto, using(crate::proofs::Turning::keeps_none, crate::proofs::Turning::still_turn, crate::proofs::Turning::sees_still, crate::proofs::Fronts::after_nothing))]
+    pub(crate) fn head_in_turn<R: Wait>(
+        &self,
+        rt: &R,
+        seat: &mut RepoSeat,
+        name: &BookName,
+    ) -> Option<Id>
+        requires place { seat.old.lock ≡ self.now }
+        ensures seat { seat.new ≡ moved seat.old seat.new }
+        ensures after { After self.now.opening.header seat.old.front seat.old.number (Looks (HeadOf name.now)) (Shows (SeenHead result)) seat.new.front }
+        ensures front { IsFront self.now.opening seat.new.front }
+    {
+        self.lock.enter(
+            rt,
+            &mut seat.inner,
+            |state: &mut RepoState<D>| -> (bool, Option<Id>)
+                ensures same { state.new.history ≡ state.old.history }
+                ensures opening { state.new.opening ≡ state.old.opening }
+                ensures sealed { state.new.sealed ≡ state.old.sealed }
+                ensures none { result.0 ≡ false }
+                ensures head { result.1 ≡ head state.old.history name.entry.now }
+                ensures front { IsFront state.new.opening state.new.history }
+            { (false, head_in(state, name)) },
+        )
+    }
+
     // A read of manifests, in a turn in which nothing of the changeset's chain is lacking.
-    #[tactic(auto, using(crate::proofs::Derivations::not_derived, crate::proofs::Derivations::reads_after))]
+    #[tactic(auto, using(crate::proofs::Derivations::derives_fine, crate::proofs::Derivations::reads_after))]
     fn look_derived<R: Wait>(
         &self,
         rt: &R,
@@ -86,6 +120,7 @@ impl<D: Disk> Repo<D> {
         requires manifest { AsksManifestOf id (question_seen question.now) }
         ensures seat { seat.new ≡ moved seat.old seat.new }
         ensures after { (answer : Answer) × IsAnswer result answer × After self.now.opening.header seat.old.front seat.old.number (Looks (question_seen question.now)) answer seat.new.front }
+        ensures honest { IsTrue self.now.opening.honest → is_bad_bytes result ≡ false }
         ensures front { IsFront self.now.opening seat.new.front }
     {
         if let Err(fault) = self.derive_chain(rt, alloc, seat, id) {
@@ -105,6 +140,7 @@ impl<D: Disk> Repo<D> {
         requires place { seat.old.lock ≡ self.now }
         ensures seat { seat.new ≡ moved seat.old seat.new }
         ensures after { (answer : Answer) × IsAnswer result answer × After self.now.opening.header seat.old.front seat.old.number (Looks (ContentOf id)) answer seat.new.front }
+        ensures honest { IsTrue self.now.opening.honest → is_bad_bytes result ≡ false }
         ensures front { IsFront self.now.opening seat.new.front }
     {
         let bytes = match self.content_unchecked(rt, alloc, seat, id) {
@@ -115,7 +151,6 @@ impl<D: Disk> Repo<D> {
     }
 
     // The turn of a content's read.
-    #[tactic(auto, using(crate::proofs::Turning::keeps_none))]
     fn content_unchecked<R: Wait>(
         &self,
         rt: &R,
@@ -127,6 +162,8 @@ impl<D: Disk> Repo<D> {
         ensures seat { seat.new ≡ moved seat.old seat.new }
         ensures ok { IfOk result (λ bytes. SeesMore seat.old.front seat.old.number seat.new.front × (content_len seat.new.front id ≡ Some (length bytes.items))) }
         ensures err { IfErr result (λ fault. After self.now.opening.header seat.old.front seat.old.number (Looks (ContentOf id)) (fault_answer fault) seat.new.front) }
+        ensures honest { IsTrue self.now.opening.honest → IfOk result (λ bytes. sha256 bytes.items ≡ id) }
+        ensures unchecked { is_bad_bytes result ≡ false }
         ensures front { IsFront self.now.opening seat.new.front }
     {
         let who = seat.inner.number();
@@ -136,6 +173,8 @@ impl<D: Disk> Repo<D> {
             |state: &mut RepoState<D>| -> (bool, Result<Vec<u8>, AskFault>)
                 ensures ok { IfOk result.1 (λ bytes. (state.new.history ≡ state.old.history) × (content_len state.old.history id ≡ Some (length bytes.items))) }
                 ensures err { IfErr result.1 (λ fault. Replies state.old.opening.header state.old.history who (Looks (ContentOf id)) (fault_answer fault) state.new.history) }
+                ensures honest { IsTrue state.old.opening.honest → IfOk result.1 (λ bytes. sha256 bytes.items ≡ id) }
+                ensures unchecked { is_bad_bytes result.1 ≡ false }
                 ensures turn { IsTurn history_of opening_of sealed_of who None state.old state.new result.0 }
                 ensures front { IsFront state.new.opening state.new.history }
             { content_in(state, alloc, who, id) },
@@ -154,6 +193,7 @@ impl<D: Disk> Repo<D> {
         requires place { seat.old.lock ≡ self.now }
         ensures seat { seat.new ≡ moved seat.old seat.new }
         ensures after { (answer : Answer) × IsAnswer result answer × After self.now.opening.header seat.old.front seat.old.number (Looks (ChangesetOf id)) answer seat.new.front }
+        ensures honest { IsTrue self.now.opening.honest → is_bad_bytes result ≡ false }
         ensures front { IsFront self.now.opening seat.new.front }
     {
         let commit = match self.shared_changeset(rt, seat, id) {
@@ -162,6 +202,31 @@ impl<D: Disk> Repo<D> {
         };
         match encode(alloc, commit.changeset()) {
             Ok(bytes) => Ok(Seen::Bytes(bytes)),
+            Err(_) => Err(AskFault::Memory),
+        }
+    }
+
+    // What a changeset sets as copies, which is told outside of the turn.
+    #[tactic(auto, using(crate::proofs::Fronts::after_nothing))]
+    fn told_copies<R: Wait>(
+        &self,
+        rt: &R,
+        alloc: Global,
+        seat: &mut RepoSeat,
+        id: Id,
+    ) -> Result<Seen, AskFault>
+        requires place { seat.old.lock ≡ self.now }
+        ensures seat { seat.new ≡ moved seat.old seat.new }
+        ensures after { (answer : Answer) × IsAnswer result answer × After self.now.opening.header seat.old.front seat.old.number (Looks (CopiesOf id)) answer seat.new.front }
+        ensures honest { IsTrue self.now.opening.honest → is_bad_bytes result ≡ false }
+        ensures front { IsFront self.now.opening seat.new.front }
+    {
+        let commit = match self.shared_changeset(rt, seat, id) {
+            Ok(commit) => commit,
+            Err(fault) => return Err(fault),
+        };
+        match copied_paths(alloc, commit.changeset()) {
+            Ok(copies) => Ok(Seen::Copies(copies)),
             Err(_) => Err(AskFault::Memory),
         }
     }
@@ -179,6 +244,7 @@ impl<D: Disk> Repo<D> {
         ensures more { SeesMore seat.old.front seat.old.number seat.new.front }
         ensures ok { IfOk result (λ commit. changeset_of (known seat.new.front) id ≡ Some (arc_value commit)) }
         ensures err { IfErr result (λ fault. Answers self.now.opening.header seat.new.front (Looks (ChangesetOf id)) (fault_answer fault) nothing) }
+        ensures unchecked { is_bad_bytes result ≡ false }
         ensures front { IsFront self.now.opening seat.new.front }
     {
         self.lock.enter(
@@ -187,9 +253,11 @@ impl<D: Disk> Repo<D> {
             |state: &mut RepoState<D>| -> (bool, Result<Arc<Commit>, AskFault>)
                 ensures same { state.new.history ≡ state.old.history }
                 ensures opening { state.new.opening ≡ state.old.opening }
+                ensures sealed { state.new.sealed ≡ state.old.sealed }
                 ensures none { result.0 ≡ false }
                 ensures ok { IfOk result.1 (λ commit. changeset_of (known state.old.history) id ≡ Some (arc_value commit)) }
                 ensures err { IfErr result.1 (λ fault. Answers state.old.opening.header state.old.history (Looks (ChangesetOf id)) (fault_answer fault) nothing) }
+                ensures unchecked { is_bad_bytes result.1 ≡ false }
                 ensures front { IsFront state.new.opening state.new.history }
             { (false, changeset_in(state, id)) },
         )
@@ -198,7 +266,8 @@ impl<D: Disk> Repo<D> {
 
 // The bytes that a read sees, if it sees some.
 fn seen(bytes: Result<Vec<u8>, AskFault>) -> Result<Seen, AskFault>
-    ensures { IsAnswer result (bytes_answer bytes) }
+    ensures answer { IsAnswer result (bytes_answer bytes) }
+    ensures bad { is_bad_bytes result ≡ is_bad_bytes bytes }
 {
     match bytes {
         Ok(bytes) => Ok(Seen::Bytes(bytes)),

@@ -3,8 +3,8 @@ ghost use Rattle.std.specs.Prelude.{◌≡◌, ◌+◌, ◌<◌, ◌≤◌, ◌^
 ghost use Rattle.history_model.specs.History.{Entry, entries_by};
 ghost use Rattle.bookmark_lock.specs.Place.{lead_place, new_place, joined_place};
 ghost use Rattle.bookmark_lock.specs.Fronts.{IsJoined};
-ghost use Rattle.bookmark_lock.specs.Turns.{stored_length};
 ghost use Rattle.repo_machine.specs.Seats.{cleared};
+ghost use Rattle.repo_state.specs.State.{IsAllSealed};
 ghost use Rattle.shared_repo.specs.Front.{IsFront};
 
 use crate::seat::RepoSeat;
@@ -30,12 +30,13 @@ impl<D: Disk> Model for Repo<D> {
 }
 
 impl<D: Disk> Repo<D> {
-    /// The repository, every entry's number now 0, and its first seat, which leads the others. Where
-    /// memory is refused the state is given up.
+    /// The repository, every entry's number now 0, and its first seat, which leads the others. All is
+    /// sealed, unless the disk failed. Where memory is refused the state is given up.
     #[tactic(auto, using(crate::proofs::Cleared::cleared_zero))]
     pub fn new(alloc: Global, state: RepoState<D>) -> Result<(Repo<D>, RepoSeat), AllocError>
+        requires sealed { IsAllSealed state.history state.sealed }
         ensures opening { IfOk result (λ made. made.0.opening ≡ state.opening) }
-        ensures lead { IfOk result (λ made. made.1 ≡ lead_place made.0 (cleared state.history) (stored_length (cleared state.history))) }
+        ensures lead { IfOk result (λ made. made.1 ≡ lead_place made.0 (cleared state.history) state.sealed) }
         ensures front { IfOk result (λ made. IsFront made.0.opening made.1.front) }
     {
         let mut state = state;
@@ -72,7 +73,7 @@ impl<D: Disk> Repo<D> {
         self.lock.join(&mut lead.inner, inner);
     }
 
-    /// The state, once the lead has joined every seat that it split off.
+    /// The state, once the lead has joined every seat that it split off. Nothing waits to be sealed, unless the disk failed.
     pub fn close(self, lead: RepoSeat) -> RepoState<D>
         requires place { lead.lock ≡ self }
         requires leads { lead.number ≡ 0 }
@@ -80,6 +81,7 @@ impl<D: Disk> Repo<D> {
         ensures history { result.history ≡ lead.front }
         ensures opening { result.opening ≡ self.opening }
         ensures recorded { All (λ (e : Entry). e.who ≤ lead.split) result.history }
+        ensures sealed { IsAllSealed result.history result.sealed }
         ensures front { IsFront result.opening result.history }
     {
         let Repo { lock } = self;

@@ -2,7 +2,9 @@
 ghost use Rattle.std.specs.Prelude.{◌≡◌};
 ghost use Rattle.bookmark_lock.specs.Place.{Place, home_of};
 ghost use Rattle.reply_model.specs.After.{After};
+ghost use Rattle.repo_calls.proofs.Honest.{honestly};
 ghost use Rattle.repo_calls.proofs.Lawful.{shared};
+ghost use Rattle.repo_calls.specs.Replying.{Honestly};
 
 use crate::repo::Repo;
 use crate::seat::RepoSeat;
@@ -67,16 +69,18 @@ impl<'a, R: Wait, D: Disk, G: Gate> Seat for Served<'a, R, D, G> {
 
     ghost home = { λ s. home_of s };
 
-    ghost replies = { After };
+    ghost replies = { λ place. Honestly place.lock.opening.honest After };
 
+    #[tactic(auto, using(repo_calls::proofs::Honest::honest_change))]
     fn change(&mut self, alloc: Global, ask: &Ask) -> Result<Granted, ChangeFault> {
         self.repo
             .change(self.rt, alloc, &mut self.seat, ask, self.gate)
     }
 
+    #[tactic(auto, using(repo_calls::proofs::Honest::honest_look))]
     fn look(&mut self, alloc: Global, question: &Question) -> Result<Seen, AskFault> {
         self.repo.look(self.rt, alloc, &mut self.seat, question)
     }
 
-    ghost lawful = { shared };
+    ghost lawful = { λ place. honestly place.lock.opening.honest After shared };
 }

@@ -1,23 +1,26 @@
 //! What a seat does with the repository in one turn, and whether it made an entry.
-ghost use Rattle.std.specs.Prelude.{◌≡◌, ◌≢◌, IfOk, IfErr, IsSome, length, MatchBool, MatchOption, Some, None};
+ghost use Rattle.std.specs.Prelude.{◌≡◌, ◌≢◌, false, IfOk, IfErr, IfSome, IsSome, IsTrue, length, MatchBool, MatchOption, Some, None};
 ghost use Rattle.std.specs.Arc.{arc_value};
+ghost use Rattle.sha2.specs.Sha256.{sha256};
 ghost use Rattle.bookmark_lock.specs.Turns.{IsTurn};
 ghost use Rattle.history_model.specs.Bookmark.{head};
 ghost use Rattle.history_model.specs.History.{changeset_of, content_len, known};
 ghost use Rattle.reply_model.specs.After.{Answer, Answers, Asks, Looks, Replies, nothing};
 ghost use Rattle.reply_model.specs.Reply as reply;
 ghost use Rattle.reply_model.specs.Reply.{ChangesetOf, ContentOf, LandDraft};
-ghost use Rattle.repo_calls.specs.Calls.{refused};
+ghost use Rattle.reply_model.specs.Opening.{nobody};
 ghost use Rattle.repo_machine.specs.Plans.{IsPlan, WasPlanned};
 ghost use Rattle.repo_machine.specs.Prepared.{IsPrepared, asked_by};
-ghost use Rattle.repo_calls.specs.Asking.{IsAnswer, fault_answer, question_seen, stored_answer};
+ghost use Rattle.repo_calls.specs.Asking.{IsAnswer, fault_answer, is_bad_bytes, question_seen};
+ghost use Rattle.repo_state.specs.State.{entered_answer};
 ghost use Rattle.shared_repo.specs.Front.{IsFront, history_of, opening_of, sealed_of};
-ghost use Rattle.shared_repo.specs.Landing.{outcome_of};
+ghost use Rattle.shared_repo.specs.Landing.{RefusesLanding, outcome_of};
+ghost use Rattle.shared_repo.specs.Sealed.{IsState, Tells, placed_answer};
 
 use blob_disk::Disk;
 use bonsai::Commit;
 use object_id::Id;
-use repo_calls::{AskFault, ChangeFault, Granted, Question, Refusal, Seen};
+use repo_calls::{AskFault, Granted, Question, Refusal, Seen};
 use repo_machine::{Plan, Prepared, Rebased};
 use repo_path::BookName;
 use repo_state::{Exchanged, RepoState};
@@ -28,6 +31,33 @@ fn differ(before: u64, after: u64) -> bool
     ensures { MatchBool result (after ≢ before) (after ≡ before) }
 {
     before != after
+}
+
+/// A change that was granted in a turn, at whose end so many entries are stored, and so many of them sealed. It is answered
+/// once all that are stored then are sealed.
+#[derive(Drop)]
+pub(crate) struct Placed {
+    pub(crate) granted: Granted,
+    pub(crate) stored: u64,
+    pub(crate) sealed: u64,
+}
+
+// What was granted, at the end of its turn.
+fn with_counts<D: Disk>(
+    state: &RepoState<D>,
+    granted: Result<Granted, Refusal>,
+) -> Result<Placed, Refusal>
+    ensures answer { placed_answer result ≡ entered_answer granted }
+    ensures told { Tells result state.now }
+{
+    match granted {
+        Ok(granted) => Ok(Placed {
+            granted,
+            stored: state.stored_length(),
+            sealed: state.sealed(),
+        }),
+        Err(refusal) => Err(refusal),
+    }
 }
 
 /// A change that is ready, as a turn makes it. The closure of a turn keeps its contract where it captures a value of such a
@@ -44,11 +74,12 @@ pub(crate) trait TurnChange<D: Disk>: Drop {
         state: &mut RepoState<D>,
         alloc: Global,
         who: u64,
-    ) -> (bool, Result<Granted, ChangeFault>)
+    ) -> (bool, Result<Placed, Refusal>)
         requires { ready self }
-        ensures reply { Replies state.old.opening.header state.old.history who (Asks (asked self)) (stored_answer result.1) state.new.history }
+        ensures reply { Replies state.old.opening.header state.old.history who (Asks (asked self)) (placed_answer result.1) state.new.history }
+        ensures told { Tells result.1 state.new }
         ensures turn { IsTurn history_of opening_of sealed_of who None state.old state.new result.0 }
-        ensures front { IsFront state.new.opening state.new.history };
+        ensures stands { IsState state.new.opening state.new.history state.new.sealed };
 }
 
 impl<D: Disk> TurnChange<D> for Prepared<'_> {
@@ -56,16 +87,17 @@ impl<D: Disk> TurnChange<D> for Prepared<'_> {
 
     ghost ready = { IsPrepared };
 
-    #[tactic(auto, using(crate::proofs::Turning::replies_seal))]
+    #[tactic(auto, using(crate::proofs::Made::change_adds))]
     fn store_in(
         self,
         state: &mut RepoState<D>,
         alloc: Global,
         who: u64,
-    ) -> (bool, Result<Granted, ChangeFault>) {
+    ) -> (bool, Result<Placed, Refusal>) {
         let before = state.history_length();
-        let answer = state.store_prepared(alloc, who, self);
-        (differ(before, state.history_length()), answer)
+        let granted = state.store_prepared(alloc, who, self);
+        let added = differ(before, state.history_length());
+        (added, with_counts(state, granted))
     }
 }
 
@@ -81,6 +113,7 @@ pub(crate) trait TurnRead<D: Disk> {
         who: u64,
     ) -> (bool, Result<Seen, AskFault>)
         ensures reply { (answer : Answer) × IsAnswer result.1 answer × Replies state.old.opening.header state.old.history who (Looks (asked self.now)) answer state.new.history }
+        ensures honest { IsTrue state.old.opening.honest → is_bad_bytes result.1 ≡ false }
         ensures turn { IsTurn history_of opening_of sealed_of who None state.old state.new result.0 }
         ensures front { IsFront state.new.opening state.new.history };
 }
@@ -88,7 +121,7 @@ pub(crate) trait TurnRead<D: Disk> {
 impl<D: Disk> TurnRead<D> for Question<'_> {
     ghost asked = { question_seen };
 
-    #[tactic(auto, using(crate::proofs::Turning::replies_seal))]
+    #[tactic(auto, using(crate::proofs::Made::look_adds))]
     fn look_in(
         &self,
         state: &mut RepoState<D>,
@@ -102,7 +135,7 @@ impl<D: Disk> TurnRead<D> for Question<'_> {
 }
 
 // The bytes in the file for a content, before their digest is compared.
-#[tactic(auto, using(crate::proofs::Turning::replies_seal, crate::proofs::Turning::same_seals))]
+#[tactic(auto, using(crate::proofs::Made::look_adds))]
 pub(crate) fn content_in<D: Disk>(
     state: &mut RepoState<D>,
     alloc: Global,
@@ -111,6 +144,8 @@ pub(crate) fn content_in<D: Disk>(
 ) -> (bool, Result<Vec<u8>, AskFault>)
     ensures ok { IfOk result.1 (λ bytes. (state.new.history ≡ state.old.history) × (content_len state.old.history id ≡ Some (length bytes.items))) }
     ensures err { IfErr result.1 (λ fault. Replies state.old.opening.header state.old.history who (Looks (ContentOf id)) (fault_answer fault) state.new.history) }
+    ensures honest { IsTrue state.old.opening.honest → IfOk result.1 (λ bytes. sha256 bytes.items ≡ id) }
+    ensures unchecked { is_bad_bytes result.1 ≡ false }
     ensures turn { IsTurn history_of opening_of sealed_of who None state.old state.new result.0 }
     ensures front { IsFront state.new.opening state.new.history }
 {
@@ -119,14 +154,28 @@ pub(crate) fn content_in<D: Disk>(
     (differ(before, state.history_length()), answer)
 }
 
+pub(crate) fn head_in<D: Disk>(state: &mut RepoState<D>, name: &BookName) -> Option<Id>
+    ensures same { state.new.history ≡ state.old.history }
+    ensures opening { state.new.opening ≡ state.old.opening }
+    ensures sealed { state.new.sealed ≡ state.old.sealed }
+    ensures head { result ≡ head state.old.history name.now }
+    ensures front { IsFront state.new.opening state.new.history }
+{
+    // It keeps its rules.
+    let _ = state.history_length();
+    state.head(name)
+}
+
 pub(crate) fn changeset_in<D: Disk>(
     state: &mut RepoState<D>,
     id: Id,
 ) -> Result<Arc<Commit>, AskFault>
     ensures same { state.new.history ≡ state.old.history }
     ensures opening { state.new.opening ≡ state.old.opening }
+    ensures sealed { state.new.sealed ≡ state.old.sealed }
     ensures ok { IfOk result (λ commit. changeset_of (known state.old.history) id ≡ Some (arc_value commit)) }
     ensures err { IfErr result (λ fault. Answers state.old.opening.header state.old.history (Looks (ChangesetOf id)) (fault_answer fault) nothing) }
+    ensures unchecked { is_bad_bytes result ≡ false }
     ensures front { IsFront state.new.opening state.new.history }
 {
     // It keeps its rules.
@@ -143,44 +192,49 @@ pub(crate) fn plan_in<D: Disk>(
 ) -> Result<Plan, Refusal>
     ensures same { state.new.history ≡ state.old.history }
     ensures opening { state.new.opening ≡ state.old.opening }
+    ensures sealed { state.new.sealed ≡ state.old.sealed }
     ensures ok { IfOk result (IsPlan state.old.history name.now draft) }
-    ensures err { IfErr result (λ e. Answers state.old.opening.header state.old.history (Asks (LandDraft name.now draft)) (refused e) nothing) }
+    ensures err { IfErr result (RefusesLanding state.old.opening.header state.old.history name.now draft) }
     ensures front { IsFront state.new.opening state.new.history }
+    ensures stands { IsState state.new.opening state.new.history state.new.sealed }
 {
     // It keeps its rules.
     let _ = state.history_length();
     state.plan(alloc, name, draft)
 }
 
-fn outcome(exchanged: Exchanged) -> Option<Result<Granted, ChangeFault>>
+fn outcome(exchanged: Exchanged) -> Option<Result<Granted, Refusal>>
     ensures { result ≡ outcome_of exchanged }
 {
     match exchanged {
         Exchanged::Landed(landed) => Some(Ok(Granted::Landing(landed))),
         Exchanged::HeadMoved { found: _ } => None,
-        Exchanged::Refused(refusal) => Some(Err(ChangeFault::Refused(refusal))),
-        Exchanged::DiskFault => Some(Err(ChangeFault::DiskFault)),
+        Exchanged::Refused(refusal) => Some(Err(refusal)),
     }
 }
 
-// The landing's answer, or none where the bookmark's head isn't the planned one.
+// What came of the landing, or none where the bookmark's head isn't the planned one.
 #[tactic(auto, using(crate::proofs::Landings::outcome_replies, crate::proofs::Landings::outcome_there, repo_machine::proofs::Judging::replies_memory))]
 pub(crate) fn exchange_in<D: Disk>(
     state: &mut RepoState<D>,
     alloc: Global,
     who: u64,
     rebased: Rebased,
-) -> (bool, Option<Result<Granted, ChangeFault>>)
+) -> (bool, Option<Result<Placed, Refusal>>)
     requires { WasPlanned state.old.history rebased }
-    ensures reply { MatchOption result.1 (state.new.history ≡ state.old.history) (λ answer. Replies state.old.opening.header state.old.history who (Asks (LandDraft rebased.name rebased.draft)) (stored_answer answer) state.new.history) }
+    ensures reply { MatchOption result.1 (state.new.history ≡ state.old.history) (λ entered. Replies state.old.opening.header state.old.history who (Asks (LandDraft nobody rebased.name rebased.draft rebased.asked)) (placed_answer entered) state.new.history) }
+    ensures told { IfSome result.1 (λ entered. Tells entered state.new) }
     ensures there { head state.old.history rebased.name ≡ Some rebased.old → IsSome result.1 }
     ensures turn { IsTurn history_of opening_of sealed_of who None state.old state.new result.0 }
-    ensures front { IsFront state.new.opening state.new.history }
+    ensures stands { IsState state.new.opening state.new.history state.new.sealed }
 {
     let before = state.history_length();
     if state.reserve(alloc, &rebased).is_err() {
-        return (false, Some(Err(ChangeFault::Refused(Refusal::Memory))));
+        return (false, Some(Err(Refusal::Memory)));
     }
-    let answer = outcome(state.exchange(who, rebased));
-    (differ(before, state.history_length()), answer)
+    let Some(granted) = outcome(state.exchange(who, rebased)) else {
+        return (false, None);
+    };
+    let added = differ(before, state.history_length());
+    (added, Some(with_counts(state, granted)))
 }

@@ -1,6 +1,7 @@
 //! What a seat is told of what another seat has stored.
 ghost use Rattle.std.specs.Prelude.{◌≡◌};
 ghost use Rattle.bookmark_lock.specs.Place.{moved};
+ghost use Rattle.repo_state.specs.State.{IsAllSealed};
 
 use crate::looks::tell;
 use crate::repository::new_repository;
@@ -8,7 +9,7 @@ use crate::steps::{id, main_name, run_at};
 use blob_disk::Disk;
 use node_table::Roots;
 use object_id::Id;
-use repo_calls::AskFault;
+use repo_calls::{AskFault, Seen};
 use repo_path::RepoPath;
 use repo_state::RepoState;
 use shared_repo::{Repo, RepoSeat};
@@ -80,7 +81,7 @@ fn told_head<R: Wait, D: Disk>(
     ensures seat { seat.new ≡ moved seat.old seat.new }
 {
     let name = main_name(alloc)?;
-    tell(alloc, repo.head(rt, alloc, seat, &name))
+    tell(alloc, Ok(Seen::Head(repo.head(rt, seat, &name))))
 }
 
 fn told_log<R: Wait, D: Disk>(
@@ -176,7 +177,9 @@ fn run_derived<R: Abort + Wait, D: Disk>(
     rt: &R,
     alloc: Global,
     state: RepoState<D>,
-) -> Result<(), Fail> {
+) -> Result<(), Fail>
+    requires sealed { IsAllSealed state.history state.sealed }
+{
     let (repo, mut lead) = Repo::new(alloc, state)?;
     let mut other = repo.split(&mut lead);
     run_at(rt, alloc, &repo, lead, STORED)?;
@@ -227,7 +230,9 @@ fn closed<R: Wait, D: Disk>(
     bytes: &[u8],
     id: Id,
     asks: bool,
-) -> Result<RepoState<D>, AllocError> {
+) -> Result<RepoState<D>, AllocError>
+    requires sealed { IsAllSealed state.history state.sealed }
+{
     let (repo, mut lead) = Repo::new(alloc, state)?;
     put(rt, alloc, &repo, &mut lead, bytes);
     ask(rt, alloc, &repo, &mut lead, id, asks);
@@ -250,7 +255,9 @@ fn is_derived_in<R: Wait, D: Disk>(
     bytes: &[u8],
     id: Id,
     asks: bool,
-) -> Result<bool, Fail> {
+) -> Result<bool, Fail>
+    requires sealed { IsAllSealed state.history state.sealed }
+{
     let state = closed(rt, alloc, state, bytes, id, asks)?;
     is_done(alloc, &state, id)
 }

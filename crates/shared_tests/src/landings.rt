@@ -1,5 +1,6 @@
 //! Landings at whose gate `main` is moved. The ids are those of an independent computation.
 ghost use Rattle.std.specs.Prelude.{◌≡◌};
+ghost use Rattle.repo_state.specs.State.{IsAllSealed};
 
 use crate::gates::{Moves, Walker};
 use crate::repository::new_repository;
@@ -14,9 +15,9 @@ use std::process::Abort;
 use std::sync::Wait;
 use std::test::Fail;
 
-// A changeset without parents and edits, at which `main` stands, and two upon it: one sets `x` to the content `abc`, and
-// one `y` to the empty content.
-const CHANGESETS: &str = "\
+/// A changeset without parents and edits, at which `main` stands, and two upon it: one sets `x` to the content `abc`, and
+/// one `y` to the empty content.
+pub(crate) const CHANGESETS: &str = "\
 content abc = done
 content  = done
 changeset 4301000001610000000000000000000000000000000000000000 = done
@@ -38,8 +39,8 @@ const AWAY: &str = "\
 land 640d00803ffd078abe99687f11f76e3949495f55dd88e999e6458f7adfdf79ac = 1 66018dae6dcd26aa7f15f755f702edd69b683e14a7531d0ba9293f9127fda14f
 total = 106";
 
-// A walker between the root and the other changeset.
-fn walker_at<S: Seat + Drop>(alloc: Global, seat: S) -> Result<Walker<S>, Fail> {
+/// A walker between the root and the other changeset.
+pub(crate) fn walker_at<S: Seat + Drop>(alloc: Global, seat: S) -> Result<Walker<S>, Fail> {
     let main = main_name(alloc)?;
     Ok(Walker::new(seat, main, id(ROOT)?, id(OTHER)?))
 }
@@ -86,7 +87,9 @@ fn came_in<R: Abort + Wait, D: Disk>(
     state: RepoState<D>,
     moves: u64,
     script: &str,
-) -> Result<u64, Fail> {
+) -> Result<u64, Fail>
+    requires sealed { IsAllSealed state.history state.sealed }
+{
     let (repo, mut lead) = Repo::new(alloc, state)?;
     let other = repo.split(&mut lead);
     came_between(rt, alloc, &repo, (lead, other), moves, script)

@@ -1,6 +1,6 @@
-//! Repositories over memory that seats share: landings between which a gate moves the bookmark, roots that are derived, a
-//! disk that fails, and threads that store at once. Helpers have no contract beyond what their calls need, so that a test's
-//! proof doesn't carry what they call.
+//! Repositories over memory that seats share: landings between which a gate moves the bookmark, their moments by a clock,
+//! roots that are derived, a disk that fails, and threads that store at once. Helpers have no contract beyond what their
+//! calls need, so that a test's proof doesn't carry what they call.
 #![tactic(auto)]
 
 #[cfg(test)]
@@ -12,10 +12,16 @@ mod landings;
 #[cfg(test)]
 mod looks;
 #[cfg(test)]
+mod moments;
+#[cfg(test)]
 mod repository;
+#[cfg(test)]
+mod seals;
 #[cfg(test)]
 mod seats;
 #[cfg(test)]
 mod steps;
 #[cfg(test)]
 mod threads;
+#[cfg(test)]
+mod ticking;

@@ -20,6 +20,7 @@ fn tell_seen(alloc: Global, seen: &Seen) -> Result<String, Fail> {
         Seen::Bytes(bytes) => Ok(hex::encode(alloc, bytes.as_slice())?),
         Seen::Log(page) => tell_page(alloc, page),
         Seen::Ids(ids) => tell_ids(alloc, ids.as_slice()),
+        Seen::Copies(_) => Err(Fail::from("copies")),
     }
 }
 
@@ -63,7 +64,7 @@ fn tell_entry(alloc: Global, entry: &LogEntry) -> Result<String, Fail> {
             let id = id.to_hex(alloc)?;
             Ok(format!(in alloc; "changeset {id}")?)
         }
-        LogEntry::Bookmark { name, from, to } => {
+        LogEntry::Bookmark { name, from, to, .. } => {
             let from = tell_id(alloc, *from)?;
             let to = tell_id(alloc, *to)?;
             Ok(format!(in alloc; "move {name} {from} {to}")?)
@@ -73,6 +74,7 @@ fn tell_entry(alloc: Global, entry: &LogEntry) -> Result<String, Fail> {
             old,
             draft,
             ids,
+            ..
         } => {
             let (old, draft) = (old.to_hex(alloc)?, draft.to_hex(alloc)?);
             let ids = tell_ids(alloc, ids.as_slice())?;

@@ -1,4 +1,7 @@
 //! Repositories over memory.
+ghost use Rattle.std.specs.Prelude.{IfOk};
+ghost use Rattle.repo_state.specs.State.{IsAllSealed};
+
 use blob_disk::{CallKind, Disk, MemDisk};
 use ports::ZeroBytes;
 use recovery::{Opened, open};
@@ -35,15 +38,40 @@ fn keys() -> Result<RandomState, Fail> {
 }
 
 // The repository in a file.
-fn open_file<D: Disk>(alloc: Global, keys: RandomState, disk: D) -> Result<RepoState<D>, Fail> {
+fn open_file<D: Disk>(alloc: Global, keys: RandomState, disk: D) -> Result<RepoState<D>, Fail>
+    ensures { IfOk result (λ state. IsAllSealed state.history state.sealed) }
+{
     let mut disk = disk;
     let Opened { machine, journal } = open(alloc, keys, &mut disk)?;
     Ok(RepoState::new(alloc, machine, journal, disk))
 }
 
+/// A new repository on a disk that keeps a record of each moment. This call of it fails, if one does: it is made by two
+/// writes and two syncs and opened by a third sync, and a seal is a write, a sync, a write and a sync.
+pub(crate) fn recorded_repository(
+    alloc: Global,
+    failing: Option<(CallKind, u64)>,
+) -> Result<RepoState<MemDisk>, Fail> {
+    let mut calls = Vec::new(alloc);
+    if let Some(call) = failing {
+        calls.push(call)?;
+    }
+    let mut disk = MemDisk::recording(alloc, 65_536, 64, 4_096, calls)?;
+    make_file(&mut disk)?;
+    open_file(alloc, keys()?, disk)
+}
+
+/// How many entries the repository in a file has.
+pub(crate) fn entries_in<D: Disk>(alloc: Global, disk: D) -> Result<u64, Fail> {
+    let state = open_file(alloc, keys()?, disk)?;
+    Ok(state.stored_length())
+}
+
 /// A new repository of 65,536 bytes at most. Of its disk's syncs those of these numbers fail: it is made by syncs 0 and 1
-/// and opened by sync 2, and each entry takes two.
-pub(crate) fn new_repository(alloc: Global, failing: &[u64]) -> Result<RepoState<MemDisk>, Fail> {
+/// and opened by sync 2, and each seal takes two.
+pub(crate) fn new_repository(alloc: Global, failing: &[u64]) -> Result<RepoState<MemDisk>, Fail>
+    ensures { IfOk result (λ state. IsAllSealed state.history state.sealed) }
+{
     let mut disk = new_disk(alloc, failing)?;
     make_file(&mut disk)?;
     open_file(alloc, keys()?, disk)

@@ -1,11 +1,13 @@
 //! What one seat does and another is told then.
 ghost use Rattle.std.specs.Prelude.{◌≡◌};
 ghost use Rattle.bookmark_lock.specs.Place.{moved};
+ghost use Rattle.repo_state.specs.State.{IsAllSealed};
 
 use crate::looks::tell;
 use crate::repository::new_repository;
 use crate::steps::run_at;
 use blob_disk::Disk;
+use object_id::Id;
 use repo_calls::{AskFault, Question, Seen};
 use repo_state::RepoState;
 use shared_repo::{Repo, RepoSeat};
@@ -21,7 +23,9 @@ fn run_both<R: Abort + Wait, D: Disk>(
     state: RepoState<D>,
     first: &str,
     second: &str,
-) -> Result<(), Fail> {
+) -> Result<(), Fail>
+    requires sealed { IsAllSealed state.history state.sealed }
+{
     let (repo, mut lead) = Repo::new(alloc, state)?;
     let one = repo.split(&mut lead);
     run_at(rt, alloc, &repo, one, first)?;
@@ -58,20 +62,48 @@ fn put_and_count<R: Wait, D: Disk>(
     total_of(repo.log(rt, alloc, seat, 0))
 }
 
-// How many entries the lead and a seat that is split off then see after an entry of each, and the lead once it has joined
-// the other, and the repository that is closed then.
+fn is_content(answer: Result<Seen, AskFault>, bytes: &[u8]) -> bool {
+    match answer {
+        Ok(Seen::Bytes(found)) => found.as_slice() == bytes,
+        _ => false,
+    }
+}
+
+// How many entries the log has, where a content is read.
+fn read_and_count<R: Wait, D: Disk>(
+    rt: &R,
+    alloc: Global,
+    repo: &Repo<D>,
+    seat: &mut RepoSeat,
+    bytes: &[u8],
+) -> Result<u64, Fail>
+    requires place { seat.old.lock ≡ repo.now }
+    ensures seat { seat.new ≡ moved seat.old seat.new }
+{
+    let read = repo.content(rt, alloc, seat, Id::of(bytes));
+    if !is_content(read, bytes) {
+        return Err(Fail::from("a content"));
+    }
+    total_of(repo.log(rt, alloc, seat, 0))
+}
+
+// How many entries the lead sees after an entry of its own, a seat that is split off then sees with the content, and then
+// after an entry of its own, and the lead once it has joined the other, and the repository that is closed then.
 fn run_split<R: Wait, D: Disk>(
     rt: &R,
     alloc: Global,
     state: RepoState<D>,
-) -> Result<([u64; 3], RepoState<D>), Fail> {
+) -> Result<([u64; 4], RepoState<D>), Fail>
+    requires sealed { IsAllSealed state.history state.sealed }
+{
     let (repo, mut lead) = Repo::new(alloc, state)?;
     let first = put_and_count(rt, alloc, &repo, &mut lead, b"abc")?;
     let mut other = repo.split(&mut lead);
+    let read = read_and_count(rt, alloc, &repo, &mut other, b"abc")?;
     let second = put_and_count(rt, alloc, &repo, &mut other, b"")?;
     repo.join(&mut lead, other);
     let joined = total_of(repo.log(rt, alloc, &mut lead, 0))?;
-    Ok(([first, second, joined], repo.close(lead)))
+    Ok(([first, read, second, joined], repo.close(lead)))
 }
 
 // What a repository that is served alone tells of its log.
@@ -80,15 +112,15 @@ fn log_of<D: Disk>(alloc: Global, state: RepoState<D>) -> Result<String, Fail> {
     tell(alloc, state.look(alloc, 0, &Question::Log(0)))
 }
 
-// The sync that ends the first entry's record fails. Reads go on.
+// The sync that ends the first seal fails. Reads go on, and see the entry that couldn't be sealed.
 const FAILED: &str = "\
 content abc = DiskFault
 content abc = Refused(Down)
-total = 0";
+total = 1";
 
 const DOWN: &str = "\
 content  = Refused(Down)
-total = 0";
+total = 1";
 
 #[test]
 fn a_sync_that_fails_for_one_seat_ends_the_changes_of_all(rt: HostRuntime) -> Result<(), Fail> {
@@ -104,7 +136,7 @@ const CLOSED: &str =
 fn a_new_seat_sees_what_the_lead_has_seen(rt: HostRuntime) -> Result<(), Fail> {
     let alloc = rt.alloc();
     let (counts, state) = run_split(&rt, alloc, new_repository(alloc, &[])?)?;
-    assert_eq!(rt; counts, [1, 2, 2]);
+    assert_eq!(rt; counts, [1, 1, 2, 2]);
     assert_eq!(rt; log_of(alloc, state)?.as_str(), CLOSED);
     Ok(())
 }

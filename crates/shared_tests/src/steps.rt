@@ -103,7 +103,17 @@ pub(crate) fn move_from<S: Seat>(
 fn land<S: Seat>(alloc: Global, seat: &mut S, digits: &str) -> Result<String, Fail> {
     let draft = id(digits)?;
     let name = &main_name(alloc)?;
-    tell(alloc, seat.change(alloc, &Ask::Land { name, draft }))
+    tell(
+        alloc,
+        seat.change(
+            alloc,
+            &Ask::Land {
+                name,
+                draft,
+                moment: 0,
+            },
+        ),
+    )
 }
 
 /// The id of these digits.

@@ -1,5 +1,6 @@
 //! Seats in threads of their own, which store at once.
 ghost use Rattle.std.specs.Prelude.{◌≡◌, ◌+◌, ◌≤◌, ◌^◌};
+ghost use Rattle.repo_state.specs.State.{IsAllSealed};
 
 use crate::repository::new_repository;
 use crate::steps::total;
@@ -108,7 +109,9 @@ fn at_once<R: Threads + Wait + Sync, D: Disk + Send>(
     alloc: Global,
     state: RepoState<D>,
     count: u8,
-) -> Result<(u64, u64), Fail> {
+) -> Result<(u64, u64), Fail>
+    requires sealed { IsAllSealed state.history state.sealed }
+{
     let (repo, mut lead) = Repo::new(alloc, state)?;
     let stored = store_at_once(rt, alloc, &repo, &mut lead, count)?;
     let mut seat = Served::new(rt, &repo, lead, &NoGate);

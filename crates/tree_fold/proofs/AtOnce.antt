@@ -33,12 +33,12 @@ at p es = find_key path_cmp p es
 
 abbrev pub by_change : Option FileChange → Option File → Option File
 by_change None o = o
-by_change (Some (Set f)) o = option_map (λ _. f) o
+by_change (Some (Set f copied)) o = option_map (λ _. f) o
 by_change (Some Delete) o = None
 
 abbrev pub is_set : Option FileChange → Bool
 is_set None = false
-is_set (Some (Set f)) = true
+is_set (Some (Set f copied)) = true
 is_set (Some Delete) = false
 
 -- ---- the edit at a path
@@ -58,11 +58,11 @@ away_behind p [] h = tt
 away_behind p (e ∷ es) h = (less_apart p e.0 (first_of (path_lt p e.0) (below_all path_cmp p es) h), away_behind p es (second_of (path_lt p e.0) (below_all path_cmp p es) h))
 
 once_away : (e : Path × FileChange) (p : Path) (o : Option File) → path_eq e.0 p ≡ false → edited_once e p o ≡ o
-once_away (q, Set f) p o away = ap (λ b. cond b (option_map (λ _. f) o) o) away
+once_away (q, Set f copied) p o away = ap (λ b. cond b (option_map (λ _. f) o) o) away
 once_away (q, Delete) p o away = ap (λ b. cond b None o) away
 
 once_at : (e : Path × FileChange) (p : Path) (o : Option File) → path_eq e.0 p ≡ true → edited_once e p o ≡ by_change (Some e.1) o
-once_at (q, Set f) p o same = ap (λ b. cond b (option_map (λ _. f) o) o) same
+once_at (q, Set f copied) p o same = ap (λ b. cond b (option_map (λ _. f) o) o) same
 once_at (q, Delete) p o same = ap (λ b. cond b None o) same
 
 edited-away : (es : Edits) (p : Path) (o : Option File) → IsAway p es → edited es p o ≡ o
@@ -82,11 +82,11 @@ edited-at (e ∷ es) p o rises =
     ∙ ap (λ r. by_change r o) (sym (at_first p e es))
 
 set_away : (e : Path × FileChange) (p : Path) → path_eq e.0 p ≡ false → is_set_of p e ≡ false
-set_away (q, Set f) p away = away
+set_away (q, Set f copied) p away = away
 set_away (q, Delete) p away = refl
 
 set_here : (e : Path × FileChange) (p : Path) → path_eq e.0 p ≡ true → is_set_of p e ≡ is_set (Some e.1)
-set_here (q, Set f) p same = same
+set_here (q, Set f copied) p same = same
 set_here (q, Delete) p same = refl
 
 none_set : (es : Edits) (p : Path) → IsAway p es → list_any (is_set_of p) es ≡ false
@@ -130,12 +130,12 @@ strict p q away = by (is_prefix p q) refl
     by false h = refl
 
 decides_away : (e : Path × FileChange) (p : Path) → path_eq e.0 p ≡ false → decides_at e.1 e.0 p ≡ clears p e
-decides_away (q, Set f) p away =
+decides_away (q, Set f copied) p away =
     (λ i. strict q p (path_eq_equiv.symm p q ∙ away) i || strict p q away i) ∙ or_swap (is_strict_prefix q p) (is_strict_prefix p q)
 decides_away (q, Delete) p away = away
 
 decides_here : (e : Path × FileChange) (p : Path) → path_eq e.0 p ≡ true → decides_at e.1 e.0 p ≡ true
-decides_here (q, Set f) p same = or_left (is_prefix q p) (is_prefix p q) (ap (is_prefix q) (sym (same_path q p same)) ∙ is_prefix_itself q)
+decides_here (q, Set f copied) p same = or_left (is_prefix q p) (is_prefix p q) (ap (is_prefix q) (sym (same_path q p same)) ∙ is_prefix_itself q)
 decides_here (q, Delete) p same = same
 
 three : (a b c : Bool) → (a || (b || c)) ≡ (b || (a || c))
@@ -157,7 +157,7 @@ decides-at (e ∷ es) p =
 
 none_clears : (p : Path) (es : Edits) → ((q : Path) → list_any (is_set_of q) es ≡ true → (is_strict_prefix p q ≡ false) × (is_strict_prefix q p ≡ false)) → list_any (clears p) es ≡ false
 none_clears p [] apart = refl
-none_clears p ((q, Set f) ∷ es) apart =
+none_clears p ((q, Set f copied) ∷ es) apart =
     let here = apart q (or_left (path_eq q q) (list_any (is_set_of q) es) (path_eq_itself q)) in
     either_false (is_strict_prefix p q || is_strict_prefix q p) (list_any (clears p) es) (either_false (is_strict_prefix p q) (is_strict_prefix q p) here.0 here.1) (none_clears p es (λ r h. apart r (or_right (path_eq q r) (list_any (is_set_of r) es) h)))
 none_clears p ((q, Delete) ∷ es) apart = none_clears p es apart
@@ -169,7 +169,7 @@ set_stays es p apart set = none_clears p es (λ q h. (apart p q set h, apart q p
 -- what is above or under a set path is cleared
 pub set_clears : (es : Edits) (p q : Path) → list_any (is_set_of p) es ≡ true → (is_strict_prefix q p || is_strict_prefix p q) ≡ true → list_any (clears q) es ≡ true
 set_clears [] p q set near = absurd (cc)
-set_clears ((r, Set f) ∷ es) p q set near = by (path_eq r p) refl (set_clears es p q) set
+set_clears ((r, Set f copied) ∷ es) p q set near = by (path_eq r p) refl (set_clears es p q) set
   where
     by : (b : Bool) → path_eq r p ≡ b → (list_any (is_set_of p) es ≡ true → (is_strict_prefix q p || is_strict_prefix p q) ≡ true → list_any (clears q) es ≡ true) → (b || list_any (is_set_of p) es) ≡ true → ((is_strict_prefix q r || is_strict_prefix r q) || list_any (clears q) es) ≡ true
     by true same later h = or_left (is_strict_prefix q r || is_strict_prefix r q) (list_any (clears q) es) (ap (λ s. is_strict_prefix q s || is_strict_prefix s q) (same_path r p same) ∙ near)
@@ -193,7 +193,7 @@ same_both false x = refl
 
 at_once_by : (r : Option FileChange) (c : Bool) (o mid : Option File) → (is_set r ≡ true → is_some mid ≡ true) → (is_set r ≡ false → mid ≡ o) → (is_set r ≡ true → c ≡ false) → cond (c && is_some o) None (by_change r mid) ≡ cond (is_some r || c) (option_and_then file_of r) o
 at_once_by None c o mid there kept stays = ap (cond (c && is_some o) None) (kept refl) ∙ gone c o
-at_once_by (Some (Set f)) c o mid there kept stays = ap (λ c. cond (c && is_some o) None (option_map (λ _. f) mid)) (stays refl) ∙ replaced f mid (there refl)
+at_once_by (Some (Set f copied)) c o mid there kept stays = ap (λ c. cond (c && is_some o) None (option_map (λ _. f) mid)) (stays refl) ∙ replaced f mid (there refl)
 at_once_by (Some Delete) c o mid there kept stays = same_both (c && is_some o) None
 
 -- what the edits of rising paths leave, once the files in the way are gone, is what the changeset decides
@@ -207,7 +207,7 @@ at_once es p o mid rises apart there kept =
 
 set_of_some : (r : Option FileChange) → is_some (option_and_then file_of r) ≡ true → is_set r ≡ true
 set_of_some None h = absurd (cc)
-set_of_some (Some (Set f)) h = refl
+set_of_some (Some (Set f copied)) h = refl
 set_of_some (Some Delete) h = absurd (cc)
 
 -- a file is there after the changeset: it was set, or was there before and isn't decided
@@ -240,7 +240,7 @@ sets es = filter_map (λ e. option_map (λ f. (e.0, f)) (file_of e.1)) es
 
 of_set : (P : Path → Type 0) (es : Edits) (p : Path) → AllByRecursion (λ s. P s.0) (sets es) → list_any (is_set_of p) es ≡ true → P p
 of_set P [] p all h = absurd (cc)
-of_set P ((q, Set f) ∷ es) p all h = by (path_eq q p) refl (of_set P es p all.1) h
+of_set P ((q, Set f copied) ∷ es) p all h = by (path_eq q p) refl (of_set P es p all.1) h
   where
     by : (b : Bool) → path_eq q p ≡ b → (list_any (is_set_of p) es ≡ true → P p) → (b || list_any (is_set_of p) es) ≡ true → P p
     by true same later h = subst P (same_path q p same) all.0

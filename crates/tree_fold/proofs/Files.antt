@@ -14,6 +14,7 @@ use Rattle.changeset_model.proofs.Paths.{path_cmp_total, path_cmp-IsAntisymmetri
 use Rattle.repo_path.specs.Order.{path_eq_equiv, path_eq_ties}
 use Rattle.object_id.specs.declared.id.Id.{Id}
 use Rattle.bonsai.specs.declared.kind.FileKind.{FileKind}
+use Rattle.bonsai.specs.declared.copy_source.CopySource.{CopySource}
 use Rattle.bonsai.specs.declared.change.Change.TheVariants as changes
 use Rattle.bonsai.specs.declared.edit.Edit.{Edit}
 use Rattle.bonsai.specs.View.{change_view, edit_view}
@@ -69,11 +70,11 @@ set_absent m q p h = by (path_eq q p) refl
     by true e = sym (is_absent (get path_cmp m p) (ap (λ r. is_some (get path_cmp m r)) (sym (same_path q p e)) ∙ h))
     by false e = refl
 
-pub is_set_of-Set : (e : Edit) (x : Id) (k : FileKind) (n : ℕ) → e.change ≡ changes.Set x k n → (p : Path) → is_set_of p (edit_view e) ≡ path_eq e.path p
-is_set_of-Set e x k n is p = ap (λ change. is_set_of p (e.path, change_view change)) is
+pub is_set_of-Set : (e : Edit) (x : Id) (k : FileKind) (n : ℕ) (s : Option CopySource) → e.change ≡ changes.Set x k n s → (p : Path) → is_set_of p (edit_view e) ≡ path_eq e.path p
+is_set_of-Set e x k n s is p = ap (λ change. is_set_of p (e.path, change_view change)) is
 
-pub clears-Set : (e : Edit) (x : Id) (k : FileKind) (n : ℕ) → e.change ≡ changes.Set x k n → (p : Path) → clears p (edit_view e) ≡ (is_strict_prefix p e.path || is_strict_prefix e.path p)
-clears-Set e x k n is p = ap (λ change. clears p (e.path, change_view change)) is
+pub clears-Set : (e : Edit) (x : Id) (k : FileKind) (n : ℕ) (s : Option CopySource) → e.change ≡ changes.Set x k n s → (p : Path) → clears p (edit_view e) ≡ (is_strict_prefix p e.path || is_strict_prefix e.path p)
+clears-Set e x k n s is p = ap (λ change. clears p (e.path, change_view change)) is
 
 -- ---- among the paths of files
 
@@ -149,22 +150,22 @@ file_in-updates m n q w u p = ap (option_map file_view) (get-updates m n q w u p
 abbrev file_set : Id → FileKind → ℕ → File
 file_set x k n = record { content = x; kind = k; size = n }
 
-edited_once-Set : (e : Edit) (x : Id) (k : FileKind) (n : ℕ) → e.change ≡ changes.Set x k n → (p : Path) (o : Option model.File) → edited_once (edit_view e) p o ≡ cond (path_eq e.path p) (option_map (λ _. file_view (file_set x k n)) o) o
-edited_once-Set e x k n is p o = ap (λ change. edited_once (e.path, change_view change) p o) is
+edited_once-Set : (e : Edit) (x : Id) (k : FileKind) (n : ℕ) (s : Option CopySource) → e.change ≡ changes.Set x k n s → (p : Path) (o : Option model.File) → edited_once (edit_view e) p o ≡ cond (path_eq e.path p) (option_map (λ _. file_view (file_set x k n)) o) o
+edited_once-Set e x k n s is p o = ap (λ change. edited_once (e.path, change_view change) p o) is
 
 -- a file is put in the place of the one that is there
-pub edited-set : (m after : BTreeMap Path File) (e : Edit) (x : Id) (k : FileKind) (n : ℕ) → e.change ≡ changes.Set x k n → is_some (get path_cmp m e.path) ≡ true → Updates path_cmp m after e.path (Some (file_set x k n)) → (p : Path) → file_in after p ≡ edited_once (edit_view e) p (file_in m p)
-edited-set m after e x k n is here u p =
-    file_in-updates m after e.path (Some (file_set x k n)) u p ∙ by (path_eq e.path p) refl ∙ sym (edited_once-Set e x k n is p (file_in m p))
+pub edited-set : (m after : BTreeMap Path File) (e : Edit) (x : Id) (k : FileKind) (n : ℕ) (s : Option CopySource) → e.change ≡ changes.Set x k n s → is_some (get path_cmp m e.path) ≡ true → Updates path_cmp m after e.path (Some (file_set x k n)) → (p : Path) → file_in after p ≡ edited_once (edit_view e) p (file_in m p)
+edited-set m after e x k n s is here u p =
+    file_in-updates m after e.path (Some (file_set x k n)) u p ∙ by (path_eq e.path p) refl ∙ sym (edited_once-Set e x k n s is p (file_in m p))
   where
     by : (b : Bool) → path_eq e.path p ≡ b → cond b (Some (file_view (file_set x k n))) (file_in m p) ≡ cond b (option_map (λ _. file_view (file_set x k n)) (file_in m p)) (file_in m p)
     by true same = const_some file_view (file_view (file_set x k n)) (get path_cmp m p) (ap (λ r. is_some (get path_cmp m r)) (sym (same_path e.path p same)) ∙ here)
     by false same = refl
 
 -- where none is there, nothing is put
-pub edited-absent : (m after : BTreeMap Path File) (e : Edit) (x : Id) (k : FileKind) (n : ℕ) → e.change ≡ changes.Set x k n → get path_cmp m e.path ≡ None → after ≡ m → (p : Path) → file_in after p ≡ edited_once (edit_view e) p (file_in m p)
-edited-absent m after e x k n is none same_map p =
-    ap (λ m. file_in m p) same_map ∙ by (path_eq e.path p) refl ∙ sym (edited_once-Set e x k n is p (file_in m p))
+pub edited-absent : (m after : BTreeMap Path File) (e : Edit) (x : Id) (k : FileKind) (n : ℕ) (s : Option CopySource) → e.change ≡ changes.Set x k n s → get path_cmp m e.path ≡ None → after ≡ m → (p : Path) → file_in after p ≡ edited_once (edit_view e) p (file_in m p)
+edited-absent m after e x k n s is none same_map p =
+    ap (λ m. file_in m p) same_map ∙ by (path_eq e.path p) refl ∙ sym (edited_once-Set e x k n s is p (file_in m p))
   where
     by : (b : Bool) → path_eq e.path p ≡ b → file_in m p ≡ cond b (option_map (λ _. file_view (file_set x k n)) (file_in m p)) (file_in m p)
     by true same =

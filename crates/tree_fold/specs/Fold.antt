@@ -18,11 +18,11 @@ abbrev pub IsFlat : List (Path × File) → Type 0
 IsFlat es = (p q : Path) → is_some (lookup (is_at (path_cmp p)) es) ≡ true → is_some (lookup (is_at (path_cmp q)) es) ≡ true → is_strict_prefix p q ≡ false
 
 abbrev pub clears : Path → Path × model.FileChange → Bool
-clears p (q, model.Set f) = is_strict_prefix p q || is_strict_prefix q p
+clears p (q, model.Set f copied) = is_strict_prefix p q || is_strict_prefix q p
 clears p (q, model.Delete) = false
 
 abbrev pub is_set_of : Path → Path × model.FileChange → Bool
-is_set_of p (q, model.Set f) = path_eq q p
+is_set_of p (q, model.Set f copied) = path_eq q p
 is_set_of p (q, model.Delete) = false
 
 abbrev pub file_in : BTreeMap Path File → Path → Option model.File
@@ -38,7 +38,7 @@ abbrev pub IsApart : List (Path × model.FileChange) → Type 0
 IsApart es = (p q : Path) → list_any (is_set_of p) es ≡ true → list_any (is_set_of q) es ≡ true → is_strict_prefix p q ≡ false
 
 abbrev pub edited_once : Path × model.FileChange → Path → Option model.File → Option model.File
-edited_once (q, model.Set f) p o = if path_eq q p then option_map (λ _. f) o else o
+edited_once (q, model.Set f copied) p o = if path_eq q p then option_map (λ _. f) o else o
 edited_once (q, model.Delete) p o = if path_eq q p then None else o
 
 abbrev pub edited : List (Path × model.FileChange) → Path → Option model.File → Option model.File

@@ -39,7 +39,7 @@ fn push_cleared(
     requires { IsFlat files.now.entries }
     ensures { OnOk result ((p : Path) → list_any (λ q. path_eq q p) paths.new.items ≡ (list_any (λ q. path_eq q p) paths.old.items || (clears p (edit_view edit.now) && is_some (file_in files.now p)))) }
 {
-    if let Change::Delete = edit.change {
+    if let Change::Delete = &edit.change {
         return Ok(());
     }
     push_above(alloc, files, &edit.path, paths)?;

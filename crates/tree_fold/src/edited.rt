@@ -27,17 +27,18 @@ fn edit_one(files: &mut BTreeMap<RepoPath, File>, edit: &Edit)
     ensures edited { (p : Path) → file_in files.new p ≡ edited_once (edit_view edit.now) p (file_in files.old p) }
     ensures ordered { IsOrdered path_cmp files.new }
 {
-    match edit.change {
+    match &edit.change {
         Change::Set {
             content,
             kind,
             size,
+            copied: _,
         } => {
             if let Some(file) = files.get_mut(&edit.path) {
                 *file = File {
-                    content,
-                    kind,
-                    size,
+                    content: *content,
+                    kind: *kind,
+                    size: *size,
                 };
             }
         }

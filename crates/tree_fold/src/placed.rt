@@ -56,12 +56,7 @@ fn placing_of<'a>(files: &BTreeMap<RepoPath, File>, edit: &'a Edit) -> Option<&'
     ensures some { IfSome result (λ n. (p : Path) → path_eq n.now p ≡ (is_set_of p (edit_view edit.now) && is_none (get path_cmp files.now p))) }
     ensures none { IfNone result ((p : Path) → (is_set_of p (edit_view edit.now) && is_none (get path_cmp files.now p)) ≡ false) }
 {
-    let Change::Set {
-        content: _,
-        kind: _,
-        size: _,
-    } = edit.change
-    else {
+    let Change::Set { .. } = &edit.change else {
         return None;
     };
     if files.contains_key(&edit.path) {

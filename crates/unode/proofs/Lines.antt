@@ -4,6 +4,9 @@ use Rattle.std.specs.Prelude.{Option, None, Some, unwrap_or}
 use Rattle.std.specs.Option.{option_map_or}
 use Rattle.byte_fields.specs.Bytes.{Id}
 use Rattle.manifest_model.specs.Unode.{Unode, linknode_of}
+use Rattle.unode.specs.declared.parents.Parents.{Parents}
+use Rattle.unode.specs.declared.parents.Parents.TheVariants.{Absent, One, Two}
+use Rattle.unode.specs.Parts.{parents_seen}
 use Rattle.unode.specs.History.{parents_of, IsLine}
 
 -- the line from some ids, as far as this many unodes go
@@ -47,6 +50,13 @@ never_none at x (n ∷ rest) l e = let clash : ◌≡◌ {A = Option Unode} None
 pub ended : (at : Id → Option Unode) (line : List Unode) → IsLine at [] line → line ≡ []
 ended at [] l = refl
 ended at (n ∷ rest) l = absurd l
+
+-- a line ends where there is not one parent
+pub at_end : (at : Id → Option Unode) (parents : Parents) (line : List Unode) → ((x : Id) → parents ≡ One x → ⊥) → IsLine at (parents_seen parents) line → line ≡ []
+at_end at Absent line other l = ended at line l
+at_end at (One x) line other l = absurd (other x refl)
+at_end at (Two x y) [] other l = refl
+at_end at (Two x y) (n ∷ line) other l = absurd l
 
 -- the unodes that are left become fewer
 pub fewer : (n : ℕ) (at : Id → Option Unode) (x : Id) (u : Unode) (line : List Unode) → IsLine at (x ∷ []) line → length line < n → Some u ≡ at x → length (walked n at (parents_of u)) < length (walked n at (x ∷ []))

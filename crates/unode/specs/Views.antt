@@ -9,7 +9,7 @@ use Rattle.unode.specs.declared.node.Unode.TheVariants as nodes
 use Rattle.unode.specs.Parts.{manifest_of_parts, file_seen}
 
 abbrev pub manifest_seen : UnodeManifest → Unode
-manifest_seen m = manifest_of_parts m.parent m.linknode m.entries
+manifest_seen m = manifest_of_parts m.parents m.linknode m.entries
 
 abbrev pub unode_seen : RustUnode → Unode
 unode_seen (nodes.Manifest m) = manifest_seen m

@@ -1,13 +1,14 @@
 //! Unodes of files.
 
+use crate::parents::Parents;
 use bonsai::FileKind;
 use object_id::Id;
 
 /// A file as one changeset set it.
 #[derive(Clone, Copy, Debug, PartialEq, Eq)]
 pub struct FileUnode {
-    /// The id of the unode of the same path before, if the path was a file there.
-    pub parent: Option<Id>,
+    /// The unodes of the same path before, where the path was a file.
+    pub parents: Parents,
     /// The id of its content.
     pub content: Id,
     pub kind: FileKind,

@@ -6,6 +6,7 @@ ghost use Rattle.unode.specs.Parts.{file_seen};
 ghost use Rattle.unode.specs.History.{IsLine, HasLine};
 
 use crate::file::FileUnode;
+use crate::parents::Parents;
 use object_id::Id;
 use std::alloc::{AllocError, Global};
 
@@ -26,13 +27,14 @@ pub fn file_history<N: Nodes>(alloc: Global, nodes: &N, node: Id) -> Result<Vec<
     ensures { (line : List ModelUnode) → IsLine (N.file_at nodes.now) (node ∷ []) line → IfOk result (λ ids. ids.items ≡ map linknode_of line) }
 {
     let mut links = Vec::new(alloc);
-    let mut next = Some(node);
-    while let Some(id) = next {
+    let mut next = Parents::One(node);
+    // No unode of a line has two parents, so the one without a parent ends it.
+    while let Parents::One(id) = next {
         let Some(file) = nodes.file_unode(&id) else {
             unreachable!()
         };
         links.push(file.linknode)?;
-        next = file.parent;
+        next = file.parents;
     }
     Ok(links)
 }

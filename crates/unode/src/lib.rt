@@ -9,6 +9,7 @@ pub mod laws;
 mod lookup;
 pub mod manifest;
 pub mod node;
+pub mod parents;
 mod reading;
 mod writing;
 
@@ -18,5 +19,6 @@ pub use history::{Nodes, file_history};
 pub use lookup::entry_in;
 pub use manifest::UnodeManifest;
 pub use node::Unode;
+pub use parents::Parents;
 pub use reading::{decode, decode_file};
 pub use writing::encode;

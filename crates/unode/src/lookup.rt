@@ -10,7 +10,7 @@ ghost use Rattle.unode.specs.Parts.{entry_seen};
 ghost use Rattle.unode.specs.Lookup.{entries_in, entry_count, entry_named as named, manifest_count};
 
 use crate::entry::UnodeEntry;
-use crate::reading::{FILE_MARK, MANIFEST_MARK, entry_at, parent_at};
+use crate::reading::{FILE_MARK, MANIFEST_MARK, entry_at, parents_at};
 use byte_fields::BadField;
 use byte_fields::fields::{id_at, u8_at, u32_at};
 use node_fields::{Entry, entry_named};
@@ -62,7 +62,7 @@ fn count_at(bytes: &[u8]) -> Result<(u32, &[u8]), BadField>
 fn manifest_count_at(bytes: &[u8]) -> Result<(u32, &[u8]), BadField>
     ensures { Gives (λ x. (x.0, x.1.now)) result (manifest_count bytes.now) }
 {
-    let (_parent, rest) = match parent_at(bytes) {
+    let (_parents, rest) = match parents_at(bytes) {
         Ok(read) => read,
         Err(fault) => return Err(fault),
     };

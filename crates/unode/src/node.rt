@@ -7,6 +7,7 @@ ghost use Rattle.unode.specs.History.{parents_of};
 
 use crate::file::FileUnode;
 use crate::manifest::UnodeManifest;
+use crate::parents::Parents;
 use object_id::Id;
 
 /// The unode of a path.
@@ -27,13 +28,13 @@ impl Unode {
         }
     }
 
-    /// The id of the unode of the same path before, if the path was of the same kind there.
-    pub fn parent(&self) -> Option<Id>
+    /// The unodes of the same path before, where the path was of the same kind.
+    pub fn parents(&self) -> Parents
         ensures { parents_seen result ≡ parents_of (unode_seen self.now) }
     {
         match self {
-            Unode::Manifest(manifest) => manifest.parent,
-            Unode::File(file) => file.parent,
+            Unode::Manifest(manifest) => manifest.parents,
+            Unode::File(file) => file.parents,
         }
     }
 }

@@ -2,6 +2,7 @@
 ghost use Rattle.std.specs.Prelude.{◌≡◌, true, None, Ok, option_map, IfOk};
 ghost use Rattle.std.specs.Option.{option_copied};
 ghost use Rattle.byte_fields.specs.Gives.{Gives};
+ghost use Rattle.byte_fields.specs.Reading.{id, times};
 ghost use Rattle.byte_fields.specs.Reads.{Reads};
 ghost use Rattle.changeset_model.specs.Path.{is_element};
 ghost use Rattle.manifest_model.specs.Unode.{Unode as ModelUnode, unode_bytes, is_unode};
@@ -14,6 +15,7 @@ use crate::entry::{UnodeChild, UnodeEntry};
 use crate::file::FileUnode;
 use crate::manifest::UnodeManifest;
 use crate::node::Unode;
+use crate::parents::Parents;
 use bonsai::kind_at;
 use byte_fields::fields::{exactly_at, id_at, u8_at, u8_below, u32_at};
 use byte_fields::{BadField, FieldFault};
@@ -85,9 +87,9 @@ fn unode_at(alloc: Global, bytes: &[u8]) -> Result<(Unode, &[u8]), FieldFault>
 fn manifest_at(alloc: Global, bytes: &[u8]) -> Result<(UnodeManifest, &[u8]), FieldFault>
     ensures { Reads (λ x. (manifest_seen x.0, x.1.now)) result (manifest_fields bytes.now) }
 {
-    let ((parent, linknode, entries), rest) = manifest_parts_at(alloc, bytes)?;
+    let ((parents, linknode, entries), rest) = manifest_parts_at(alloc, bytes)?;
     let manifest = UnodeManifest {
-        parent,
+        parents,
         linknode,
         entries,
     };
@@ -98,23 +100,23 @@ fn manifest_at(alloc: Global, bytes: &[u8]) -> Result<(UnodeManifest, &[u8]), Fi
 fn manifest_parts_at(
     alloc: Global,
     bytes: &[u8],
-) -> Result<((Option<Id>, Id, Vec<UnodeChild>), &[u8]), FieldFault>
+) -> Result<((Parents, Id, Vec<UnodeChild>), &[u8]), FieldFault>
     ensures { Reads (λ x. (manifest_of_parts x.0.0 x.0.1 x.0.2, x.1.now)) result (manifest_fields bytes.now) }
 {
-    let (parent, rest) = match parent_at(bytes) {
+    let (parents, rest) = match parents_at(bytes) {
         Ok(read) => read,
         Err(fault) => return Err(fault.into()),
     };
     let (linknode, rest) = id_at(rest)?;
     let (count, rest) = u32_at(rest)?;
     let (entries, rest) = entries_at(alloc, count, rest)?;
-    Ok(((parent, Id::from_bytes(linknode), entries), rest))
+    Ok(((parents, Id::from_bytes(linknode), entries), rest))
 }
 
 fn file_at(bytes: &[u8]) -> Result<(FileUnode, &[u8]), BadField>
     ensures { Gives (λ x. (file_seen x.0, x.1.now)) result (file_fields bytes.now) }
 {
-    let (parent, rest) = match parent_at(bytes) {
+    let (parents, rest) = match parents_at(bytes) {
         Ok(read) => read,
         Err(fault) => return Err(fault),
     };
@@ -123,7 +125,7 @@ fn file_at(bytes: &[u8]) -> Result<(FileUnode, &[u8]), BadField>
     let (path_hash, rest) = id_at(rest)?;
     let (linknode, rest) = id_at(rest)?;
     let file = FileUnode {
-        parent,
+        parents,
         content: Id::from_bytes(content),
         kind,
         path_hash: Id::from_bytes(path_hash),
@@ -132,17 +134,33 @@ fn file_at(bytes: &[u8]) -> Result<(FileUnode, &[u8]), BadField>
     Ok((file, rest))
 }
 
-// The version, and none or one parent behind the count of them.
-pub(crate) fn parent_at(bytes: &[u8]) -> Result<(Option<Id>, &[u8]), BadField>
+// The version, and the parents, at most two, behind the count of them.
+pub(crate) fn parents_at(bytes: &[u8]) -> Result<(Parents, &[u8]), BadField>
     ensures { Gives (λ x. (parents_seen x.0, x.1.now)) result (node_parents bytes.now) }
 {
     let rest = exactly_at(bytes, 1)?;
-    let (count, rest) = u8_below(rest, 2)?;
-    if count == 0 {
-        return Ok((None, rest));
+    let (count, rest) = u8_below(rest, 3)?;
+    match count {
+        0 => Ok((Parents::Absent, rest)),
+        1 => one_parent_at(rest),
+        _ => two_parents_at(rest),
     }
-    let (parent, rest) = id_at(rest)?;
-    Ok((Some(Id::from_bytes(parent)), rest))
+}
+
+fn one_parent_at(bytes: &[u8]) -> Result<(Parents, &[u8]), BadField>
+    ensures { Gives (λ x. (parents_seen x.0, x.1.now)) result (times 1 id bytes.now) }
+{
+    let (parent, rest) = id_at(bytes)?;
+    Ok((Parents::One(Id::from_bytes(parent)), rest))
+}
+
+fn two_parents_at(bytes: &[u8]) -> Result<(Parents, &[u8]), BadField>
+    ensures { Gives (λ x. (parents_seen x.0, x.1.now)) result (times 2 id bytes.now) }
+{
+    let (first, rest) = id_at(bytes)?;
+    let (second, rest) = id_at(rest)?;
+    let parents = Parents::Two(Id::from_bytes(first), Id::from_bytes(second));
+    Ok((parents, rest))
 }
 
 // A number of entries.

@@ -11,6 +11,7 @@ use crate::entry::{UnodeChild, UnodeEntry};
 use crate::file::FileUnode;
 use crate::manifest::UnodeManifest;
 use crate::node::Unode;
+use crate::parents::Parents;
 use object_id::Id;
 use std::alloc::{AllocError, Global};
 
@@ -29,7 +30,7 @@ fn encode_manifest(alloc: Global, manifest: &UnodeManifest) -> Result<Vec<u8>, A
     ensures { IfOk result (λ bytes. bytes.items ≡ unode_bytes (manifest_seen manifest.now)) }
 {
     let mut out = Vec::new(alloc);
-    put_head(&mut out, 0x55, manifest.parent)?;
+    put_head(&mut out, 0x55, manifest.parents)?;
     put_id(&mut out, &manifest.linknode)?;
     out.extend_from_slice(&(manifest.entries.len() as u32).to_be_bytes())?;
     put_children(&mut out, &manifest.entries)?;
@@ -41,7 +42,7 @@ fn encode_file(alloc: Global, file: &FileUnode) -> Result<Vec<u8>, AllocError>
     ensures valid { OnOk result (is_unode (file_seen file.now) ≡ true) }
 {
     let mut out = Vec::new(alloc);
-    put_head(&mut out, 0x56, file.parent)?;
+    put_head(&mut out, 0x56, file.parents)?;
     put_id(&mut out, &file.content)?;
     out.push(file.kind.to_byte())?;
     put_id(&mut out, &file.path_hash)?;
@@ -50,15 +51,20 @@ fn encode_file(alloc: Global, file: &FileUnode) -> Result<Vec<u8>, AllocError>
 }
 
 // The mark, the version, and the parents behind their count.
-fn put_head(out: &mut Vec<u8>, mark: u8, parent: Option<Id>) -> Result<(), AllocError>
-    ensures written { OnOk result (out.new.items ≡ out.old.items ++ (mark ∷ 1 ∷ length (parents_seen parent) ∷ concat (parents_seen parent))) }
-    ensures whole { OnOk result (list_all (is_bytes 32) (parents_seen parent) ≡ true) }
+fn put_head(out: &mut Vec<u8>, mark: u8, parents: Parents) -> Result<(), AllocError>
+    ensures written { OnOk result (out.new.items ≡ out.old.items ++ (mark ∷ 1 ∷ length (parents_seen parents) ∷ concat (parents_seen parents))) }
+    ensures whole { OnOk result (list_all (is_bytes 32) (parents_seen parents) ≡ true) }
 {
-    match parent {
-        None => out.extend_from_slice(&[mark, 1, 0]),
-        Some(parent) => {
+    match parents {
+        Parents::Absent => out.extend_from_slice(&[mark, 1, 0]),
+        Parents::One(parent) => {
             out.extend_from_slice(&[mark, 1, 1])?;
             put_id(out, &parent)
+        }
+        Parents::Two(first, second) => {
+            out.extend_from_slice(&[mark, 1, 2])?;
+            put_id(out, &first)?;
+            put_id(out, &second)
         }
     }
 }

@@ -5,6 +5,7 @@ use Rattle.std.specs.Int.{w16, w32, w64, to_be_bytes, cast_unsigned}
 use Rattle.std.proofs.lemmas.Int.{to_z-of_z}
 use Rattle.std.proofs.lemmas.List.{length-map}
 use Rattle.byte_fields.specs.Bytes.{sized}
+use Rattle.changeset_model.specs.Version.{version_byte}
 use Rattle.changeset_model.specs.Changeset.{edit_bytes}
 use Rattle.bonsai.specs.View.{edit_view, edits_view, fields_view}
 use Rattle.bonsai.proofs.Rules.{short_parts, seconds_fit, offset_fits}
@@ -29,9 +30,9 @@ returns c =
     let message = c.put_message.new.out.items in
     let edits = c.put_edit_list.new.out.items in
     spelled f out head author date message edits (record {
-      head_is = c.in_ok-put_head.ensures ∙ ap (λ ids. out ++ 0x43 ∷ 1 ∷ length ids ∷ concat ids) c.as_slice.ensures.value;
+      head_is = c.in_ok-put_head.ensures ∙ ap (λ ids. out ++ 0x43 ∷ version_byte f.version ∷ length ids ∷ concat ids) c.as_slice.ensures.value;
       author_is = c.in_ok-put_author.ensures ∙ ap (λ t. head ++ sized w16 t) c.as_str.ensures.value;
       date_is = c.in_ok-put_date.ensures ∙ (λ i. author ++ to_be_bytes w64 (cast_unsigned w64 (to_z-of_z w64 f.seconds (seconds_fit f c.requires) i)) ++ to_be_bytes w32 (cast_unsigned w32 (to_z-of_z w32 f.offset (offset_fits f c.requires) i)));
       message_is = c.in_ok-put_message.ensures ∙ ap (λ t. date ++ sized w32 t) c.as_str-2.ensures.value;
-      edits_is = c.in_ok-put_edit_list.ensures ∙ ap (λ es. message ++ to_be_bytes w32 (length es) ++ flat_map edit_bytes (edits_view es)) c.as_slice-2.ensures.value ∙ ap (λ n. message ++ to_be_bytes w32 n ++ flat_map edit_bytes f.changes) (sym (length-map fields.edits.items edit_view));
+      edits_is = c.in_ok-put_edit_list.ensures ∙ ap (λ es. message ++ to_be_bytes w32 (length es) ++ flat_map (edit_bytes f.version) (edits_view es)) c.as_slice-2.ensures.value ∙ ap (λ n. message ++ to_be_bytes w32 n ++ flat_map (edit_bytes f.version) f.changes) (sym (length-map fields.edits.items edit_view));
     })

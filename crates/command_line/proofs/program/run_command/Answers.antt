@@ -10,7 +10,7 @@ returns-in-Session-clause-runs g c =
     let outside_of = outside g.O.Opener.shelf g.O.Opener.faults g.L.Link.rest g.L.Link.written g.L.Link.faults in
     let apart = c.apart-in-Session in
     let is : Some (said_of c.args.command) ≡ Some (session c.in-Session.file.now) = search rules in
-    runs_session g.D.Disk.meaning _ c.in-Session.file.now
+    runs_session g.D.Disk.meaning (g.C.Clock.tells c.args.clock.now) _ c.in-Session.file.now
     (outside_of c.args.opener.now c.args.link.now) (outside_of c.run_session.new.opener c.run_session.new.link)
     (links g.A.Accept.given g.A.Accept.over g.A.Accept.faults c.args.accept apart.result.accept apart.result.served)
     c.run_session.result (record { status = apart.result.status; disk = apart.result.disk }) apart.result.load

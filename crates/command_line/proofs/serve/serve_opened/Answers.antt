@@ -17,6 +17,6 @@ returns-in-Some-clause-runs g c =
       writes = record { reports = c.end_run.ensures.reports; unread = c.end_run.ensures.input };
       ends = serves_opened g.D.Disk.meaning machine.header machine.history c.args.opened.journal (g.D.Disk.meaning c.args.opened.disk) c.args.lanes c.args.connections
           (links g.A.Accept.given g.A.Accept.over g.A.Accept.faults c.args.accept left.result.accept left.result.served) left.result.faulted c.served_report.result c.closed.result c.new-state.result state left.result.state
-          c.new-state.ensures.history c.new-state.ensures.opening c.in-Some.is left.ensures.opening left.ensures.begins left.ensures.seats left.ensures.takes c.closed.ensures.whole c.closed.ensures.disk c.closed.ensures.state
+          c.new-state.ensures.history c.new-state.ensures.opening c.in-Some.is left.ensures.opening left.ensures.begins left.ensures.seats left.ensures.takes left.ensures.sealed c.closed.ensures.whole c.closed.ensures.disk c.closed.ensures.state
           (subst (λ n. c.served_report.result ≡ served_report (is_down state.history) left.result.faulted n (counts_of state.history).entries) c.count.ensures c.served_report.ensures);
     })

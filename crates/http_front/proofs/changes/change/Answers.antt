@@ -1,8 +1,7 @@
-use Rattle.http_front.proofs.AnswerLemmas.{refusal_answers}
+use Rattle.repo_calls.specs.Calls.{ask_seen}
+use Rattle.http_front.proofs.Dating.{dated_change}
 use Rattle.http_front.proofs.changes.change.Goals as goal
 
-pub put_granted-requires : goal.put_granted-requires
-put_granted-requires g c = g.met.T.Seat.lawful.fits _ _ _ _ _ _ c.in-Ok.ensures.reply
-
-pub returns-in-Err-Refused-clause-answers : goal.returns-in-Err-Refused-clause-answers
-returns-in-Err-Refused-clause-answers g c = refusal_answers g.T.Seat.replies g.met.T.Seat.lawful _ _ _ _ _ c.in-Err-Refused.refusal _ _ _ (rw c.in-Err-Refused.field-0-is at c.in-Err-Refused.ensures.reply) c.put_refusal.ensures
+pub returns-clause-answers : goal.returns-clause-answers
+returns-clause-answers g c =
+    dated_change (g.C.Clock.tells c.args.clock.now) (g.T.Seat.replies (g.T.Seat.home c.args.seat.now)) _ _ _ _ _ _ _ (ask_seen c.args.ask.now) (ask_seen c.dated.result) c.dated.ensures c.make.ensures.answers

@@ -4,14 +4,14 @@ use Rattle.http_front.proofs.reads.look.Goals as goal
 pub put_seen-requires : goal.put_seen-requires
 put_seen-requires g c =
     let reply = c.in-Ok.ensures.reply in
-    seen_suits g.T.Seat.replies g.met.T.Seat.lawful _ _ _ _ c.args.question.now c.in-Ok.seen reply.0 reply.1 reply.2
+    seen_suits (g.T.Seat.replies (g.T.Seat.home c.args.seat.now)) (g.met.T.Seat.lawful (g.T.Seat.home c.args.seat.now)) _ _ _ _ c.args.question.now c.in-Ok.seen reply.0 reply.1 reply.2
 
 pub returns-in-Ok-clause-answers : goal.returns-in-Ok-clause-answers
 returns-in-Ok-clause-answers g c =
     let reply = c.in-Ok.ensures.reply in
-    seen_answers g.T.Seat.replies g.met.T.Seat.lawful _ _ _ _ c.args.question.now c.in-Ok.seen reply.0 _ _ _ reply.1 reply.2 c.put_seen.ensures
+    seen_answers (g.T.Seat.replies (g.T.Seat.home c.args.seat.now)) (g.met.T.Seat.lawful (g.T.Seat.home c.args.seat.now)) _ _ _ _ c.args.question.now c.in-Ok.seen reply.0 _ _ _ reply.1 reply.2 c.put_seen.ensures
 
 pub returns-in-Err-clause-answers : goal.returns-in-Err-clause-answers
 returns-in-Err-clause-answers g c =
     let reply = c.in-Err.ensures.reply in
-    fault_answers g.T.Seat.replies _ _ _ c.args.question.now c.in-Err.fault reply.0 _ _ _ _ reply.1 reply.2 c.put_fault.ensures
+    fault_answers (g.T.Seat.replies (g.T.Seat.home c.args.seat.now)) _ _ _ c.args.question.now c.in-Err.fault reply.0 _ _ _ _ reply.1 reply.2 c.put_fault.ensures

@@ -1,4 +1,4 @@
-use Rattle.landing_core.proofs.Growing.{first_stands}
+use Rattle.landing_core.proofs.Reached.{first_stands}
 use Rattle.landing_core.proofs.core_laws.the_first_history_stands.Goals as goal
 
 pub returns : goal.returns

@@ -5,4 +5,4 @@ use Rattle.rebase_stack.proofs.stack.rebase.Given as goal
 
 -- what was made, with what is left on the last of it, is the stack on the head
 abbrev pub invariant-stack : goal.invariant-stack
-invariant-stack l = l.commits.items ++ rewrite (map arc_value (drop l.commit-index l.stack)) l.parent ≡ rewrite (map arc_value l.stack) l.fn.head
+invariant-stack l = l.commits.items ++ rewrite (map arc_value (drop l.commit-index l.stack)) l.parent l.moment ≡ rewrite (map arc_value l.stack) l.fn.head l.moment

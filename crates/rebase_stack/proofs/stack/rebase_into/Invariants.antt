@@ -7,6 +7,6 @@ use Rattle.rebase_stack.proofs.stack.rebase_into.Given as goal
 -- what was made and written, with what is left on the last of it, is the stack on the head
 abbrev pub invariant-stack : goal.invariant-stack
 invariant-stack l = record {
-  made : l.commits.items ++ rewrite (map arc_value (drop l.commit-index l.stack)) l.parent ≡ rewrite (map arc_value l.stack) l.fn.head;
-  written : l.out.items ++ encodings (rewrite (map arc_value (drop l.commit-index l.stack)) l.parent) ≡ l.fn.out.items ++ encodings (rewrite (map arc_value l.stack) l.fn.head);
+  made : l.commits.items ++ rewrite (map arc_value (drop l.commit-index l.stack)) l.parent l.moment ≡ rewrite (map arc_value l.stack) l.fn.head l.moment;
+  written : l.out.items ++ encodings (rewrite (map arc_value (drop l.commit-index l.stack)) l.parent l.moment) ≡ l.fn.out.items ++ encodings (rewrite (map arc_value l.stack) l.fn.head l.moment);
 }

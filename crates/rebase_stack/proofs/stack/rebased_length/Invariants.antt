@@ -1,4 +1,4 @@
-use Rattle.std.proofs.Common.{◌≡◌, ◌≤◌, ◌+◌, ◌*◌, drop, length, map, true}
+use Rattle.std.proofs.Common.{◌≡◌, ℕ, ◌≤◌, ◌+◌, ◌*◌, drop, length, map, true}
 use Rattle.std.specs.Arc.{arc_value}
 use Rattle.byte_fields.specs.Bytes.{Id, is_bytes}
 use Rattle.history_model.specs.Pushrebase.{rewrite}
@@ -8,6 +8,6 @@ use Rattle.rebase_stack.proofs.stack.rebased_length.Given as goal
 -- the length so far and that of the rest
 abbrev pub invariant-stack : goal.invariant-stack
 invariant-stack l = record {
-  sum : (head : Id) → is_bytes 32 head ≡ true → l.bytes + length (encodings (rewrite (map arc_value (drop l.commit-index l.stack)) head)) ≡ length (encodings (rewrite (map arc_value l.stack) head));
-  short : l.bytes ≤ 134_217_728 * l.commit-index;
+  sum : (head : Id) (moment : ℕ) → is_bytes 32 head ≡ true → l.bytes + length (encodings (rewrite (map arc_value (drop l.commit-index l.stack)) head moment)) ≡ length (encodings (rewrite (map arc_value l.stack) head moment));
+  short : l.bytes ≤ 268_435_456 * l.commit-index;
 }

@@ -16,7 +16,7 @@ returns-in_err-sync-clause-spares g c =
 pub returns-clause-begun : goal.returns-clause-begun
 returns-clause-begun g c =
     has_begun (g.D.Disk.meaning c.args.disk.now) (g.D.Disk.meaning c.size.new.self) (g.D.Disk.meaning c.sync.new.self) _ _ _ (g.met.D.Disk.sound c.args.disk.now)
-    c.in_ok-size.ensures.size c.in_ok-size.ensures.looked c.in_ok-size.ensures.kept c.in_ok-sync.ensures.did c.in_ok-sync.ensures.kept c.moment.ensures c.faults.ensures (let t = c.faults.type_inv in omega arith)
+    c.in_ok-size.ensures.size c.in_ok-size.ensures.looked c.in_ok-size.ensures.kept c.in_ok-sync.ensures.did c.in_ok-sync.ensures.kept c.in_ok-size.ensures.still c.in_ok-sync.ensures.next c.moment.ensures c.faults.ensures (let t = c.faults.type_inv in omega arith)
 
 pub returns-clause-spares : goal.returns-clause-spares
 returns-clause-spares g c =

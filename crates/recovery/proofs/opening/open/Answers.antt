@@ -4,7 +4,7 @@ use Rattle.history_model.specs.Journal.{Header}
 use Rattle.repo_journal.specs.View.{JournalView}
 use Rattle.recovery.specs.Answers.{is_disk_fault}
 use Rattle.recovery.specs.declared.opened.Opened.{Opened}
-use Rattle.recovery.proofs.Files.{during, never_damaged, opened_result, opens_before, refused_before, settled_result}
+use Rattle.recovery.proofs.Files.{during, never_damaged, opened_result, opens_before, refused_before, settled_result, synced}
 use Rattle.recovery.proofs.Spared.{spares_then}
 use Rattle.recovery.proofs.opening.open.Goals as goal
 
@@ -61,3 +61,7 @@ pub returns-in-Ok-clause-during : goal.returns-in-Ok-clause-during
 returns-in-Ok-clause-during g c =
     let began = c.in-Ok.ensures in
     during header_in history_in journal_in (g.D.Disk.meaning c.args.disk.now) (g.D.Disk.meaning c.begin.new.disk) c.in-Ok.begun.size c.in-Ok.begun.moment c.in-Ok.begun.faults began.begun began.spares c.read_file.result c.read_file.ensures.journal
+
+pub returns-in-Ok-clause-synced : goal.returns-in-Ok-clause-synced
+returns-in-Ok-clause-synced g c =
+    synced header_in history_in journal_in (g.D.Disk.meaning c.args.disk.now) (g.D.Disk.meaning c.begin.new.disk) c.in-Ok.begun.size c.in-Ok.begun.moment c.in-Ok.begun.faults c.in-Ok.ensures.begun c.read_file.result c.read_file.ensures.journal

@@ -32,4 +32,4 @@ returns-in-Err-BadPayload-clause-refused g c = λ honest.
     (let m = g.D.Disk.meaning c.args.disk.now in
     let held = c.held.ensures.file m.state.reads (c.in_ok-hold.ensures.holds honest (c.requires.before.holds honest)) in
     let none = c.enter_payload.ensures.bad (c.in-Err-BadPayload.is ∙ ap (λ e. Err e) c.in-Err-BadPayload.field-0-is) in
-    damaged_record c.requires.before c.args.span honest (c.requires.step honest) (ap (λ p. next_entry c.args.machine.now.header c.args.machine.now.history p) (sym held) ∙ none))
+    damaged_record c.requires.before c.args.span honest (c.requires.step honest) (ap (λ p. next_entry m.state.reads c.args.machine.now.header c.args.machine.now.history p) (sym held) ∙ none m.state.reads))

@@ -11,7 +11,7 @@ enter_all-requires g c =
     let header = c.new-machine.result.header in
     let same = c.new-machine.ensures.header in
     first_gate m header c.new-machine.result.history c.args.size c.in-Ok.scanner (g.met.D.Disk.sound c.args.disk.now)
-    (subst (λ k. IsTrue (is_header (record { capacity = k }))) (sym same) c.requires.limits)
+    (subst (λ hd. IsTrue (is_header hd)) (sym same) c.requires.limits)
     c.new-machine.ensures.history c.requires.some c.requires.long c.requires.whole
-    (λ honest. subst (λ k. IsHeaded k m.state.reads) (sym same) (c.requires.headed honest))
+    (λ honest. subst (λ hd. IsHeaded hd m.state.reads) (sym same) (c.requires.headed honest))
     (c.in-Ok.ensures ∙ ap (λ n. record { bytes = []; from = 0; gate = 16; size = n }) c.min.ensures)

@@ -7,5 +7,5 @@ use Rattle.repo_events.proofs.body.commits_length.Given as goal
 abbrev pub invariant-commits : goal.invariant-commits
 invariant-commits l = record {
   sum : l.length + commits_length (drop l.commit-index l.commits) ≡ commits_length l.commits;
-  short : l.length ≤ 67_108_864 * l.commit-index;
+  short : l.length ≤ 134_217_728 * l.commit-index;
 }

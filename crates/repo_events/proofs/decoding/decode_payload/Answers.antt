@@ -1,5 +1,5 @@
 use Rattle.std.proofs.Common.{arith}
-use Rattle.repo_events.proofs.Decoded.{payload_of, length_of, counted_of}
+use Rattle.repo_events.proofs.Decoded.{payload_of, length_of, counted_of, parted_of}
 use Rattle.repo_events.proofs.decoding.decode_payload.Goals as goal
 
 pub returns-clause-spelled : goal.returns-clause-spelled
@@ -10,3 +10,6 @@ returns-clause-measured c = length_of c.args.bytes.now c.read_all.result (λ i. 
 
 pub returns-clause-counted : goal.returns-clause-counted
 returns-clause-counted c = counted_of c.args.bytes.now c.read_all.result (λ i. omega (arith, c.type_inv.bytes i)) c.read_all.ensures
+
+pub returns-clause-parted : goal.returns-clause-parted
+returns-clause-parted c = parted_of c.args.bytes.now c.read_all.result (λ i. omega (arith, c.type_inv.bytes i)) c.read_all.ensures

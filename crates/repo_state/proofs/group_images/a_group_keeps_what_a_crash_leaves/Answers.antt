@@ -1,4 +1,4 @@
-use Rattle.repo_state.proofs.GroupLeaving.{leaves_entered, leaves_sealed, leaves_seal_failed}
+use Rattle.repo_state.proofs.Leaving.{leaves_entered, leaves_sealed, leaves_seal_failed}
 use Rattle.repo_state.proofs.group_images.a_group_keeps_what_a_crash_leaves.Goals as goal
 
 pub returns-clause-entered : goal.returns-clause-entered

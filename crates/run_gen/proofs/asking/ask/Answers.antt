@@ -1,9 +1,7 @@
-use Rattle.std.proofs.Common.{◌≡◌, [], ◌∷◌, Err, ap, subst, sym, ◌∙◌}
-use Rattle.std.specs.Prelude.{Result}
+use Rattle.std.proofs.Common.{[], ◌∷◌, Err, subst, sym}
 use Rattle.reply_model.specs.After.{After, Asks}
 use Rattle.repo_calls.specs.Calls.{ask_seen, granted_seen}
 use Rattle.repo_calls.specs.declared.ask.Granted.{Granted}
-use Rattle.reply_model.specs.Reply.{Ask}
 use Rattle.run_gen.specs.Answers.{Answered}
 use Rattle.run_gen.specs.declared.fault.LoadFault.{LoadFault}
 use Rattle.run_gen.proofs.Joined.{one_granted}
@@ -28,7 +26,7 @@ returns-in-Err-Refused-clause-answered g c =
     let asked = ask_seen c.args.change.now in
     let to = c.change.new.seat.front in
     let after = subst (λ (f : ChangeFault). After header from who (Asks asked) (stored_answer (Err f)) to) c.in-Err-Refused.field-0-is c.in-Err-Refused.ensures.after in
-    subst (λ (f : LoadFault). Answered {X = Granted} header who from (asked ∷ []) [] (Err f) to) (sym c.fault_of.ensures) (stopped header who from to asked c.in-Err-Refused.refusal after)
+    subst (λ (f : LoadFault). Answered {X = Granted} header who from (asked ∷ []) [] (Err f) to) (sym c.fault_of.ensures) (stopped header who from to asked (c.change.ensures.front.calm c.requires.quiet) c.in-Err-Refused.refusal after)
 
 pub unreachable-requires : goal.unreachable-requires
 unreachable-requires g c =

@@ -1,6 +1,6 @@
-use Rattle.std.proofs.Common.{◌∙◌, ap, sym}
+use Rattle.std.proofs.Common.{◌∙◌, ap}
 use Rattle.run_gen.specs.Calls.{last_id}
-use Rattle.run_gen.proofs.Outcomes.{last_is, none_left}
+use Rattle.run_gen.proofs.Outcomes.{last_is}
 use Rattle.run_gen.proofs.asking.head_of.Goals as goal
 
 pub returns-in-Some : goal.returns-in-Some

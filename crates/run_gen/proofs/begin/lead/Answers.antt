@@ -1,5 +1,5 @@
 use Rattle.std.proofs.Common.{◌≡◌, ℕ, List, [], ◌∷◌, ◌++◌, ap, sym, subst, ◌∙◌}
-use Rattle.std.specs.Prelude.{None, Some, OnOk}
+use Rattle.std.specs.Prelude.{None, Some}
 use Rattle.std.proofs.lemmas.Result.{on_ok_weaker}
 use Rattle.sha2.specs.Sha256.{sha256}
 use Rattle.byte_fields.specs.Bytes.{Id}
@@ -7,22 +7,23 @@ use Rattle.changeset_model.specs.Changeset.{spelling}
 use Rattle.history_model.specs.History.{Body, Book, Change, Entry}
 use Rattle.history_model.specs.Journal.{Header}
 use Rattle.reply_model.specs.Reply.{PutChangeset, SetBookmark}
+use Rattle.reply_model.specs.Opening.{nobody}
 use Rattle.repo_state.specs.State.{IsQuiet}
 use Rattle.bookmark_lock.specs.Opening.{Opening}
 use Rattle.run_gen.specs.Stacks.{base, base_id, main}
 use Rattle.run_gen.specs.Loads.{base_entry, main_entry}
-use Rattle.run_gen.specs.Begun.{Enters, IsLed, load_header}
+use Rattle.run_gen.specs.Begun.{Enters, load_header}
 use Rattle.run_gen.proofs.Begins.{base_enters, main_enters}
 use Rattle.run_gen.proofs.begin.lead.Goals as goal
 
 abbrev main_body : Body
-main_body = Book (record { name = main; from = None; to = Some base_id })
+main_body = Book (record { name = main; from = None; to = Some base_id; caller = None })
 
 base_asked : (header : Header) (h : List Entry) (bytes : List ℕ) → header ≡ load_header → h ≡ [] → bytes ≡ spelling base → Enters header h (PutChangeset bytes) (Change base)
 base_asked header h bytes a b d = subst (λ (t : Header × List Entry × List ℕ). Enters t.0 t.1 (PutChangeset t.2) (Change base)) (λ i. (sym a i, sym b i, sym d i)) base_enters
 
-main_asked : (header : Header) (h : List Entry) (name : List ℕ) (x : Id) → header ≡ load_header → h ≡ base_entry ∷ [] → name ≡ main → x ≡ base_id → Enters header h (SetBookmark name None (Some x)) main_body
-main_asked header h name x a b d e = subst (λ (t : Header × List Entry × List ℕ × Id). Enters t.0 t.1 (SetBookmark t.2 None (Some t.3)) main_body) (λ i. (sym a i, sym b i, sym d i, sym e i)) main_enters
+main_asked : (header : Header) (h : List Entry) (name : List ℕ) (x : Id) → header ≡ load_header → h ≡ base_entry ∷ [] → name ≡ main → x ≡ base_id → Enters header h (SetBookmark nobody name None (Some x)) main_body
+main_asked header h name x a b d e = subst (λ (t : Header × List Entry × List ℕ × Id). Enters t.0 t.1 (SetBookmark nobody t.2 None (Some t.3)) main_body) (λ i. (sym a i, sym b i, sym d i, sym e i)) main_enters
 
 pub store-requires-clause-enters : goal.store-requires-clause-enters
 store-requires-clause-enters c = (Change base, base_asked c.args.state.now.header c.args.state.now.history c.base_encoding-base.result c.requires.header c.requires.none c.base_encoding-base.ensures)

@@ -1,9 +1,8 @@
-use Rattle.std.proofs.Common.{◌≡◌, [], ap, subst, ◌∙◌}
-use Rattle.std.specs.Prelude.{Result, MatchResult}
+use Rattle.std.proofs.Common.{[], ap, subst, ◌∙◌}
 use Rattle.recovery.specs.Answers.{TellsNothing}
 use Rattle.bookmark_lock.specs.Opening.{Opening}
 use Rattle.run_gen.specs.Begun.{load_header}
-use Rattle.run_gen.proofs.Begins.{quiet_opening}
+use Rattle.run_gen.proofs.Begins.{quiet_opening, sealed_new}
 use Rattle.run_gen.proofs.begin.open_repository.Goals as goal
 
 pub unreachable-requires-in-Err-Damaged : goal.unreachable-requires-in-Err-Damaged
@@ -18,4 +17,5 @@ returns-in-Ok c =
       opened = ap (λ (o : Opening). o.header) opening ∙ is.0;
       quiet = quiet_opening c.new.result.opening (ap (λ (o : Opening). o.quiet) opening ∙ c.open.ensures.kept.quiet ∙ c.requires.quiet) (ap (λ (o : Opening). o.header) opening ∙ is.0);
       none = c.new.ensures.history ∙ is.1;
+      sealed = sealed_new c.new.result.history _ c.new.result.sealed c.new.ensures.history c.new.ensures.sealed;
     }

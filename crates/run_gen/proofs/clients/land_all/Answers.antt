@@ -1,4 +1,4 @@
-use Rattle.std.proofs.Common.{◌≡◌, ℕ, ◌+◌, [], ◌∷◌, Ok, Err, refl, ap, sym, subst, ◌∙◌}
+use Rattle.std.proofs.Common.{ℕ, ◌+◌, [], ◌∷◌, Ok, Err, refl, ap, sym, subst, ◌∙◌}
 use Rattle.byte_fields.specs.Bytes.{Id}
 use Rattle.sha2.specs.Sha256.{sha256}
 use Rattle.bookmark_lock.specs.Place.{Place, moved}

@@ -1,5 +1,5 @@
 use Rattle.std.proofs.Common.{◌≡◌, Err, refl, ap, sym, ◌∙◌}
-use Rattle.std.specs.Prelude.{None, Some}
+use Rattle.std.specs.Prelude.{None}
 use Rattle.history_model.specs.Bookmark.{name_fault}
 use Rattle.run_gen.specs.Stacks.{main}
 use Rattle.run_gen.proofs.clients.main_name.Goals as goal

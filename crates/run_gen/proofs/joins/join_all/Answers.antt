@@ -1,4 +1,4 @@
-use Rattle.std.proofs.Common.{◌++◌, ◌∷◌, [], List, subst, sym, ap}
+use Rattle.std.proofs.Common.{◌++◌, ◌∷◌, [], List, subst, sym}
 use Rattle.std.proofs.lemmas.List.{map-append}
 use Rattle.bookmark_lock.specs.Place.{Place}
 use Rattle.bookmark_lock.specs.Fronts.{IsJoined}

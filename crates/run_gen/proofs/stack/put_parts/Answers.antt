@@ -1,4 +1,4 @@
-use Rattle.std.proofs.Common.{◌≡◌, ℕ, ◌+◌, [], Err, ap, subst, ◌∙◌}
+use Rattle.std.proofs.Common.{ℕ, ◌+◌, [], Err, ap, subst, ◌∙◌}
 use Rattle.byte_fields.specs.Bytes.{Id}
 use Rattle.bookmark_lock.specs.Place.{Place, moved}
 use Rattle.run_gen.specs.Stacks.{no_parts, parts_of}

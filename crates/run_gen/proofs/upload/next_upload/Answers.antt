@@ -1,7 +1,7 @@
-use Rattle.std.proofs.Common.{◌≡◌, ap, ◌∙◌}
+use Rattle.std.proofs.Common.{ap, ◌∙◌}
 use Rattle.sha2.specs.Sha256.{sha256}
-use Rattle.changeset_model.specs.Changeset.{Changeset, spelling}
-use Rattle.run_gen.specs.Stacks.{changeset_of, edit_on, edited, part_of}
+use Rattle.changeset_model.specs.Changeset.{spelling}
+use Rattle.run_gen.specs.Stacks.{edit_on, edited}
 use Rattle.run_gen.specs.declared.part.Part.{Part}
 use Rattle.run_gen.proofs.upload.next_upload.Goals as goal
 

@@ -12,4 +12,4 @@ returns c = λ p.
     let m = c.args.files.now in
     let old = c.args.paths.now.items in
     any-cleared m e.path p old c.push_above.new.paths.items c.push_under.new.paths.items (c.in_ok-push_above.ensures p) c.in_ok-push_under.ensures
-    ∙ ap (λ b. list_any (λ q. path_eq q p) old || (b && is_some (file_in m p))) (sym (clears-Set e _ _ _ c.in_default.is p))
+    ∙ ap (λ b. list_any (λ q. path_eq q p) old || (b && is_some (file_in m p))) (sym (clears-Set e _ _ _ _ c.in_default.is p))

@@ -8,5 +8,5 @@ invariant-loop g l = record {
   header : g.S.Seat.header l.seat ≡ g.S.Seat.header l.initial.seat;
   number : g.S.Seat.number l.seat ≡ g.S.Seat.number l.initial.seat;
   home : g.S.Seat.home l.seat ≡ g.S.Seat.home l.initial.seat;
-  pages : (answers : List Answer) × ReadsPages g.S.Seat.replies (g.S.Seat.header l.initial.seat) (g.S.Seat.number l.initial.seat) (g.S.Seat.front l.initial.seat) l.initial.next answers (g.S.Seat.front l.seat) l.next;
+  pages : (answers : List Answer) × ReadsPages (g.S.Seat.replies (g.S.Seat.home l.initial.seat)) (g.S.Seat.header l.initial.seat) (g.S.Seat.number l.initial.seat) (g.S.Seat.front l.initial.seat) l.initial.next answers (g.S.Seat.front l.seat) l.next;
 }

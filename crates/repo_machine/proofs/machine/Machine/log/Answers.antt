@@ -14,7 +14,7 @@ lines_of-requires c =
 
 pub returns-clause-entries : goal.returns-clause-entries
 returns-clause-entries c =
-    page_lines c.self.inside.changesets.known c.self.inside.entries.items c.self.inside.kept.items c.self.invariant.3 _ c.self.invariant.0 c.self.inside.capacity (repository c.args.self.now) (ap repository c.self.view_is) c.args.from c.page_from-page.result.now _
+    page_lines c.self.inside.changesets.known c.self.inside.entries.items c.self.inside.kept.items c.self.invariant.3 _ c.self.invariant.0 _ (repository c.args.self.now) (ap repository c.self.view_is) c.args.from c.page_from-page.result.now _
     (c.page_from-page.ensures.page ∙ ap (λ ns. take 100 (drop c.args.from ns)) c.as_slice.ensures.value) (c.in_ok-entries.ensures ∙ ap (λ es. map (line_at c.self.inside.changesets.known es) c.page_from-page.result.now) c.as_slice-2.ensures.value)
 
 pub returns-clause-fits : goal.returns-clause-fits

@@ -3,12 +3,13 @@ use Rattle.changeset_model.proofs.Rising.{touched_paths_rise}
 use Rattle.changeset_model.specs.Path.{IsRising}
 use Rattle.history_model.specs.Bookmark.{head as head_of}
 use Rattle.history_model.specs.History.{is_known}
+use Rattle.reply_model.specs.Opening.{nobody}
 use Rattle.repo_machine.specs.Held.{repository}
 use Rattle.repo_machine.specs.Clashes.{edited_paths}
 use Rattle.repo_machine.specs.Landings.{IsRefusal, forking}
 use Rattle.repo_machine.specs.Plans.{PlannedLanding, IsPlan}
 use Rattle.repo_machine.proofs.Judging.{passes_refusal}
-use Rattle.repo_machine.proofs.LandingSteps.{no_bookmark}
+use Rattle.repo_machine.proofs.LandingSteps.{no_bookmark, down_as}
 use Rattle.repo_machine.proofs.LandingPlans.{head_known, planned, fork_refused_as, lengths_refused_as, paths_refused_as}
 use Rattle.repo_machine.proofs.Uploading.{known_as}
 use Rattle.changeset_store.specs.Fork.{following_at}
@@ -17,8 +18,8 @@ use Rattle.repo_machine.proofs.Renewed.{was_known, stack_again, touched_again, p
 use Rattle.repo_machine.proofs.machine.Machine.plan_again.Goals as goal
 
 pub returns-in_default-clause-err : goal.returns-in_default-clause-err
-returns-in_default-clause-err g c =
-    no_bookmark c.args.self.now.header c.args.self.now.history c.args.plan.name c.args.plan.draft c.in_ok-check_up.ensures.ok
+returns-in_default-clause-err g c = λ moment.
+    no_bookmark c.args.self.now.header c.args.self.now.history nobody c.args.plan.name c.args.plan.draft moment c.in_ok-check_up.ensures.ok
     (ap (λ (p : PlannedLanding). head_of c.args.self.now.history p.name) (sym c.plan.view_is) ∙ sym c.head.ensures ∙ c.in_default.is)
 
 pub fork_from-requires : goal.fork_from-requires
@@ -95,3 +96,7 @@ returns-clause-ok g c =
     (ap (λ (p : PlannedLanding). forking c.self.inside.changesets.known c.in-Some.head p.draft) (sym c.plan.view_is) ∙ c.in_ok-fork.ensures.steps) c.in_ok-check_lengths.ensures
     c.args.plan.name refl c.args.plan.stack (stack_again c.args.self.now.history c.self.inside.changesets.known (known_as c.self.invariant.1 (repository c.args.self.now) (ap repository c.self.view_is)) c.args.plan c.requires c.in_ok-fork.fork c.in-Some-planned_head.planned c.in-Some-planned_head.ensures.planned) c.args.plan.touched (touched_again c.args.self.now.history c.self.inside.changesets.known (known_as c.self.invariant.1 (repository c.args.self.now) (ap repository c.self.view_is)) c.args.plan c.requires c.in_ok-fork.fork c.in-Some-planned_head.planned c.in-Some-planned_head.ensures.planned)
     (paths_again c.args.self.now.history c.self.inside.changesets.known (known_as c.self.invariant.1 (repository c.args.self.now) (ap repository c.self.view_is)) c.args.plan c.requires c.in_ok-fork.fork c.in-Some-planned_head.planned c.in-Some-planned_head.ensures.planned ∙ c.in_ok-check_new.ensures.apart))
+
+pub returns-in_err-check_up-clause-err : goal.returns-in_err-check_up-clause-err
+returns-in_err-check_up-clause-err g c =
+    passes_refusal _ c.from_residual.result _ c.from_residual.ensures.1 (down_as c.args.self.now.header c.args.self.now.history c.args.plan.name c.args.plan.draft _ c.in_err-check_up.ensures.err)

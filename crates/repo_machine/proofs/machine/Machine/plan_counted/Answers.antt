@@ -1,12 +1,15 @@
-use Rattle.std.proofs.Common.{sym, ap, ◌∙◌}
+use Rattle.std.proofs.Common.{◌≤◌, length, subst, sym, ap, ◌∙◌}
+use Rattle.reply_model.specs.Opening.{nobody}
+use Rattle.reply_model.specs.Reply.{most_stack}
+use Rattle.changeset_store.specs.Fork.{fork_between}
 use Rattle.repo_machine.specs.Held.{repository}
 use Rattle.repo_machine.proofs.Judging.{passes_refusal}
-use Rattle.repo_machine.proofs.LandingSteps.{no_bookmark}
-use Rattle.repo_machine.proofs.LandingPlans.{head_known, planned, fork_refused_as, lengths_refused_as, paths_refused_as}
+use Rattle.repo_machine.proofs.LandingSteps.{no_bookmark, down_as, is_short}
+use Rattle.repo_machine.proofs.LandingPlans.{head_known, planned, fork_refused_as, lengths_refused_as, paths_refused_as, stack_keeps_as}
 use Rattle.repo_machine.proofs.machine.Machine.plan_counted.Goals as goal
 
 pub returns-in_default-clause-err : goal.returns-in_default-clause-err
-returns-in_default-clause-err g c = no_bookmark c.args.self.now.header c.args.self.now.history c.args.name.now c.args.draft c.in_ok-check_up.ensures.ok (sym c.head.ensures ∙ c.in_default.is)
+returns-in_default-clause-err g c = λ moment. no_bookmark c.args.self.now.header c.args.self.now.history nobody c.args.name.now c.args.draft moment c.in_ok-check_up.ensures.ok (sym c.head.ensures ∙ c.in_default.is)
 
 pub fork_from-requires : goal.fork_from-requires
 fork_from-requires g c = head_known c.self.invariant.1 (repository c.args.self.now) (ap repository c.self.view_is) c.in_ok-check_up.ensures.ok c.args.name.now c.in-Some.old (sym c.head.ensures ∙ c.in-Some.is)
@@ -30,3 +33,15 @@ returns-clause-ok g c =
     planned c.self.invariant.1 (repository c.args.self.now) (ap repository c.self.view_is) c.in_ok-check_up.ensures.ok c.args.name.now c.in-Some.old (sym c.head.ensures ∙ c.in-Some.is)
     c.args.draft c.in_ok-fork.fork c.in_ok-fork.ensures.is_fork c.in_ok-fork.ensures.steps c.in_ok-check_lengths.ensures
     _ c.in_ok-name.ensures _ c.in_ok-stack.ensures _ (ap (λ v. v.items) c.in_ok-touched-2.ensures.ok ∙ c.in_ok-touched.ensures.touched) c.in_ok-touched.ensures.apart
+
+pub returns-in_err-check_up-clause-err : goal.returns-in_err-check_up-clause-err
+returns-in_err-check_up-clause-err g c =
+    passes_refusal _ c.from_residual.result _ c.from_residual.ensures.1 (down_as c.args.self.now.header c.args.self.now.history c.args.name.now c.args.draft _ c.in_err-check_up.ensures.err)
+
+pub invariant_of-result : goal.invariant_of-result
+invariant_of-result g c =
+    let short = is_short (fork_between c.self.inside.changesets.known c.in_ok-fork.fork) c.in_ok-check_lengths.ensures in (
+      subst (λ stack. length stack ≤ most_stack) (sym c.in_ok-stack.ensures) short.few,
+      stack_keeps_as c.self.invariant.1 (repository c.args.self.now) (ap repository c.self.view_is) c.in_ok-check_up.ensures.ok c.args.name.now c.in-Some.old (sym c.head.ensures ∙ c.in-Some.is)
+          c.args.draft c.in_ok-fork.fork c.in_ok-fork.ensures.is_fork c.in_ok-fork.ensures.steps _ c.in_ok-stack.ensures,
+    )

@@ -6,7 +6,7 @@ use Rattle.manifest_store.specs.Manifests.{AreManifests}
 use Rattle.repo_calls.specs.Asking.{fault_answer}
 use Rattle.repo_state.specs.Manifests.{ids_answer}
 use Rattle.repo_state.specs.State.{State}
-use Rattle.repo_state.proofs.Reading.{history_saw, history_absent, history_not_derived}
+use Rattle.repo_state.proofs.Reading.{history_saw, history_absent}
 use Rattle.repo_state.proofs.state.RepoState.file_history.Goals.{in-Ok, in-Err}
 use Rattle.repo_state.proofs.state.RepoState.file_history.Goals as goal
 

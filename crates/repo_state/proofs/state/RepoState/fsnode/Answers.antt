@@ -5,7 +5,7 @@ use Rattle.reply_model.specs.Reply.{FsnodeOf}
 use Rattle.manifest_store.specs.Manifests.{AreManifests}
 use Rattle.repo_calls.specs.Asking.{bytes_answer, fault_answer, place_of}
 use Rattle.repo_state.specs.State.{State}
-use Rattle.repo_state.proofs.Reading.{fsnode_saw, fsnode_absent, fsnode_not_derived}
+use Rattle.repo_state.proofs.Reading.{fsnode_saw, fsnode_absent}
 use Rattle.repo_state.proofs.state.RepoState.fsnode.Goals.{in-Ok, in-Err}
 use Rattle.repo_state.proofs.state.RepoState.fsnode.Goals as goal
 

@@ -1,21 +1,26 @@
 use Rattle.repo_state.proofs.Known.{manifests_begin}
-use Rattle.repo_state.proofs.Sounds.{sound_opened, agrees_opened}
+use Rattle.repo_state.proofs.Opening.{sound_opened, agrees_opened, all_are_sealed}
 use Rattle.repo_state.proofs.Settling.{opened_table}
 use Rattle.repo_state.proofs.Stepping.{opened_as}
 use Rattle.repo_state.proofs.state.RepoState.new.Goals as goal
 
 pub invariant_of-result : goal.invariant_of-result
 invariant_of-result g c =
+    let count = c.stored_length-sealed.ensures in
+    let limits = c.changesets-changesets.ensures.limits in
     rw c.of-first.ensures (
-      (sound_opened _ _ c.args.journal _ c.requires.opened c.requires.legal c.requires.unseated, agrees_opened _ _ c.args.journal _ c.requires.opened c.requires.unseated),
-      manifests_begin _ _ _ c.changesets-changesets.ensures.limits c.requires.legal c.new.ensures.manifests,
+      (
+        (sound_opened _ _ _ c.args.journal _ count c.requires.opened c.requires.legal c.requires.unseated, agrees_opened _ _ _ c.args.journal _ count limits c.requires.legal c.requires.opened c.requires.unseated),
+        λ up some. absurd (all_are_sealed c.args.machine.history c.stored_length-sealed.result count some),
+      ),
+      manifests_begin _ _ _ limits c.requires.legal c.new.ensures.manifests,
     )
 
 pub returns-clause-sound : goal.returns-clause-sound
-returns-clause-sound g c = rw c.of-first.ensures (sound_opened _ _ c.args.journal _ c.requires.opened c.requires.legal c.requires.unseated)
+returns-clause-sound g c = rw c.of-first.ensures (sound_opened _ _ _ c.args.journal _ c.stored_length-sealed.ensures c.requires.opened c.requires.legal c.requires.unseated)
 
 pub returns-clause-core : goal.returns-clause-core
-returns-clause-core g c = opened_as c.args.machine.history c.requires.unseated
+returns-clause-core g c = opened_as c.args.machine.history c.stored_length-sealed.result c.stored_length-sealed.ensures c.requires.unseated
 
 pub returns-clause-core_table : goal.returns-clause-core_table
 returns-clause-core_table g c = opened_table c.args.machine.history c.new.result c.new.ensures.empty

@@ -1,9 +1,8 @@
-use Rattle.std.proofs.Common.{◌≡◌, ◌<◌, true, length, refl, sym, ap, subst, ◌∙◌}
-use Rattle.std.specs.Prelude.{None, Some}
+use Rattle.std.proofs.Common.{◌≡◌, ◌<◌, length, sym, ap, subst, ◌∙◌}
+use Rattle.std.specs.Prelude.{Some}
 use Rattle.history_model.specs.History.{known}
 use Rattle.reply_model.specs.After.{Answers, Derives, nothing}
 use Rattle.changeset_store.specs.Store.{number_in}
-use Rattle.manifest_store.specs.Jobs.{IsNextJob}
 use Rattle.manifest_store.specs.Settling.{IsCollision}
 use Rattle.repo_calls.specs.Asking.{fault_answer}
 use Rattle.repo_state.specs.Manifests.{IsNextOf}

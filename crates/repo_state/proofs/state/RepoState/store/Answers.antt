@@ -3,22 +3,23 @@ use Rattle.std.specs.Prelude.{IfOk}
 use Rattle.reply_model.specs.After.{Asks, Memory, Replies}
 use Rattle.reply_model.specs.Reply.{Ask}
 use Rattle.repo_calls.specs.Calls.{ask_seen, granted_seen}
-use Rattle.repo_calls.specs.Asking.{stored_answer}
+use Rattle.repo_calls.specs.declared.refusal.Refusal.TheVariants as refusals
 use Rattle.repo_state.specs.Cores.{Stores}
+use Rattle.repo_state.specs.State.{entered_answer}
 use Rattle.repo_state.specs.Trees.{LandsAs}
 use Rattle.repo_state.proofs.Answered.{unmade}
-use Rattle.repo_state.proofs.Stepping.{stores}
+use Rattle.repo_state.proofs.Stepping.{refused_stores}
 use Rattle.repo_state.proofs.state.RepoState.store.Goals as goal
 
 pub returns-in-Err-clause-reply : goal.returns-in-Err-clause-reply
 returns-in-Err-clause-reply g c = unmade c.args.self.now.header c.args.self.now.history c.args.who (Asks (ask_seen c.args.ask.now)) Memory refl
 
 pub returns-in-Err-clause-core : goal.returns-in-Err-clause-core
-returns-in-Err-clause-core g c = stores _ _ _ _ _ _ (returns-in-Err-clause-reply g c)
+returns-in-Err-clause-core g c = refused_stores _ _ _ _ _ refusals.Memory _ (returns-in-Err-clause-reply g c)
 
 pub returns-in-Ok-clause-reply : goal.returns-in-Ok-clause-reply
 returns-in-Ok-clause-reply g c =
-    subst (λ (ask : Ask). Replies c.args.self.now.header c.args.self.now.history c.args.who (Asks ask) (stored_answer c.store_prepared.result) c.store_prepared.new.self.history) c.in-Ok.ensures.asks c.store_prepared.ensures.reply
+    subst (λ (ask : Ask). Replies c.args.self.now.header c.args.self.now.history c.args.who (Asks ask) (entered_answer c.store_prepared.result) c.store_prepared.new.self.history) c.in-Ok.ensures.asks c.store_prepared.ensures.reply
 
 pub returns-in-Ok-clause-lands : goal.returns-in-Ok-clause-lands
 returns-in-Ok-clause-lands g c =
@@ -26,4 +27,4 @@ returns-in-Ok-clause-lands g c =
 
 pub returns-in-Ok-clause-core : goal.returns-in-Ok-clause-core
 returns-in-Ok-clause-core g c =
-    subst (λ (ask : Ask). Stores c.args.self.now.header c.args.self.now.history c.args.who ask (stored_answer c.store_prepared.result) c.store_prepared.new.self.history) c.in-Ok.ensures.asks c.store_prepared.ensures.core
+    subst (λ (ask : Ask). Stores c.args.self.now.header c.args.self.now.history c.args.self.now.sealed c.args.who ask (entered_answer c.store_prepared.result) c.store_prepared.new.self.history) c.in-Ok.ensures.asks c.store_prepared.ensures.core

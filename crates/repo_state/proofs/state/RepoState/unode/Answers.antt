@@ -5,7 +5,7 @@ use Rattle.reply_model.specs.Reply.{UnodeOf}
 use Rattle.manifest_store.specs.Manifests.{AreManifests}
 use Rattle.repo_calls.specs.Asking.{bytes_answer, fault_answer, place_of}
 use Rattle.repo_state.specs.State.{State}
-use Rattle.repo_state.proofs.Reading.{unode_saw, unode_absent, unode_not_derived}
+use Rattle.repo_state.proofs.Reading.{unode_saw, unode_absent}
 use Rattle.repo_state.proofs.state.RepoState.unode.Goals.{in-Ok, in-Err}
 use Rattle.repo_state.proofs.state.RepoState.unode.Goals as goal
 

@@ -1,4 +1,4 @@
-use Rattle.std.proofs.Common.{◌≡◌}
+use Rattle.std.proofs.Common.{◌≡◌, ◌≤◌}
 use Rattle.bookmark_lock.specs.Place.{moved}
 use Rattle.reply_model.specs.After.{SeesMore}
 use Rattle.shared_repo.specs.Landing.{IsEarlier}
@@ -6,4 +6,4 @@ use Rattle.shared_repo.proofs.repo.Repo.land_in_turns.Given as goal
 
 abbrev pub invariant-loop-attempt : goal.invariant-loop-attempt
 invariant-loop-attempt g l =
-    (l.seat ≡ moved l.initial.seat l.seat) × SeesMore l.initial.seat.front l.initial.seat.number l.seat.front × IsEarlier l.seat.front l.name l.draft l.earlier
+    (l.seat ≡ moved l.initial.seat l.seat) × (l.initial.seat.sealed ≤ l.seat.sealed) × SeesMore l.initial.seat.front l.initial.seat.number l.seat.front × IsEarlier l.seat.front l.name l.draft l.earlier

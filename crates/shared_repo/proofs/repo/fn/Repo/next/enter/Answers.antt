@@ -6,6 +6,7 @@ pub returns : goal.returns
 returns g c = record {
   same = c.next_in.ensures.same;
   opening = c.next_in.ensures.opening;
+  sealed = c.next_in.ensures.sealed;
   none = refl;
   ok = IfOk-weaker c.next_in.result _ _ (λ next is. (c.args.state.now.table, is)) c.next_in.ensures.ok;
   err = c.next_in.ensures.err;

@@ -1,5 +1,0 @@
-use Rattle.landing_core.proofs.Growing.{keep_numbers}
-use Rattle.landing_core.proofs.core_laws.stored_entries_keep_their_numbers.Goals as goal
-
-pub returns : goal.returns
-returns c = keep_numbers

@@ -1,5 +1,0 @@
-use Rattle.landing_core.proofs.Reached.{log_is}
-use Rattle.landing_core.proofs.core_laws.the_log_is_what_was_put_there.Goals as goal
-
-pub returns : goal.returns
-returns c = log_is

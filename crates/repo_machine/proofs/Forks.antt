@@ -1,0 +1,89 @@
+-- What is so of each known changeset of a legal history is so of a fork's stack and range: they have no merge, and their copy sources are kept on another parent.
+--     no_merges      a fork passes the check for merges
+--     stack_keeps      the copy sources of its stack
+use Rattle.std.proofs.Common.{◌≡◌, ◌≤◌, le-ltb, zero, suc, ℕ, ◌+◌, Bool, true, false, cond, List, [], ◌∷◌, map, drop, refl, ap, ◌∙◌, length}
+use Rattle.std.specs.Prelude.{Contains, Option, None, Some, IsTrue, option_map, find, Ok, bytes_eq}
+use Rattle.std.specs.List.{AllByRecursion, after_first, position_or_len}
+use Rattle.std.specs.Option.{option_map_or}
+use Rattle.byte_fields.specs.Bytes.{Id}
+use Rattle.byte_fields.proofs.Lists.{all_reverse, weaker}
+use Rattle.bonsai.specs.Making.{KeepsOnParent, KeepOnParents}
+use Rattle.bonsai.proofs.Rules.{keeps_on_parent}
+use Rattle.changeset_model.specs.Changeset.{Changeset, is_changeset, id_of}
+use Rattle.history_model.specs.History.{Entry, Known, known}
+use Rattle.history_model.specs.Chain.{first_parent, line_among, chain, changesets}
+use Rattle.history_model.specs.Pushrebase.{following}
+use Rattle.history_model.specs.Journal.{Header}
+use Rattle.reply_model.specs.Reply.{is_merge, refuse_some, MergeInStack, MergeInRange, ◌>>=◌}
+use Rattle.reply_model.specs.Legal.{IsLegal}
+use Rattle.opening_laws.proofs.Rules.{known_keep}
+use Rattle.std.proofs.lemmas.List.Elements.{recursion_from_All, All-contains_itself}
+use Rattle.changeset_store.specs.declared.fork.Fork as store
+use Rattle.changeset_store.specs.Store.{known_at}
+use Rattle.changeset_store.specs.Fork.{fork_between}
+use Rattle.repo_machine.specs.Landings.{merges_checked}
+
+-- ---- what each known changeset has
+
+record IsPlain (c : Changeset) : Type 0 where
+  one_parent : length c.parents ≤ 1
+  keeps : KeepsOnParent c
+
+all_plain : (header : Header) (h : List Entry) → IsLegal header h → AllByRecursion (λ k. IsPlain k.changeset) (known h)
+all_plain header h legal =
+    weaker (Contains (known h)) (λ k. IsPlain k.changeset)
+    (λ k at. let keep = known_keep header h k legal at in record { one_parent = keep.2; keeps = keeps_on_parent k.changeset keep.1 keep.2 })
+    (known h) (recursion_from_All (Contains (known h)) (known h) (All-contains_itself (known h)))
+
+-- ---- a part of a chain
+
+tail_all : (P : Known → Type 0) (older : List Known) → ((x : Id) → AllByRecursion P (line_among older x)) → (o : Option Id) → AllByRecursion P (option_map_or (line_among older) o [])
+tail_all P older all None = tt
+tail_all P older all (Some x) = all x
+
+line_by : (P : Known → Type 0) (k : Known) (older : List Known) (x : Id) → P k → ((x : Id) → AllByRecursion P (line_among older x)) → (b : Bool) → AllByRecursion P (cond b (k ∷ option_map_or (line_among older) (first_parent k.changeset) []) (line_among older x))
+line_by P k older x one all true = (one, tail_all P older all (first_parent k.changeset))
+line_by P k older x one all false = all x
+
+line_all : (P : Known → Type 0) (ks : List Known) → AllByRecursion P ks → (x : Id) → AllByRecursion P (line_among ks x)
+line_all P [] all x = tt
+line_all P (k ∷ older) all x = line_by P k older x all.0 (line_all P older all.1) (bytes_eq k.id x)
+
+chain_all : (P : Known → Type 0) (ks : List Known) → AllByRecursion P ks → (x : Id) → AllByRecursion P (chain ks x)
+chain_all P ks all x = all_reverse P (line_among _ x) (line_all P _ (all_reverse P ks all) x)
+
+drop_all_of : (P : Known → Type 0) (n : ℕ) (ks : List Known) → AllByRecursion P ks → AllByRecursion P (drop n ks)
+drop_all_of P zero ks all = all
+drop_all_of P (suc n) [] all = all
+drop_all_of P (suc n) (k ∷ ks) all = drop_all_of P n ks all.1
+
+each_changeset : (P : Changeset → Type 0) (ks : List Known) → AllByRecursion (λ k. P k.changeset) ks → AllByRecursion P (changesets ks)
+each_changeset P [] all = tt
+each_changeset P (k ∷ ks) all = (all.0, each_changeset P ks all.1)
+
+following_all : (P : Changeset → Type 0) (ks : List Known) → AllByRecursion (λ k. P k.changeset) ks → (root : Known) (x : Id) → AllByRecursion P (following root (chain ks x))
+following_all P ks all root x =
+    each_changeset P (after_first (λ k. bytes_eq k.id root.id) (chain ks x))
+    (drop_all_of (λ k. P k.changeset) (position_or_len (λ k. bytes_eq k.id root.id) (chain ks x) + 1) (chain ks x) (chain_all (λ k. P k.changeset) ks all x))
+
+-- ---- no merge
+
+none_merges : (cs : List Changeset) → AllByRecursion IsPlain cs → find is_merge cs ≡ None
+none_merges [] all = refl
+none_merges (c ∷ cs) all = ap (λ b. cond b (Some c) (find is_merge cs)) (le-ltb 1 (length c.parents) all.0.one_parent) ∙ none_merges cs all.1
+
+module _ (header : Header) (h : List Entry) (legal : IsLegal header h) (f : store.Fork) where
+  stack_plain : AllByRecursion IsPlain (fork_between (known h) f).stack
+  stack_plain = following_all IsPlain (known h) (all_plain header h legal) (known_at (known h) f.root) (known_at (known h) f.draft).id
+
+  range_plain : AllByRecursion IsPlain (fork_between (known h) f).range
+  range_plain = following_all IsPlain (known h) (all_plain header h legal) (known_at (known h) f.root) (known_at (known h) f.head).id
+
+  pub no_merges : merges_checked (fork_between (known h) f) ≡ Ok tt
+  no_merges =
+      let stack = none_merges (fork_between (known h) f).stack stack_plain in
+      let range = none_merges (fork_between (known h) f).range range_plain in
+      (λ i. refuse_some (option_map id_of (stack i)) MergeInStack >>= λ _. refuse_some (option_map id_of (range i)) MergeInRange)
+
+  pub stack_keeps : KeepOnParents (fork_between (known h) f).stack
+  stack_keeps = weaker IsPlain KeepsOnParent (λ c plain. plain.keeps) (fork_between (known h) f).stack stack_plain

@@ -1,0 +1,129 @@
+//! A repository that is served alone.
+ghost use Rattle.std.specs.Prelude.{◌≡◌, ◌≤◌, IsTrue, IfOk, false, length};
+ghost use Rattle.ports.specs.Faults.{Counts};
+ghost use Rattle.disk_model.specs.Calls.{Kept};
+ghost use Rattle.history_model.specs.History.{bodies};
+ghost use Rattle.reply_model.specs.After.{Asks};
+ghost use Rattle.bookmark_lock.specs.Opening.{Opening};
+ghost use Rattle.repo_calls.proofs.Honest.{honestly};
+ghost use Rattle.repo_calls.specs.Calls.{ask_seen, granted_seen};
+ghost use Rattle.repo_calls.specs.Asking.{stored_answer, is_disk_fault};
+ghost use Rattle.repo_calls.specs.Replying.{Honestly};
+ghost use Rattle.repo_state.specs.Alone.{RepliesAlone, replying_alone};
+ghost use Rattle.repo_state.specs.Cores.{StoresAlone};
+ghost use Rattle.repo_state.specs.Images.{LeavesChange};
+ghost use Rattle.repo_state.specs.State.{IsSealedAlone, IsSound};
+ghost use Rattle.repo_state.specs.Trees.{LandsAs};
+
+use crate::state::RepoState;
+use blob_disk::Disk;
+use repo_calls::{Ask, AskFault, ChangeFault, Granted, Question, Seat, Seen};
+use std::alloc::Global;
+use std::marker::Model;
+
+/// A repository that is served alone: each change is sealed before it is answered, so between calls nothing waits, unless the
+/// disk failed. Contracts see the repository.
+#[derive(Drop)]
+pub struct Alone<D: Disk> {
+    state: RepoState<D>,
+}
+
+impl<D: Disk> Model for Alone<D> {
+    ghost use Rattle.repo_state.specs.State.{State, IsSealedAlone};
+
+    ghost Value = { State };
+
+    ghost use Rattle.std.specs.Coded.{codes};
+    ghost use Rattle.node_table.specs.Table.{coded_table};
+
+    ghost coded = { Prim.hlevel (codes, coded_table) };
+
+    ghost view = { λ a. a.state };
+
+    ghost invariant = { λ a. IsSealedAlone a.state.history a.state.sealed };
+}
+
+impl<D: Disk> Alone<D> {
+    /// A repository of which all is sealed, unless the disk failed a change, whose entry isn't then.
+    pub fn new(state: RepoState<D>) -> Self
+        requires sealed { IsSealedAlone state.history state.sealed }
+        ensures { result ≡ state }
+    {
+        Alone { state }
+    }
+
+    /// The repository.
+    pub fn into_state(self) -> RepoState<D>
+        ensures state { result ≡ self }
+        ensures sealed { IsSealedAlone result.history result.sealed }
+    {
+        self.state
+    }
+
+    /// Makes a change, and seals its entry, if it makes one, before it is answered. All memory is taken before the first call
+    /// of the disk, and a change without an entry leaves the disk alone.
+    pub fn store(&mut self, alloc: Global, ask: &Ask) -> Result<Granted, ChangeFault>
+        ensures reply { RepliesAlone self.old.header self.old.history 0 (Asks (ask_seen ask.now)) (stored_answer result) self.new.history }
+        ensures header { self.new.header ≡ self.old.header }
+        ensures opening { self.new.opening ≡ self.old.opening }
+        ensures table { self.new.table ≡ self.old.table }
+        ensures sound { IsSound self.new.opening self.new.history self.new.sealed self.new.disk }
+
+        // What is granted is sealed.
+        ensures sealed { IfOk result (λ granted. length (bodies self.new.history) ≤ self.new.sealed) }
+
+        // A change that is refused, and one that makes no entry, leave all as it was.
+        ensures same { is_disk_fault result ≡ false → self.new.history ≡ self.old.history → self.new.disk ≡ self.old.disk }
+
+        // Each image stood for the history before or after.
+        ensures leaves { IsTrue self.old.disk.honest → LeavesChange self.old.header self.old.history self.new.history self.old.disk self.new.disk }
+        ensures kept { Kept self.old.disk self.new.disk }
+
+        // The disk fails the change only where a call of it failed.
+        ensures faults { Counts self.old.disk.faults self.new.disk.faults (is_disk_fault result) }
+
+        // Where a stack lands, the new head's tree has what it sets, and else what the old head's has, in which no path that
+        // the stack touches was changed since the root.
+        ensures lands { IfOk result (λ granted. LandsAs (ask_seen ask.now) (granted_seen granted) self.old.history self.new.history) }
+
+        // It is these steps of the repository of many seats.
+        ensures core { StoresAlone self.old.header self.old.history self.old.sealed (ask_seen ask.now) (stored_answer result) self.new.history self.new.sealed }
+    {
+        // What is sealed is stored.
+        let _stored = self.state.stored_length();
+        let granted = match self.state.store(alloc, 0, ask) {
+            Ok(granted) => granted,
+            Err(refusal) => return Err(ChangeFault::Refused(refusal)),
+        };
+        let stored = self.state.stored_length();
+        match self.state.seal(0, stored) {
+            Ok(()) => Ok(granted),
+            Err(_) => Err(ChangeFault::DiskFault),
+        }
+    }
+}
+
+/// Its one seat has the number 0, and has seen all of its history.
+impl<D: Disk> Seat for Alone<D> {
+    ghost header = { λ s. s.header };
+
+    ghost front = { λ s. s.history };
+
+    ghost number = { λ _. 0 };
+
+    ghost Home = { Opening };
+
+    ghost home = { λ s. s.opening };
+
+    ghost replies = { λ opening. Honestly opening.honest RepliesAlone };
+
+    fn change(&mut self, alloc: Global, ask: &Ask) -> Result<Granted, ChangeFault> {
+        self.store(alloc, ask)
+    }
+
+    fn look(&mut self, alloc: Global, question: &Question) -> Result<Seen, AskFault> {
+        self.state.look(alloc, 0, question)
+    }
+
+    ghost lawful = { λ opening. honestly opening.honest RepliesAlone replying_alone };
+}
