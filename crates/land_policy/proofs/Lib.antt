@@ -1,0 +1,9 @@
+pub mod Places
+pub mod Positions
+pub mod Fronts
+pub mod Deciding
+pub mod Lines
+pub mod Callers
+pub mod Rulings
+pub mod Entering
+pub mod Walk

@@ -1,0 +1,4 @@
+pub mod Rules
+pub mod Grammar
+pub mod Codes
+pub mod Examples
