@@ -1,0 +1,9 @@
+pub mod Steps
+pub mod Placing
+pub mod Pasts
+pub mod Members
+pub mod Least
+pub mod Rows
+pub mod Found
+pub mod Flatness
+pub mod Above
