@@ -1,0 +1,7 @@
+pub mod Spelled
+pub mod Decoded
+pub mod Named
+pub mod Deletions
+pub mod Within
+pub mod Stays
+pub mod Rows

@@ -1,0 +1,4 @@
+pub mod Links
+pub mod Logs
+pub mod Numbers
+pub mod Rows
