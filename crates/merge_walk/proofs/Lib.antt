@@ -1,0 +1,14 @@
+pub mod Texts
+pub mod Fronts
+pub mod Entries
+pub mod Merging
+pub mod Order
+pub mod Lookup
+pub mod Weights
+pub mod Searching
+pub mod Against
+pub mod Walking
+pub mod Costs
+pub mod Manifests
+pub mod Tables
+pub mod Covering

@@ -1,0 +1,9 @@
+use Rattle.std.proofs.Common.{◌≡◌, drop}
+use Rattle.std.specs.List.{list_any}
+use Rattle.history_model.specs.Tree as trees
+use Rattle.bonsai.specs.View.{edits_view}
+use Rattle.merge_walk.proofs.decided.is_decided.Given as goal
+
+-- what is left tells the answer
+abbrev pub invariant-loop-edit : goal.invariant-loop-edit
+invariant-loop-edit l = list_any (λ e. trees.decides_at e.1 e.0 l.path) (edits_view (drop l.edit-index l.edits)) ≡ list_any (λ e. trees.decides_at e.1 e.0 l.path) (edits_view l.edits)
