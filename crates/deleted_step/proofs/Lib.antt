@@ -1,0 +1,11 @@
+pub mod Texts
+pub mod Lists
+pub mod Defined
+pub mod SetLinks
+pub mod Entries
+pub mod Unfolding
+pub mod Setting
+pub mod Linked
+pub mod Renewing
+pub mod Whole
+pub mod Begun

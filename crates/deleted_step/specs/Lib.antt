@@ -1,0 +1,4 @@
+pub mod Opened
+pub mod Unfolded
+pub mod Steps
+pub mod Texts
