@@ -23,7 +23,19 @@ SUBMODULE = b"160000"
 PERSON = re.compile(rb"(.*?) ?(-?\d+) ([+-])(\d+)(\d\d)", re.DOTALL)
 PIECE = 1 << 20
 READ_BYTES = 1 << 16
-DIFF = "diff-tree --stdin --root --always -r -z --raw --no-renames --no-abbrev".split()
+DIFF = "diff-tree --stdin --root --always -r -z --raw --no-abbrev".split()
+PLAIN = ["--no-renames"]
+COPIES = "-M -C --find-copies-harder -l1000".split()
+"""Asks for renames and copies; the limit is said so that no setting of git's has another."""
+RENAME, COPY = b"R", b"C"
+
+
+@dataclass(frozen=True)
+class GitSource:
+    """The file of the first parent that git takes another for a copy of."""
+
+    path: bytes
+    blob: str
 
 
 @dataclass(frozen=True)
@@ -35,6 +47,7 @@ class GitChange:
     kind: Kind | None
     was_file: bool
     is_submodule: bool
+    source: GitSource | None = None
 
 
 @dataclass(frozen=True)
@@ -54,8 +67,9 @@ class GitCommit:
 class GitRepository:
     """A repository that git reads. Its process for objects ends with it."""
 
-    def __init__(self, folder: Path):
+    def __init__(self, folder: Path, with_copies: bool):
         self.folder = folder
+        self.diff = DIFF + (COPIES if with_copies else PLAIN)
         self.directory = Path(self.run("rev-parse", "--absolute-git-dir").strip())
         self.objects = subprocess.Popen(
             self.command("cat-file", "--batch"), stdin=subprocess.PIPE, stdout=subprocess.PIPE
@@ -95,7 +109,7 @@ class GitRepository:
             feed.write(asked.encode())
             feed.seek(0)
             differ = subprocess.Popen(
-                self.command(*DIFF), stdin=feed, stdout=subprocess.PIPE, stderr=complaint
+                self.command(*self.diff), stdin=feed, stdout=subprocess.PIPE, stderr=complaint
             )
             try:
                 for oid, changes in changes_by_commit(pieces(differ, complaint)):
@@ -164,7 +178,7 @@ def changes_by_commit(tokens: Iterator[bytes]) -> Iterator[tuple[str, list[GitCh
     changes: list[GitChange] = []
     for token in tokens:
         if token.startswith(b":"):
-            changes.append(change(token, next(tokens)))
+            changes += changes_of(token, tokens)
             continue
         if oid:
             yield oid, changes
@@ -173,11 +187,20 @@ def changes_by_commit(tokens: Iterator[bytes]) -> Iterator[tuple[str, list[GitCh
         yield oid, changes
 
 
-def change(raw: bytes, path: bytes) -> GitChange:
-    """One change from a raw line such as `:100644 100755 OLD NEW M`."""
-    old_mode, new_mode, _, blob, _ = raw[1:].split(b" ")
-    kind = KINDS.get(new_mode)
-    return GitChange(path, blob.decode(), kind, old_mode in KINDS, new_mode == SUBMODULE)
+def changes_of(raw: bytes, tokens: Iterator[bytes]) -> list[GitChange]:
+    """The changes of a raw line such as `:100644 100755 OLD NEW M`, whose path comes next.
+
+    That of a rename or a copy, such as `R100`, has the path of its source before its own.
+    """
+    old_mode, new_mode, old_blob, blob, status = raw[1:].split(b" ")
+    path, was_file = next(tokens), old_mode in KINDS
+    kind, is_submodule = KINDS.get(new_mode), new_mode == SUBMODULE
+    if status[:1] not in (RENAME, COPY):
+        return [GitChange(path, blob.decode(), kind, was_file, is_submodule)]
+    source = GitSource(path, old_blob.decode()) if was_file else None
+    gone = GitChange(path, "", None, was_file, False)
+    copied = GitChange(next(tokens), blob.decode(), kind, False, is_submodule, source)
+    return [gone, copied] if status[:1] == RENAME else [copied]
 
 
 def person(line: bytes) -> tuple[bytes, int, int]:

@@ -5,13 +5,22 @@ from __future__ import annotations
 import queue
 import threading
 import time
+from collections.abc import Iterator
 from concurrent.futures import Future
-from contextlib import closing
-from dataclasses import dataclass, field, replace
+from contextlib import closing, contextmanager
+from dataclasses import dataclass, field
 from pathlib import Path
 
-from .changesets import MOST_CHANGES, MOST_CONTENT_BYTES, Changeset, File, digest
-from .git_source import GitChange, GitCommit, GitRepository
+from .changesets import (
+    MOST_CHANGES,
+    MOST_CONTENT_BYTES,
+    SECOND,
+    Changeset,
+    CopySource,
+    File,
+    digest,
+)
+from .git_source import GitChange, GitCommit, GitRepository, GitSource
 from .marks import Marks
 from .paths import own_name, path_fault, path_key
 from .pool import Pool
@@ -26,6 +35,7 @@ MOST_MESSAGE_BYTES = 262_144
 MOST_CHANGE_BYTES = 700_000
 """What changes of one changeset may take, so that its message has room beside them."""
 CHANGE_OVERHEAD = 44
+SOURCE_OVERHEAD = 4
 
 
 @dataclass
@@ -38,11 +48,22 @@ class Report:
     changesets: int = 0
     contents: int = 0
     content_bytes: int = 0
+    copies: int = 0
+    """Files that are told as copies of others, or as others of new names."""
     known: int = 0
     """Commits that an earlier run had imported."""
     seconds: float = 0.0
     left_out: list[dict[str, str]] = field(default_factory=list)
     altered: list[str] = field(default_factory=list)
+
+
+@dataclass
+class Taken:
+    """What is taken over of a commit, and the uploads of its contents."""
+
+    changes: dict[str, File | None] = field(default_factory=dict)
+    copies: dict[str, CopySource] = field(default_factory=dict)
+    uploads: list[Future] = field(default_factory=list)
 
 
 @dataclass(frozen=True)
@@ -99,26 +120,21 @@ class Reader:
 
     def step(self, commit: GitCommit, parent: str | None) -> Step:
         """The changesets of a commit onto a parent."""
-        uploads: list[Future] = []
-        changes: dict[str, File | None] = {}
+        taken = Taken()
         for change in commit.changes:
-            self.take(commit, change, changes, uploads)
+            self.take(commit, change, taken)
         message = commit.message
         if commit.is_altered:
             self.alter(commit, "its author or message isn't text that a changeset can hold")
         if len(message.encode()) > MOST_MESSAGE_BYTES:
             message = message.encode()[:MOST_MESSAGE_BYTES].decode(errors="ignore")
             self.alter(commit, f"its message was cut to {MOST_MESSAGE_BYTES:,} bytes")
-        first = Changeset((), commit.author, commit.seconds, commit.offset, message)
-        return Step(commit, stacked(first, parts_of(changes), parent), uploads)
+        whole = Changeset(
+            (), commit.author, commit.seconds, commit.offset, message, taken.changes, taken.copies
+        )
+        return Step(commit, stacked(whole, parent), taken.uploads)
 
-    def take(
-        self,
-        commit: GitCommit,
-        change: GitChange,
-        changes: dict[str, File | None],
-        uploads: list[Future],
-    ) -> None:
+    def take(self, commit: GitCommit, change: GitChange, taken: Taken) -> None:
         """Adds one change of a commit, or names why it is left out."""
         fault = path_fault(change.path)
         if fault:
@@ -128,9 +144,21 @@ class Reader:
         if own_name(path):
             self.leave_out(commit, change, f"it has the element `{own_name(path)}`")
             return
-        file = self.file(commit, change, uploads)
+        file = self.file(commit, change, taken.uploads)
         if file or change.was_file:
-            changes[path] = file
+            taken.changes[path] = file
+        if file and change.source and self.is_imported(change.source):
+            taken.copies[path] = CopySource(0, change.source.path.decode())
+            self.report.copies += 1
+
+    def is_imported(self, source: GitSource) -> bool:
+        """Whether a file of the first parent was imported too."""
+        if path_fault(source.path) or own_name(source.path.decode()):
+            return False
+        if source.blob in self.blobs:
+            return True
+        size, _ = self.source.read(source.blob, 0)
+        return size <= MOST_CONTENT_BYTES
 
     def file(self, commit: GitCommit, change: GitChange, uploads: list[Future]) -> File | None:
         """The file that a change sets, its content on its way; None where there is none."""
@@ -177,30 +205,35 @@ class Reader:
         self.progress.note(f"altered: commit {commit.oid[:12]}: {why}")
 
 
-def parts_of(changes: dict[str, File | None]) -> list[dict[str, File | None]]:
-    """Changes in as few parts as changesets can hold, by rising paths."""
+def parts_of(whole: Changeset) -> list[dict[str, File | None]]:
+    """Changes in as few parts as changesets can hold, by rising paths.
+
+    Copies come first, so that their sources are there still in what they are put onto.
+    """
     parts: list[dict[str, File | None]] = [{}]
     room = MOST_CHANGE_BYTES
-    for path in sorted(changes, key=path_key):
+    order = lambda path: (path not in whole.copies, path_key(path))  # noqa: E731
+    for path in sorted(whole.changes, key=order):
         needs = len(path.encode()) + CHANGE_OVERHEAD
+        if path in whole.copies:
+            needs += len(whole.copies[path].path.encode()) + SOURCE_OVERHEAD
         if len(parts[-1]) == MOST_CHANGES or needs > room:
             parts.append({})
             room = MOST_CHANGE_BYTES
-        parts[-1][path] = changes[path]
+        parts[-1][path] = whole.changes[path]
         room -= needs
     return parts
 
 
-def stacked(
-    first: Changeset, parts: list[dict[str, File | None]], parent: str | None
-) -> list[Changeset]:
+def stacked(whole: Changeset, parent: str | None) -> list[Changeset]:
     """One changeset for each part, each onto the one before; the last has the whole message."""
     changesets: list[Changeset] = []
+    parts = parts_of(whole)
     for number, part in enumerate(parts, 1):
-        title = first.message.partition("\n")[0]
-        message = first.message if number == len(parts) else f"{title} ({number}/{len(parts)})"
+        title = whole.message.partition("\n")[0]
+        message = whole.message if number == len(parts) else f"{title} ({number}/{len(parts)})"
         parents = (parent,) if parent else ()
-        changesets.append(replace(first, parents=parents, message=message, changes=part))
+        changesets.append(whole.changing(part, parents=parents, message=message))
         parent = changesets[-1].id
     return changesets
 
@@ -259,10 +292,11 @@ def import_git(
     bookmark: str,
     marks_file: Path | None,
     connections: int,
+    with_copies: bool,
 ) -> Report:
     """Imports a branch's first-parent line, and moves the bookmark to its end."""
     begun = time.monotonic()
-    with GitRepository(repository) as source:
+    with GitRepository(repository, with_copies) as source:
         line = source.line(branch)
         place = marks_file or source.directory / "jarrah" / f"{bookmark}.marks"
         with closing(Marks(place)) as marks, Pool(server, connections) as pool:
@@ -301,6 +335,18 @@ def upload(step: Step, pool: Pool, report: Report, progress: Progress) -> None:
             content.result()
             progress.tick()
         for changeset in step.changesets:
-            pool.ask(lambda server: server.put_changeset(changeset), urgent=True).result()
+            with advised(changeset):
+                pool.ask(lambda server: server.put_changeset(changeset), urgent=True).result()
             report.changesets += 1
             report.head = changeset.id
+
+
+@contextmanager
+def advised(changeset: Changeset) -> Iterator[None]:
+    """Has a server that doesn't know the second version refuse it with what helps."""
+    try:
+        yield
+    except Refused as refusal:
+        if refusal.code == "bad-encoding" and changeset.version == SECOND:
+            refusal.advice = "an older server knows no copies: `--no-copies` leaves them out"
+        raise

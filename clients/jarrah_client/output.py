@@ -10,8 +10,9 @@ from collections.abc import Iterable
 from datetime import datetime, timedelta, timezone
 from typing import Any
 
-from .changesets import Changeset, File
+from .changesets import Changeset, CopySource, File
 from .nodes import Directory
+from .repository import Landing
 
 
 PAINTED = re.compile(r"(\x1b\[[0-9;]+m)(.*)(\x1b\[0m)", re.DOTALL)
@@ -78,11 +79,13 @@ def title(message: str) -> str:
     return message.strip().partition("\n")[0] or "(no message)"
 
 
-def change_document(path: str, file: File | None) -> dict[str, Any]:
+def change_document(changeset: Changeset, path: str) -> dict[str, Any]:
     """One change for scripts."""
+    file, source = changeset.changes[path], changeset.copies.get(path)
     if file is None:
         return {"path": path, "change": "delete"}
-    return {"path": path, "change": "set", **file_document(file)}
+    copied = {"copied": {"parent": source.parent, "path": source.path}} if source else {}
+    return {"path": path, "change": "set", **file_document(file), **copied}
 
 
 def file_document(file: File) -> dict[str, Any]:
@@ -100,15 +103,34 @@ def changeset_document(changeset: Changeset) -> dict[str, Any]:
         "offset": changeset.offset,
         "date": date(changeset.seconds, changeset.offset),
         "message": changeset.message,
-        "changes": [change_document(path, file) for path, file in changeset.changes.items()],
+        "changes": [change_document(changeset, path) for path in changeset.changes],
     }
 
 
-def change_line(path: str, file: File | None) -> str:
+def change_line(changeset: Changeset, path: str) -> str:
     """One change for people."""
+    file, source = changeset.changes[path], changeset.copies.get(path)
     if file is None:
         return f"delete              {path}"
-    return f"set {kind_letter(file)} {file.size:>11,}  {path}"
+    copied = f"  {source_words(source)}" if source else ""
+    return f"set {kind_letter(file)} {file.size:>11,}  {path}{copied}"
+
+
+def source_words(source: CopySource) -> str:
+    """Where a file was copied from, for people."""
+    return f"from {source.path}" + (f" of parent {source.parent}" if source.parent else "")
+
+
+def landing_words(landing: Landing) -> str:
+    """Where a changeset landed, for people."""
+    at = "" if landing.moment is None else f", {date(landing.moment, 0)}"
+    return f"on {landing.bookmark}, entry {landing.entry:,}{at}"
+
+
+def landing_document(landing: Landing) -> dict[str, Any]:
+    """The same for scripts; without a moment where none is told."""
+    at = {} if landing.moment is None else {"moment": landing.moment}
+    return {"bookmark": landing.bookmark, "entry": landing.entry, **at}
 
 
 def change_word(old: File | None, new: File | None) -> str:
@@ -127,7 +149,7 @@ def changeset_lines(
     changeset: Changeset,
     names: list[str],
     with_paths: bool,
-    landing: tuple[str, int] | None = None,
+    landing: Landing | None = None,
 ) -> Iterable[str]:
     """A changeset of a log for people, with the bookmarks that are at it and where it landed."""
     at = f"  ({', '.join(names)})" if names else ""
@@ -135,14 +157,14 @@ def changeset_lines(
     yield f"author    {changeset.author}"
     yield f"date      {date(changeset.seconds, changeset.offset)}"
     if landing:
-        yield f"landed    on {landing[0]}, entry {landing[1]:,}"
+        yield f"landed    {landing_words(landing)}"
     yield ""
     for line in changeset.message.strip().splitlines():
         yield f"    {line}".rstrip()
     if with_paths and changeset.changes:
         yield ""
-        for path, file in changeset.changes.items():
-            yield f"    {change_line(path, file)}"
+        for path in changeset.changes:
+            yield f"    {change_line(changeset, path)}"
     yield ""
 
 
@@ -162,7 +184,8 @@ def entry_line(entry: dict[str, Any]) -> str:
     if entry["kind"] == "bookmark":
         return f"{head}{entry['name']}  {entry['from'] or 'none'} -> {entry['to'] or 'none'}"
     count = counted(len(entry["ids"]), "changeset")
-    return f"{head}{entry['name']}  {entry['old']} -> {entry['ids'][-1]}  {count}"
+    at = f"  {date(entry['moment'], 0)}" if "moment" in entry else ""
+    return f"{head}{entry['name']}  {entry['old']} -> {entry['ids'][-1]}  {count}{at}"
 
 
 def counted(count: int, what: str) -> str:

@@ -3,12 +3,23 @@
 from __future__ import annotations
 
 from collections.abc import Iterator
+from dataclasses import dataclass
 from typing import Any
 
 from .changesets import Changeset
 from .server import Server, Trouble
 
 LEAST_ABBREVIATION = 6
+
+
+@dataclass(frozen=True)
+class Landing:
+    """Where a changeset landed: on which bookmark, by which entry, and when if that is told."""
+
+    bookmark: str
+    entry: int
+    moment: int | None = None
+    """Seconds since 1970."""
 
 
 class Log:
@@ -24,8 +35,8 @@ class Log:
         self.total = 0
         self.bookmarks: dict[str, str] = {}
         self.changesets: dict[str, None] = {}
-        self.landings: dict[str, tuple[str, int]] = {}
-        """Landed changesets, with the bookmark and the number of the first such entry."""
+        self.landings: dict[str, Landing] = {}
+        """Landed changesets, with the first landing of each."""
 
     def read_on(self) -> None:
         """Reads the entries that are new."""
@@ -56,8 +67,9 @@ class Log:
         elif entry["kind"] == "landing":
             self.changesets.update(dict.fromkeys(entry["ids"]))
             self.bookmarks[entry["name"]] = entry["ids"][-1]
+            landing = Landing(entry["name"], entry["number"], entry.get("moment"))
             for id in entry["ids"]:
-                self.landings.setdefault(id, (entry["name"], entry["number"]))
+                self.landings.setdefault(id, landing)
         elif entry["kind"] == "bookmark":
             if entry["to"] is None:
                 self.bookmarks.pop(entry["name"], None)

@@ -11,7 +11,7 @@ from dataclasses import dataclass
 from typing import Any
 from urllib.parse import quote, urlsplit
 
-from .changesets import Changeset, decode
+from .changesets import Changeset, CopySource, decode
 from .fields import BadEncoding, digest
 from .nodes import Fsnode, Unode, decode_fsnode, decode_unode
 from .progress import tell_waiting
@@ -38,6 +38,7 @@ MEMBERS = {
     "bookmark": ("head",),
     "landed": ("head", "ids", "old"),
     "log": ("entries", "total"),
+    "copies": ("copies",),
     "history": ("ids",),
 }
 """What the bodies of answers have to have, by their codes."""
@@ -207,6 +208,11 @@ class Server:
         if digest(data) != id:
             raise BadAnswer(f"{self.url} sent other bytes than those of the changeset {id}")
         return decode(data)
+
+    def copies(self, id: str) -> dict[str, CopySource]:
+        """What files that a changeset sets were copied from, by their rising paths."""
+        rows = self.ask_json("GET", f"/copies/{id}", "copies")["copies"]
+        return {row["to"]: CopySource(row["parent"], row["from"]) for row in rows}
 
     # Bookmarks, landings and the log
 

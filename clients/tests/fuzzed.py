@@ -12,14 +12,14 @@ from collections.abc import Iterator
 from random import Random
 from typing import NamedTuple
 
-from .program_session import deletes, request, sets, spelled
+from .program_session import copies, deletes, request, sets, spelled
 from .stand_in.http import MOST_HEAD, Answer, Head, Service, Session, body
 from .stand_in.repository import Repository, rebased
 from .stand_in.spelling import Refusal, digest
 
 LEAST_CAPACITY, MOST_CAPACITY = 4_096, 34_359_738_368
 MOST_PAYLOAD = 16_777_216
-MARK = b"BONSAI\x00\x01"
+MARKS = [b"BONSAI\x00\x01", b"BONSAI\x00\x02"]
 FINE, DAMAGED, STARVED, CUT, REFUSED = 0, 3, 4, 7, 8
 NO_MEMORY = Answer(503, b'{"code":"memory"}')
 PATHS = ["a", "a/b", "a.b", "b", "lib/x", "lib/x/y", "\u00e9/z", "z" * 255]
@@ -93,18 +93,32 @@ def valid_requests(source: Random) -> list[bytes]:
         said.append(request("PUT /changeset", commit))
         said.append(source.choice(reads(source, ids, contents)))
         said.append(request(f"POST /land/main/{ids[-1]}"))
+    # it isn't landed: a landing of version 2 has a moment, which is the program's alone
+    copying = draft(source, contents, source.choice(ids), version=2)
+    said += [request("PUT /changeset", copying), request(f"GET /copies/{digest(copying)}")]
     said += source.sample(reads(source, ids, contents), 3)
     return said
 
 
-def draft(source: Random, contents: list[bytes], parent: str) -> bytes:
+def draft(source: Random, contents: list[bytes], parent: str, version: int = 1) -> bytes:
     """A changeset on a parent, with a few edits."""
     edits = [
-        sets(path, source.choice(contents)) if source.random() < 0.8 else deletes(path)
+        edit(source, path, source.choice(contents), version)
         for path in sorted(source.sample(PATHS[:6], source.randrange(4)), key=elements)
         if path.isascii()
     ]
-    return spelled(*edits, parents=(parent,), message=source.choice([b"", "m\u00e9".encode()]))
+    message = source.choice([b"", "m\u00e9".encode()])
+    return spelled(*edits, parents=(parent,), message=message, version=version)
+
+
+def edit(source: Random, path: str, content: bytes, version: int) -> bytes:
+    """A set of some kind, or a delete."""
+    if source.random() >= 0.8:
+        return deletes(path)
+    if version == 1:
+        return sets(path, content)
+    plain = sets(path, content) + b"\x00"
+    return source.choice([plain, copies(path, source.choice(PATHS[:6]), content)])
 
 
 def elements(path: str) -> list[bytes]:
@@ -116,6 +130,7 @@ def reads(source: Random, ids: list[str], contents: list[bytes]) -> list[bytes]:
     lines = [
         f"GET /content/{digest(source.choice(contents))}",
         f"GET /changeset/{known}",
+        f"GET /copies/{known}",
         "GET /bookmark/main",
         f"GET /log/{source.randrange(12)}",
         f"PUT /bookmark/dev/none/{known}",
@@ -183,7 +198,7 @@ def valid_payloads(source: Random) -> list[bytes]:
     payloads += [base, move_payload("main", None, head)]
     ids = [head]
     for _ in range(source.randrange(5)):
-        commit = draft(source, contents, source.choice(ids))
+        commit = draft(source, contents, source.choice(ids), source.choice([1, 1, 2]))
         try:
             known = digest(commit) in repository.changesets
             ids.append(repository.put_changeset(commit))
@@ -191,7 +206,8 @@ def valid_payloads(source: Random) -> list[bytes]:
             continue
         if not known:
             payloads.append(commit)
-        payloads += landing_payload(repository, ids[-1])
+        moment = source.choice([0, 1_000, 2**63, 2**64 - 1])
+        payloads += landing_payload(repository, ids[-1], moment)
     return payloads
 
 
@@ -200,16 +216,20 @@ def move_payload(name: str, old: str | None, new: str | None) -> bytes:
     return b"\x4d" + bytes([len(name)]) + name.encode() + b"".join(sides)
 
 
-def landing_payload(repository: Repository, made: str) -> list[bytes]:
-    """The payload of a draft's landing on `main`, if it lands."""
+def landing_payload(repository: Repository, made: str, moment: int) -> list[bytes]:
+    """The payload of a draft's landing on `main` at a moment, if it lands."""
+    repository.clock = lambda: moment
     try:
         old = repository.head("main")
         stack, _ = repository.fork(made, old)
-        new = rebased(stack, old)
+        new = rebased(stack, old, moment)
         repository.land("main", made)
     except Refusal:
         return []
-    fields = [b"\x4c\x04main", bytes.fromhex(old), bytes.fromhex(made), len(new).to_bytes(2, "big")]
+    dated = any(one.is_dated for one in new)
+    fields = [b"\x4e" if dated else b"\x4c", b"\x04main", bytes.fromhex(old), bytes.fromhex(made)]
+    fields += [moment.to_bytes(8, "big")] if dated else []
+    fields += [len(new).to_bytes(2, "big")]
     fields += [len(one.data).to_bytes(4, "big") + one.data for one in new]
     return [b"".join(fields)]
 
@@ -225,7 +245,8 @@ def damaged_files(source: Random) -> bytes:
         place = source.randrange(len(payloads))
         payloads[place] = mutated(source, payloads[place], 2)
     capacity = source.choice([LEAST_CAPACITY, 65_536, MOST_CAPACITY])
-    data = MARK + capacity.to_bytes(8, "big") + b"".join(map(record, payloads))
+    data = source.choice(MARKS) + capacity.to_bytes(8, "big")
+    data += b"".join(map(record, payloads))
     data += source.choice([b"\x00", b"\x00", b"\x02", b"\xff\x00\x00", b""])
     if source.random() < 0.5:
         data = mutated(source, data, 2)
@@ -234,7 +255,7 @@ def damaged_files(source: Random) -> bytes:
 
 def expected_report(data: bytes) -> Outcome:
     """The status and the line of `fsck`, by a reading of the file as docs/FORMATS.md has it."""
-    if len(data) < 17 or data[:8] != MARK:
+    if len(data) < 17 or data[:8] not in MARKS:
         return Outcome(DAMAGED, b"not a repository\n")
     capacity = int.from_bytes(data[8:16], "big")
     if not LEAST_CAPACITY <= capacity <= MOST_CAPACITY:
@@ -276,14 +297,17 @@ def entered(repository: Repository, payload: bytes) -> bool:
     if payload[0] == 0x43:
         repository.put_changeset(payload)
         return True
-    if payload[0] not in b"\x4d\x4c" or not 1 <= payload[1] <= 128:
+    if payload[0] not in b"\x4d\x4c\x4e" or not 1 <= payload[1] <= 128:
         return False
     name, rest = payload[2 : 2 + payload[1]], payload[2 + payload[1] :]
     if len(name) < payload[1] or not re.fullmatch(rb"[A-Za-z0-9_.-]+", name):
         return False
     if payload[0] == 0x4D:
         return moved(repository, name.decode(), rest)
-    return landed(repository, name.decode(), rest)
+    if payload[0] == 0x4C:
+        return landed(repository, name.decode(), rest[:64], rest[64:])
+    moment = rest[64:72]
+    return len(moment) == 8 and landed(repository, name.decode(), rest[:64], rest[72:], moment)
 
 
 def moved(repository: Repository, name: str, rest: bytes) -> bool:
@@ -303,11 +327,13 @@ def moved(repository: Repository, name: str, rest: bytes) -> bool:
     return True
 
 
-def landed(repository: Repository, name: str, rest: bytes) -> bool:
-    if len(rest) < 66:
+def landed(
+    repository: Repository, name: str, ids: bytes, rest: bytes, moment: bytes = b""
+) -> bool:
+    if len(rest) < 2:
         return False
-    old, draft_id = rest[:32].hex(), rest[32:64].hex()
-    count, rest = int.from_bytes(rest[64:66], "big"), rest[66:]
+    old, draft_id = ids[:32].hex(), ids[32:].hex()
+    count, rest = int.from_bytes(rest[:2], "big"), rest[2:]
     sent = []
     for _ in range(count):
         length = int.from_bytes(rest[:4], "big")
@@ -318,7 +344,11 @@ def landed(repository: Repository, name: str, rest: bytes) -> bool:
     if rest or repository.head(name) != old:
         return False
     stack, _ = repository.fork(draft_id, old)
-    if [one.data for one in rebased(stack, old)] != sent:
+    at = int.from_bytes(moment, "big")
+    if [one.data for one in rebased(stack, old, at)] != sent:
         return False
+    if any(one.is_dated for one in stack) != bool(moment):
+        return False
+    repository.clock = lambda: at
     repository.land(name, draft_id)
     return True

@@ -17,6 +17,7 @@ import sys
 import tempfile
 import unittest
 import uuid
+from collections.abc import Callable
 from dataclasses import dataclass
 from pathlib import Path
 from typing import Any
@@ -154,9 +155,20 @@ def enter(test: unittest.TestCase, context: contextlib.AbstractContextManager) -
 @functools.cache
 def has_manifests(url: str) -> bool:
     """Whether a server has the routes of manifests."""
+    return has_route(url, Server.fsnode)
+
+
+@functools.cache
+def has_copies(url: str) -> bool:
+    """Whether a server has the route of copies, as each has that knows version 2."""
+    return has_route(url, Server.copies)
+
+
+def has_route(url: str, read: Callable[[Server, str], Any]) -> bool:
+    """Whether a server has the route by which something of a changeset is read."""
     server = Server(url)
     try:
-        server.fsnode("0" * 64)
+        read(server, "0" * 64)
     except Refused as refusal:
         return refusal.code != "no-route"
     finally:
@@ -201,6 +213,10 @@ class Case(unittest.TestCase):
     def needs_manifests(self) -> None:
         if not has_manifests(self.server):
             self.skipTest("a server with manifests")
+
+    def needs_copies(self) -> None:
+        if not has_copies(self.server):
+            self.skipTest("a server with copies")
 
     def setUp(self) -> None:
         self.folder = Path(tempfile.mkdtemp(prefix="jarrah-test-"))

@@ -46,12 +46,15 @@ def request(line: str, body: bytes = b"") -> bytes:
 
 
 def spelled(
-    *edits: bytes, parents: tuple[str, ...] = (), author: bytes = b"a", message: bytes = b""
+    *edits: bytes,
+    parents: tuple[str, ...] = (),
+    author: bytes = b"a",
+    message: bytes = b"",
+    version: int = 1,
 ) -> bytes:
     """The changeset at second 0 that docs/FORMATS.md lays out so."""
     return b"".join([
-        b"\x43\x01",
-        bytes([len(parents)]),
+        bytes([0x43, version, len(parents)]),
         *map(bytes.fromhex, parents),
         len(author).to_bytes(2, "big") + author,
         bytes(12),
@@ -68,6 +71,11 @@ def path_field(path: str) -> bytes:
 def sets(path: str, content: bytes = b"abc", size: int | None = None) -> bytes:
     length = len(content) if size is None else size
     return path_field(path) + b"\x01\x00" + length.to_bytes(8, "big") + digested(content)
+
+
+def copies(path: str, source: str, content: bytes = b"abc", parent: int = 0) -> bytes:
+    """A set of version 2, with the path that it was copied from."""
+    return sets(path, content) + bytes([1, parent]) + path_field(source)
 
 
 def deletes(path: str) -> bytes:
@@ -236,6 +244,42 @@ def clashes(script: Script, root: str) -> None:
     script.ask(f"GET /changeset/{replaced}")
 
 
+def copied_files(script: Script, root: str) -> None:
+    """Changesets of version 2. None lands, since its new id would have the landing's moment."""
+    on_root = {"parents": (root,), "version": 2}
+    told = script.commit(spelled(copies("q", "p"), **on_root))
+    script.commit(spelled(copies("q", "p"), **on_root))
+    plain = script.commit(spelled(sets("q") + b"\x00", deletes("r"), **on_root))
+    several = script.commit(spelled(copies("a/b", "no/where"), copies("a.b", 'a"b'), **on_root))
+    script.commit(spelled(version=2))
+    for refused in [
+        spelled(copies("q", "p", parent=1), **on_root),
+        spelled(copies("q", "p"), version=2),
+        spelled(sets("q") + b"\x02", **on_root),
+        spelled(sets("q"), **on_root),
+        spelled(copies("q", "p/"), **on_root),
+        spelled(copies("q", "p"), parents=(root,)),
+        spelled(parents=(root,), version=3),
+    ]:
+        script.commit(refused)
+    script.ask(
+        f"GET /changeset/{told}",
+        f"GET /copies/{told}",
+        f"GET /copies/{several}",
+        f"GET /copies/{plain}",
+        f"GET /copies/{root}",
+        f"GET /copies/{ABC}",
+        "GET /copies/ba78",
+        "GET /copies/",
+        "GET /copies",
+        f"GET /copies/{told}/q",
+        f"PUT /copies/{told}",
+        f"PUT /bookmark/copies/none/{plain}",
+        f"POST /land/copies/{told}",
+        f"PUT /bookmark/copies/{plain}/none",
+    )
+
+
 TREE_READS = """
 fsnode/{tree}
 fsnode/{tree}/a
@@ -296,9 +340,14 @@ def pages(script: Script) -> None:
 
 
 def little_room(script: Script, root: str) -> None:
-    """A landing of 184 bytes where 183 are left, then uploads where 34 are, and then none."""
+    """Landings where a byte too few is left, with a moment and without; then uploads where 34
+    bytes are left, and then none.
+    """
     draft = script.commit(spelled(sets("p"), parents=(root,)))
+    dated = script.commit(spelled(copies("q", "p"), parents=(root,), version=2))
     script.ask(f"PUT /bookmark/full/none/{root}")
+    script.leave(196)
+    script.ask(f"POST /land/full/{dated}")
     script.leave(183)
     script.ask(f"POST /land/full/{draft}", "GET /bookmark/full")
     script.leave(34)
@@ -332,6 +381,7 @@ def made() -> Script:
     landings(script, alone, root)
     moves(script, root)
     clashes(script, root)
+    copied_files(script, root)
     manifests(script, root)
     for head in HEADS:
         script.say(head)

@@ -7,7 +7,10 @@ import subprocess
 import threading
 from unittest import mock
 
+from jarrah_client.changesets import Changeset
+from jarrah_client.drafts import ROOT
 from jarrah_client.log_cache import opened
+from jarrah_client.server import Server
 
 from .harness import ENVIRONMENT, Case, enter, fresh, jarrah, jarrah_process
 
@@ -47,6 +50,20 @@ class Cache(Case):
         self.assertEqual((head["bookmarks"], head["landed"]), (["main"], landing))
         self.assertEqual(self.ask("log", head["id"][:8], "-n", 1)["id"], head["id"])
         self.assertIn("landed    on main, entry 254\n", self.ok("log", "main").out)
+
+    def test_moments_are_kept(self):
+        self.ok("init", "main")
+        self.served.repository.clock = lambda: 86_400
+        draft = Changeset((ROOT.id,), "A", 0, 0, "", asked_version=2)
+        Server(self.server).put_changeset(draft)
+        head = self.ask("land", "main", draft.id)["head"]
+        landing = {"bookmark": "main", "entry": 3, "moment": 86_400}
+        for _ in range(2):
+            found = self.ask("log", "main", "-n", 1)
+            self.assertEqual((found["id"], found["landed"]), (head, landing))
+        self.assertEqual(self.asked, [0, 0, 4])
+        line = "landed    on main, entry 3, 1970-01-02 00:00:00 +0000\n"
+        self.assertIn(line, self.ok("log", "main").out)
 
     def test_dates_are_read_once(self):
         self.ok("init", "main")

@@ -9,9 +9,11 @@ import subprocess
 import sys
 import threading
 
+from jarrah_client.changesets import Changeset, CopySource, File
 from jarrah_client.drafts import ROOT, read_date
 from jarrah_client.output import clean, date
 from jarrah_client.progress import Progress
+from jarrah_client.server import Server
 
 from .harness import (
     ENVIRONMENT,
@@ -27,7 +29,7 @@ from .test_encoding import ABC
 
 COMMANDS = (
     "init draft land commit bookmark checkout status update rebase amend revert resolve"
-    " log entries ls cat history diff import-git export-git browse gateway"
+    " log entries ls cat history copies diff import-git export-git browse gateway"
 ).split()
 
 
@@ -257,6 +259,46 @@ class Work(Case):
         self.assertEqual({one["name"]: one["last"] for one in listed}, {"a": second, "b": first})
         listed = self.ask("ls", self.name, "a", "--last")["entries"]
         self.assertEqual({one["name"]: one["last"] for one in listed}, {"x": first, "y": second})
+
+    def copied(self) -> Changeset:
+        """A draft whose file was copied from one of the head's."""
+        head = self.ask("commit", self.name, "--set", f"p={self.abc}", "--date", "@5 +0000")["head"]
+        sets, source = {"q": File(ABC, 3)}, {"q": CopySource(0, "p")}
+        draft = Changeset((head,), "A", 5, 3_600, "copy", sets, source)
+        Server(self.server).put_changeset(draft)
+        return draft
+
+    def test_copies(self):
+        self.needs_copies()
+        draft = self.copied()
+        rows = [{"from": "p", "parent": 0, "to": "q"}]
+        self.assertEqual(self.ask("copies", draft.id), {"id": draft.id, "copies": rows})
+        self.assertEqual(self.ok("copies", draft.id).out, "q  from p\n")
+        self.assertEqual(self.ok("copies", self.name).out, "")
+        self.assertEqual(self.ok("diff", draft.id).out, "set f           3  q  from p\n")
+        change = self.ask("diff", draft.id)["changes"][0]
+        self.assertEqual(change["copied"], {"parent": 0, "path": "p"})
+        self.assertIn("has no changeset", self.refused("copies", "0" * 64))
+
+    def test_the_moment_of_a_landing(self):
+        self.needs_copies()
+        draft = self.copied()
+        landed = self.ask("land", self.name, draft.id)
+        newest, older = self.ok("--json", "log", self.name, "-n", 2).documents
+        moment = newest["landed"]["moment"]
+        self.assertEqual((newest["id"], newest["parents"]), (landed["head"], list(draft.parents)))
+        self.assertEqual((newest["seconds"], newest["offset"]), (moment, 0))
+        self.assertEqual(newest["changes"][0]["copied"], {"parent": 0, "path": "p"})
+        self.assertEqual((older["seconds"], "moment" in older["landed"]), (5, False))
+        number = newest["landed"]["entry"]
+        log = self.ok("log", self.name, "-n", 1, "--patch-names").out
+        self.assertIn("\n    set f           3  q  from p\n", log)
+        at = date(moment, 0)
+        self.assertIn(f"\nlanded    on {self.name}, entry {number:,}, {at}\n", log)
+        told = self.ok("entries", "--from", number).out.splitlines()[0]
+        self.assertTrue(told.endswith(f"{landed['head']}  1 changeset  {at}"), told)
+        entry = self.ok("--json", "entries", "--from", number).documents[0]
+        self.assertEqual((entry["kind"], entry["moment"]), ("landing", moment))
 
     def test_names_that_a_target_has_to_escape(self):
         path = "a b/%41?#ü+&\"'"

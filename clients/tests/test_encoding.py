@@ -1,12 +1,14 @@
 """Spellings and ids, against the worked bytes of docs/FORMATS.md and the stand-in's code."""
 
 import re
+import struct
 import unittest
 from dataclasses import replace
 
 from jarrah_client.changesets import (
     CannotSpell,
     Changeset,
+    CopySource,
     File,
     Kind,
     SelfConflict,
@@ -50,6 +52,15 @@ RICH = Changeset(
         "ü/x": File(ABC, 3),
     },
 )
+COPIES_P = replace(
+    EMPTY, parents=(B,), changes={"q": File(ABC, 3)}, copies={"q": CopySource(0, "p")}
+)
+"""The changeset of version 2 on `B` that sets `q`, copied from `p`."""
+COPYING = replace(
+    RICH,
+    parents=(B, C),
+    copies={"a/b": CopySource(0, "a"), "ü/x": CopySource(1, "ü/from")},
+)
 
 
 def block_after(text: str) -> bytes:
@@ -60,6 +71,29 @@ def block_after(text: str) -> bytes:
         digits = re.match(r"(?:[0-9a-f]{2}(?:[0-9a-f]{6})?(?: +|$))+", line, re.I)
         found.append(digits[0] if digits else "")
     return bytes.fromhex("".join(found))
+
+
+def laid_out(changeset: Changeset, version: int) -> bytes:
+    """A changeset's bytes field by field, as docs/FORMATS.md has them."""
+    author, message = changeset.author.encode(), changeset.message.encode()
+    laid = struct.pack(">BBB", 0x43, version, len(changeset.parents))
+    laid += b"".join(map(bytes.fromhex, changeset.parents))
+    laid += struct.pack(">H", len(author)) + author
+    laid += struct.pack(">qi", changeset.seconds, changeset.offset)
+    laid += struct.pack(">I", len(message)) + message + struct.pack(">I", len(changeset.changes))
+    for path, file in changeset.changes.items():
+        laid += struct.pack(">H", len(path.encode())) + path.encode()
+        if file is None:
+            laid += b"\x00"
+            continue
+        laid += struct.pack(">BBQ", 1, file.kind, file.size) + bytes.fromhex(file.content)
+        source = changeset.copies.get(path)
+        if source:
+            laid += struct.pack(">BBH", 1, source.parent, len(source.path.encode()))
+            laid += source.path.encode()
+        elif version == 2:
+            laid += b"\x00"
+    return laid
 
 
 class WorkedBytes(unittest.TestCase):
@@ -84,6 +118,35 @@ class WorkedBytes(unittest.TestCase):
         onto = replace(SETS_P, parents=(B,))
         self.assertEqual((len(onto.encoded), onto.id), (103, C))
         self.assertEqual(decode(onto.encoded), onto)
+
+    def test_the_changeset_that_copies_p(self):
+        data = bytes.fromhex("430201") + bytes.fromhex(B) + bytes.fromhex("000161")
+        data += bytes(8 + 4 + 4) + bytes.fromhex("00000001")
+        data += bytes.fromhex("000171" "01" "00" "0000000000000003") + bytes.fromhex(ABC)
+        data += bytes.fromhex("01" "00" "000170")
+        self.assertEqual((len(data), block_after("has 108 bytes:")), (108, data))
+        self.assertEqual((COPIES_P.encoded, COPIES_P.version), (data, 2))
+        self.assertEqual(COPIES_P.id, digest(data))
+        self.assertIn(f"above, with the id `{COPIES_P.id}`", FORMATS)
+        self.assertEqual(decode(data), COPIES_P)
+        self.assert_place(data[:103] + b"\2" + data[104:], 103)
+        self.assert_place(data[:104] + b"\1" + data[105:], 104)
+        self.assert_place(data[:105] + b"\0\0" + data[107:], 105)
+        self.assert_place(data[:107] + b"/", 107)
+        self.assert_place(data[:103] + b"\0\0", 104)
+        self.assert_place(data[:1] + b"\3" + data[2:], 1)
+        self.assert_place(data[:1] + b"\1" + data[2:], 103)
+
+    def test_the_landing_that_has_a_moment(self):
+        moment = bytes.fromhex("00000000000003e8")
+        dated = COPIES_P.encoded[:38] + moment + COPIES_P.encoded[46:]
+        self.assertEqual(decode(dated), replace(COPIES_P, seconds=1_000))
+        ids = bytes.fromhex(B) + bytes.fromhex(COPIES_P.id)
+        payload = bytes.fromhex("4e046d61696e") + ids + moment
+        payload += bytes.fromhex("0001" "0000006c") + dated
+        self.assertEqual(len(payload), 192)
+        self.assertIn("at the moment 1,000, has 192 bytes: `4E 04 6D 61 69 6E`", FORMATS)
+        self.assertIn(f"These have the id `{digest(dated)}`. So the file grows by 197.", FORMATS)
 
     def test_places_of_faults(self):
         data = EMPTY.encoded
@@ -159,21 +222,46 @@ class BothReaders(unittest.TestCase):
             return refusal.code, *refusal.members.values()
 
     def test_every_front(self):
-        for length in range(len(RICH.encoded)):
-            data = RICH.encoded[:length]
-            self.assertEqual(self.outcome(data)[0], "bad-encoding")
-            self.assertEqual(self.outcome(data), self.other_outcome(data), length)
+        for whole in (RICH.encoded, COPYING.encoded):
+            for length in range(len(whole)):
+                data = whole[:length]
+                self.assertEqual(self.outcome(data)[0], "bad-encoding")
+                self.assertEqual(self.outcome(data), self.other_outcome(data), length)
 
     def test_every_byte_changed(self):
-        for at, byte in enumerate(RICH.encoded):
-            for other in {0, 1, 2, 10, 46, 47, 128, 255, byte ^ 1, byte ^ 32} - {byte}:
-                data = RICH.encoded[:at] + bytes((other,)) + RICH.encoded[at + 1 :]
-                self.assertEqual(self.outcome(data), self.other_outcome(data), (at, other))
+        for whole in (RICH.encoded, COPYING.encoded):
+            for at, byte in enumerate(whole):
+                for other in {0, 1, 2, 10, 46, 47, 128, 255, byte ^ 1, byte ^ 32} - {byte}:
+                    data = whole[:at] + bytes((other,)) + whole[at + 1 :]
+                    self.assertEqual(self.outcome(data), self.other_outcome(data), (at, other))
 
     def test_what_is_read_is_spelled_so(self):
-        for changeset in (EMPTY, SETS_P, RICH):
+        for changeset in (EMPTY, SETS_P, RICH, COPIES_P, COPYING):
             self.assertEqual(decode(changeset.encoded), changeset)
             self.assertEqual(encode(decode(changeset.encoded)), changeset.encoded)
+
+    def test_versions(self):
+        for plain in (EMPTY, SETS_P, RICH):
+            asked = replace(plain, asked_version=2)
+            self.assertEqual((plain.version, asked.version), (1, 2))
+            self.assertEqual(plain.encoded, laid_out(plain, 1))
+            self.assertEqual(asked.encoded, laid_out(plain, 2))
+            self.assertEqual(decode(asked.encoded), asked)
+            self.assertEqual(self.outcome(asked.encoded), self.other_outcome(asked.encoded))
+            self.assertEqual(replace(plain, asked_version=1).id, plain.id)
+        for copying in (COPIES_P, COPYING):
+            self.assertEqual((copying.version, copying.encoded), (2, laid_out(copying, 2)))
+            told = dict(read_changeset(copying.encoded).changes)
+            told = {path: file.copied for path, file in told.items() if file and file.copied}
+            ours = {path: (one.parent, one.path) for path, one in copying.copies.items()}
+            self.assertEqual(told, ours)
+
+    def test_other_changes(self):
+        changes = {"a/b": None, "new": File(NIL, 0), "ü/x": File(NIL, 0)}
+        other = COPYING.changing(changes, message="other")
+        self.assertEqual((other.changes, other.message), (changes, "other"))
+        self.assertEqual(other.copies, {"ü/x": CopySource(1, "ü/from")})
+        self.assertEqual(COPIES_P.changing({"q": None}).version, 1)
 
     def test_self_conflicts(self):
         file = File(ABC, 3)
@@ -222,6 +310,13 @@ class BothReaders(unittest.TestCase):
             ("1,048,577 bytes", replace(EMPTY, changes={"a": File(ABC, 1_048_577)})),
             ("over 1,048,576", replace(EMPTY, message="x" * 1_048_576)),
             ("date", replace(EMPTY, seconds=2**63)),
+            ("no version 3", replace(EMPTY, asked_version=3)),
+            ("no copy sources", replace(COPIES_P, asked_version=1)),
+            ("isn't set", replace(COPIES_P, changes={"q": None})),
+            ("isn't set", replace(COPIES_P, copies={"r": CopySource(0, "p")})),
+            ("isn't there", replace(COPIES_P, copies={"q": CopySource(1, "p")})),
+            ("isn't there", replace(COPIES_P, parents=())),
+            ("refused", replace(COPIES_P, copies={"q": CopySource(0, "p/")})),
         ):
             with self.subTest(words=words), self.assertRaisesRegex(CannotSpell, words):
                 encode(changeset)

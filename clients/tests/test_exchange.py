@@ -8,18 +8,21 @@ from __future__ import annotations
 
 import json
 import socket
+import time
 import unittest
 from dataclasses import replace
 from urllib.parse import urlsplit
 
-from jarrah_client.changesets import Changeset, File
+from jarrah_client.changesets import Changeset, CopySource, File, digest
 
 from .harness import Case, fresh
 from .stand_in.repository import Repository
 from .stand_in.spelling import Refusal
-from .test_encoding import ABC, EMPTY, NIL, B, C, SETS_P
+from .test_encoding import ABC, COPIES_P, EMPTY, NIL, SETS_P, B, C, laid_out
 
 NOTHING = "0" * 64
+CLOCKS_DIFFER = 60
+"""Seconds by which a server's clock may differ from the test's."""
 
 
 class Exchange(Case):
@@ -132,6 +135,91 @@ class Exchange(Case):
         entry += f',"number":{last},"old":"{first.id}"}}'
         text = f'{{"code":"log","entries":[{entry}],"total":{last + 1}}}'
         self.answers("GET", f"/log/{last}", None, 200, text)
+
+    def test_copies(self):
+        self.needs_copies()
+        self.one("PUT", "/content", b"abc")
+        self.store(EMPTY)
+        data, id = laid_out(COPIES_P, 2), self.store(COPIES_P)
+        self.assertEqual((len(data), digest(data)), (108, id))
+        self.assertEqual(self.one("GET", f"/changeset/{id}"), (200, data))
+        text = '{"code":"copies","copies":[{"from":"p","parent":0,"to":"q"}]}'
+        self.answers("GET", f"/copies/{id}", None, 200, text)
+        self.answers("GET", f"/copies/{id.upper()}", None, 200, text)
+        sources = {"a.b": CopySource(0, "\u00e4/\""), "a/b": CopySource(0, "p")}
+        changes = {"a/b": File(ABC, 3), "a.b": File(ABC, 3), "c": File(ABC, 3), "p": None}
+        several = self.store(replace(COPIES_P, changes=changes, copies=sources))
+        text = '{"code":"copies","copies":[{"from":"p","parent":0,"to":"a/b"},'
+        text += '{"from":"\u00e4/\\"","parent":0,"to":"a.b"}]}'
+        self.answers("GET", f"/copies/{several}", None, 200, text)
+        none = self.store(replace(EMPTY, asked_version=2))
+        for plain in (B, none):
+            self.answers("GET", f"/copies/{plain}", None, 200, '{"code":"copies","copies":[]}')
+        text = f'{{"code":"no-changeset","id":"{NOTHING}"}}'
+        self.answers("GET", f"/copies/{NOTHING}", None, 404, text)
+        self.answers("GET", "/copies/abcx", None, 400, '{"code":"bad-id","place":3}')
+        self.answers("GET", "/copies/", None, 404, '{"code":"no-route"}')
+        self.answers("PUT", f"/copies/{id}", b"", 405, '{"code":"method"}')
+        for place, byte in ((1, b"\3"), (103, b"\2"), (104, b"\1")):
+            spoiled = data[:place] + byte + data[place + 1 :]
+            text = f'{{"code":"bad-encoding","place":{place}}}'
+            self.answers("PUT", "/changeset", spoiled, 422, text)
+
+    def test_landings_with_a_moment(self):
+        self.needs_copies()
+        name = fresh()
+        self.one("PUT", "/content", b"abc")
+        base = replace(EMPTY, message=name)
+        plain = replace(base, parents=(base.id,), seconds=-5, offset=60, asked_version=1)
+        copying = replace(COPIES_P, parents=(plain.id,), seconds=-5, offset=60)
+        for changeset in (base, plain, copying):
+            self.store(changeset)
+        self.one("PUT", f"/bookmark/{name}/none/{base.id}")
+        begun = time.time()
+        status, answer = self.one("POST", f"/land/{name}/{copying.id}")
+        last = json.loads(self.one("GET", "/log/" + "9" * 19)[1])["total"] - 1
+        moment = json.loads(self.one("GET", f"/log/{last}")[1])["entries"][0]["moment"]
+        self.assertGreater(moment, begun - CLOCKS_DIFFER)
+        self.assertLess(moment, time.time() + CLOCKS_DIFFER)
+        dated = laid_out(replace(copying, seconds=moment, offset=0), 2)
+        ids = [plain.id, digest(dated)]
+        self.assertEqual((status, answer), (200, landed(ids, base.id).encode()))
+        self.assertEqual(self.one("GET", f"/changeset/{ids[1]}"), (200, dated))
+        text = '{"code":"copies","copies":[{"from":"p","parent":0,"to":"q"}]}'
+        self.answers("GET", f"/copies/{ids[1]}", None, 200, text)
+        entry = f'{{"draft":"{copying.id}","ids":["{ids[0]}","{ids[1]}"],"kind":"landing"'
+        entry += f',"moment":{moment},"name":"{name}","number":{last},"old":"{base.id}"}}'
+        text = f'{{"code":"log","entries":[{entry}],"total":{last + 1}}}'
+        self.answers("GET", f"/log/{last}", None, 200, text)
+        clash = '{"code":"clash","left":"q","right":"q"}'
+        self.answers("POST", f"/land/{name}/{copying.id}", None, 409, clash)
+
+    def test_room_for_a_moment(self):
+        self.needs_copies()
+        self.server = self.special(capacity=4_096).url
+        self.one("PUT", "/content", b"abc")
+        for changeset in (EMPTY, COPIES_P):
+            self.store(changeset)
+        self.one("PUT", f"/bookmark/main/none/{B}")
+        self.one("PUT", "/content", b"x" * 3_679)
+        full = '{"code":"full","length":192,"size":3900}'
+        self.answers("POST", f"/land/main/{COPIES_P.id}", None, 507, full)
+
+    def test_moments_of_a_clock(self):
+        served = self.special_stand_in()
+        self.server = served.url
+        self.one("PUT", "/content", b"abc")
+        for changeset in (EMPTY, COPIES_P):
+            self.store(changeset)
+        for name, moment, seconds in (("main", 1_000, 1_000), ("late", 2**64 - 1, 2**63 - 1)):
+            self.one("PUT", f"/bookmark/{name}/none/{B}")
+            served.repository.clock = lambda moment=moment: moment
+            before = served.repository.size
+            wanted = laid_out(replace(COPIES_P, seconds=seconds), 2)
+            text = landed([digest(wanted)], B)
+            self.answers("POST", f"/land/{name}/{COPIES_P.id}", None, 200, text)
+            self.assertEqual(served.repository.size - before, 197)
+            self.assertEqual(served.repository.entries[-1]["moment"], moment)
 
     def test_manifests(self):
         self.needs_manifests()

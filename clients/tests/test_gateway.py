@@ -14,9 +14,12 @@ from contextlib import nullcontext
 from typing import Any
 from urllib.parse import quote, urlsplit
 
+from jarrah_client.changesets import Changeset, CopySource, File
+from jarrah_client.server import Server
 from jarrah_client.web.routes import OPENAPI, READS, WRITES
 
 from .harness import ENVIRONMENT, PROGRAM, Case, fresh
+from .test_encoding import ABC
 
 DOCUMENT = json.loads(OPENAPI.read_text())
 TYPES = {"object": dict, "array": list, "string": str, "integer": int}
@@ -166,6 +169,15 @@ class Gateway(GatewayCase):
         self.assertIsNone(self.got(f"/api/file/{head}/run")["text"])
         names = [one["name"] for one in self.got("/api/bookmarks")["bookmarks"]]
         self.assertIn(self.name, names)
+
+    def test_copied_files(self):
+        self.needs_copies()
+        _, made = self.upload(sets("p", b"abc"), parent=self.name)
+        changes = {"q": File(ABC, 3), "r": File(ABC, 3)}
+        changeset = Changeset((made["id"],), "A", 0, 0, "", changes, {"q": CopySource(0, "p")})
+        Server(self.server).put_changeset(changeset)
+        found = self.got(f"/api/changeset/{changeset.id}")["changes"]
+        self.assertEqual([one.get("copied") for one in found], [{"parent": 0, "path": "p"}, None])
 
     def test_diffs(self):
         self.upload(sets("a", b"1\n2\n3\n"), sets("b", b"x"), parent=self.name, land=self.name)

@@ -6,12 +6,35 @@ import json
 import subprocess
 import tempfile
 from pathlib import Path
+from typing import Any
+
+from jarrah_client.server import Server
 
 from .git_maker import Maker
 from .harness import Case, folder_files, fresh, jarrah
 from .stand_in.http import StandIn
+from .stand_in.spelling import Refusal
 
 COMMITS = 200
+RENAMES = "-r -z -M -C --find-copies-harder -l1000 --name-status".split()
+
+
+def copies_by_git(maker: Maker, before: str, commit: str) -> dict[str, str]:
+    """What git says that files between two commits were copied or renamed from."""
+    words = iter(maker.git("diff-tree", *RENAMES, before, commit).split("\0")[:-1])
+    found = {}
+    for status in words:
+        path = next(words)
+        if status[0] in "RC":
+            found[next(words)] = path
+    return found
+
+
+def copies_told(changeset: dict[str, Any]) -> dict[str, str]:
+    """What a changeset tells of that, each of the first parent."""
+    copied = {one["path"]: one["copied"] for one in changeset["changes"] if "copied" in one}
+    assert {one["parent"] for one in copied.values()} <= {0}
+    return {path: one["path"] for path, one in copied.items()}
 
 
 class Whole(Case):
@@ -70,12 +93,13 @@ class Whole(Case):
             self.assert_same_tree(changesets[commit], commit)
         for commit in (self.line[99], self.line[-1]):
             self.assert_same_tree(changesets[commit], commit, "--fold")
-        self.check_words(changesets)
+        log = self.ok("--json", "log", changesets[self.line[-1]]).documents
+        self.check_words(log)
+        self.check_copies(log, told["copies"])
         self.check_histories(told["head"])
 
-    def check_words(self, changesets: dict[str, str]) -> None:
+    def check_words(self, log: list[dict[str, Any]]) -> None:
         """Authors, dates and messages are git's."""
-        log = self.ok("--json", "log", changesets[self.line[-1]]).documents
         gits = self.maker.git(
             "log", "--first-parent", "--date=iso", "--format=%an <%ae>%x00%ad%x00%B%x01"
         )
@@ -86,6 +110,14 @@ class Whole(Case):
         self.assertEqual(
             found, [(author, date, words.rstrip("\n")) for author, date, words in wanted]
         )
+
+    def check_copies(self, log: list[dict[str, Any]], count: int) -> None:
+        """Renames and copies are git's, also where a merge has them."""
+        found = [copies_told(changeset) for changeset in log[-2::-1]]
+        pairs = zip(self.line, self.line[1:])
+        self.assertEqual(found, [copies_by_git(self.maker, *pair) for pair in pairs])
+        self.assertEqual(count, sum(map(len, found)))
+        self.assertGreater(count, 5)
 
     def check_histories(self, head: str) -> None:
         """The history of files, by the server and by the fold."""
@@ -179,6 +211,150 @@ class Whole(Case):
         ran = jarrah("--json", *words, server=small.url)
         self.assertEqual((ran.status, ran.document["known"]), (0, done))
         self.assertEqual(ran.document["commits"], COMMITS - done)
+
+
+class Copies(Case):
+    """Renames and copies, as git tells them."""
+
+    def setUp(self) -> None:
+        super().setUp()
+        self.maker = Maker(self.folder / "repository")
+        self.name, self.marks = fresh("import"), self.folder / "marks"
+        self.words = ("import-git", self.maker.folder, self.name, "--marks", self.marks)
+
+    def put(self, name: str, *lines: str) -> Path:
+        """Writes a file of the work tree, with lines enough to be known again."""
+        place = self.maker.folder / name
+        place.parent.mkdir(exist_ok=True)
+        further = (f"{name} {number}" for number in range(20))
+        place.write_text("\n".join([*lines, *further]) + "\n")
+        return place
+
+    def line(self) -> list[str]:
+        """Commits that move, copy, move with an edit, delete and add; and one that edits."""
+        for name in ("kept", "renamed", "edited", "deleted"):
+            self.put(name)
+        self.maker.commit("First")
+        top = self.maker.folder
+        (top / "dir").mkdir()
+        (top / "renamed").rename(top / "dir" / "new name")
+        (top / "dir" / "copy").write_bytes((top / "kept").read_bytes())
+        (top / "dir" / "moved").write_text("a line\n" + (top / "edited").read_text())
+        (top / "edited").unlink()
+        (top / "deleted").unlink()
+        self.put("added")
+        self.maker.commit("Second")
+        self.put("kept", "one more line")
+        self.maker.commit("Third")
+        return self.maker.line()
+
+    def imported(self, *words: str) -> list[dict[str, Any]]:
+        """The changesets of an import, the oldest first."""
+        self.ok(*self.words, *words)
+        return self.ok("--json", "log", self.name).documents[::-1]
+
+    def versions(self, changesets: list[dict[str, Any]]) -> list[int]:
+        """The version byte of each."""
+        server = Server(self.server)
+        return [server.ask("GET", f"/changeset/{one['id']}")[1] for one in changesets]
+
+    def test_told_as_by_git(self):
+        first, second, third = self.line()
+        changesets = self.imported()
+        said = copies_by_git(self.maker, first, second)
+        wanted = {"dir/copy": "kept", "dir/moved": "edited", "dir/new name": "renamed"}
+        self.assertEqual((said, copies_by_git(self.maker, second, third)), (wanted, {}))
+        self.assertEqual([copies_told(one) for one in changesets], [{}, wanted, {}])
+        self.assertEqual(self.versions(changesets), [1, 2, 1])
+        changed = {one["path"]: one["change"] for one in changesets[1]["changes"]}
+        gone = dict.fromkeys(("deleted", "edited", "renamed"), "delete")
+        self.assertEqual(changed, dict.fromkeys((*wanted, "added"), "set") | gone)
+        for commit, changeset in zip((first, second, third), changesets):
+            places = [self.folder / f"{commit}.{side}" for side in ("ours", "git")]
+            self.ok("checkout", changeset["id"], places[0])
+            self.maker.check_out(commit, places[1])
+            self.assertEqual(*map(folder_files, places))
+
+    def test_asked_of_the_server(self):
+        self.needs_copies()
+        self.line()
+        changesets = self.imported()
+        found = [self.ask("copies", one["id"])["copies"] for one in changesets]
+        self.assertEqual([len(one) for one in found], [0, 3, 0])
+        self.assertEqual(
+            {one["to"]: one["from"] for one in found[1]}, copies_told(changesets[1])
+        )
+
+    def test_told_to_people(self):
+        self.line()
+        told = self.ok(*self.words).out
+        self.assertIn("\ntold where 3 files came from by renames and copies\n", told)
+
+    def test_without_copies(self):
+        self.line()
+        changesets = self.imported("--no-copies")
+        self.assertEqual([copies_told(one) for one in changesets], [{}] * 3)
+        self.assertEqual(self.versions(changesets), [1] * 3)
+        changed = {one["path"]: one["change"] for one in changesets[1]["changes"]}
+        self.assertEqual((len(changed), changed["renamed"]), (7, "delete"))
+
+    def test_sources_that_are_left_out(self):
+        top = self.maker.folder
+        self.put("line\nend")
+        self.put(".jarrah/own")
+        (top / "large").write_bytes(bytes(1_048_577))
+        self.maker.git("update-index", "--add", "--cacheinfo", f"160000,{'1' * 40},module")
+        first = self.maker.commit("First")
+        for old, new in (("line\nend", "a"), (".jarrah/own", "b"), ("large", "c")):
+            (top / old).rename(top / new)
+        (top / "c").write_bytes(bytes(1_048_576))
+        self.maker.git("add", "-A")
+        self.maker.git("update-index", "--remove", "module")
+        self.maker.git("update-index", "--add", "--cacheinfo", f"160000,{'1' * 40},other")
+        self.maker.git("commit", "-q", "-m", "Second", **self.maker.date())
+        said = copies_by_git(self.maker, first, "HEAD")
+        self.assertEqual({"a", "b", "c"} - set(said), set())
+        ran = jarrah("--json", *self.words, server=self.server)
+        self.assertEqual((ran.status, ran.document["copies"]), (3, 0))
+        changesets = self.ok("--json", "log", self.name).documents[::-1]
+        sets = [one["path"] for one in changesets[1]["changes"] if one["change"] == "set"]
+        self.assertEqual(sets, ["a", "b", "c"])
+        self.assertEqual(self.versions(changesets), [1, 1])
+
+    def test_many_renames(self):
+        git, count = self.maker.git, 4_500
+        blobs = [git("hash-object", "-w", "--stdin", data=b"%d" % n) for n in range(50)]
+        old = [f"old/f{number}" for number in range(count)]
+        lines = "".join(f"100644 {blobs[n % 50]}\t{path}\n" for n, path in enumerate(old))
+        git("update-index", "--index-info", data=lines.encode())
+        git("commit", "-q", "-m", "First", **self.maker.date())
+        lines = lines.replace("old/", "new/") + "".join(f"0 {'0' * 40}\t{path}\n" for path in old)
+        git("update-index", "--index-info", data=lines.encode())
+        git("commit", "-q", "-m", "Second", **self.maker.date())
+        changesets = self.imported()
+        found = [copies_told(one) for one in changesets]
+        self.assertEqual([len(one) for one in found], [0, 0, 4_096, 404, 0])
+        self.assertEqual(found[2] | found[3], {f"new/{path[4:]}": path for path in old})
+        listed = self.ask("ls", "-r", changesets[2]["id"])["entries"]
+        self.assertEqual({one["name"] for one in listed} & set(old), set(old))
+        self.assertEqual(len(self.ask("ls", "-r", self.name)["entries"]), count)
+
+    def test_a_server_that_knows_no_copies(self):
+        older = self.special_stand_in()
+        store = older.service.repository.put_changeset
+
+        def refuse(data: bytes) -> str:
+            if data[1] == 2:
+                raise Refusal(422, "bad-encoding", place=1)
+            return store(data)
+
+        older.service.repository.put_changeset = refuse
+        self.line()
+        ran = jarrah(*self.words, server=older.url)
+        self.assertEqual((ran.status, ran.complaint.count("\n")), (1, 1))
+        self.assertIn("; an older server knows no copies: `--no-copies` leaves them out", ran.err)
+        ran = jarrah("--json", *self.words, "--no-copies", server=older.url)
+        self.assertEqual((ran.status, ran.document["known"], ran.document["commits"]), (0, 1, 2))
 
 
 class LeftOut(Case):

@@ -13,7 +13,7 @@ from .harness import TOP, Case, fresh, jarrah
 from .test_encoding import ABC, EMPTY
 
 API = (TOP / "docs" / "API.md").read_text()
-ANSWERS = {"content", "changeset", "bookmark", "landed", "log", "history"}
+ANSWERS = {"content", "changeset", "copies", "bookmark", "landed", "log", "history"}
 LATER = {"no-path", "not-a-dir", "not-a-file", "bad-path", "too-long"}
 """Codes of the routes of manifests that docs/API.md doesn't have yet."""
 ID = "0123456789abcdef" * 4

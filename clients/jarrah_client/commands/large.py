@@ -31,6 +31,12 @@ def add(add: Add) -> None:
         metavar="FILE",
         help="what was imported; default: jarrah/BOOKMARK.marks in git's folder",
     )
+    one.add_argument(
+        "--no-copies",
+        dest="copies",
+        action="store_false",
+        help="don't ask git for renames and copies, and tell none",
+    )
     add_connections(one)
     one = add("export-git", export_to_git, "write a changeset and its ancestors as git commits")
     one.add_argument("revision", metavar="id", help=REVISION)
@@ -73,6 +79,7 @@ def import_from_git(options: Namespace, server: Server, out: Output) -> int:
         options.bookmark,
         Path(options.marks) if options.marks else None,
         options.connections,
+        options.copies,
     )
     out.tell(vars(report), import_lines(report))
     return LEFT_OUT if report.left_out else 0
@@ -93,6 +100,8 @@ def import_lines(report: Report) -> Iterator[str]:
         )
     else:
         yield "there is nothing new to import"
+    if report.copies:
+        yield f"told where {counted(report.copies, 'file')} came from by renames and copies"
     if report.left_out:
         yield f"left out {counted(len(report.left_out), 'change')}, each named above"
     if report.altered:

@@ -24,7 +24,9 @@ from ..output import (
     entry_line,
     file_document,
     kind_letter,
+    landing_document,
     short_lines,
+    source_words,
 )
 from ..paths import is_bookmark_name
 from ..reads import file_at, remember
@@ -69,6 +71,8 @@ def add(add: Add) -> None:
         one.add_argument("revision", metavar="id", help=REVISION)
         one.add_argument("path")
         add_fold(one)
+    one = add("copies", copies, "tell what files that a changeset sets were copied from")
+    one.add_argument("revision", metavar="id", help=REVISION)
     one = add("diff", diff, "tell what a changeset, or the working copy, changes")
     one.add_argument(
         "words",
@@ -95,7 +99,7 @@ def log(options: Namespace, server: Server, out: Output) -> None:
             lines = changeset_lines(changeset, at, options.patch_names, landing)
         document = changeset_document(changeset) | {"bookmarks": at, "landed": None}
         if landing:
-            document["landed"] = {"bookmark": landing[0], "entry": landing[1]}
+            document["landed"] = landing_document(landing)
         out.tell(document, lines)
 
 
@@ -176,6 +180,15 @@ def history(options: Namespace, server: Server, out: Output) -> None:
         out.tell(changeset_document(changeset), short_lines(changeset))
 
 
+def copies(options: Namespace, server: Server, out: Output) -> None:
+    """Tells what files that a changeset sets were copied from."""
+    id = resolve(server, options.revision)
+    found = server.copies(id)
+    rows = [{"from": one.path, "parent": one.parent, "to": path} for path, one in found.items()]
+    lines = (f"{path}  {source_words(source)}" for path, source in found.items())
+    out.tell({"id": id, "copies": rows}, lines)
+
+
 def diff(options: Namespace, server: Server, out: Output) -> None:
     """Tells the paths or lines that a changeset changes, or the working copy's lines."""
     copy, words = options.copy, options.words
@@ -188,8 +201,8 @@ def diff(options: Namespace, server: Server, out: Output) -> None:
     if options.patch:
         diff_lines(changeset, server, out)
         return
-    changes = [change_document(path, file) for path, file in changeset.changes.items()]
-    lines = (change_line(path, file) for path, file in changeset.changes.items())
+    changes = [change_document(changeset, path) for path in changeset.changes]
+    lines = (change_line(changeset, path) for path in changeset.changes)
     out.tell({"id": changeset.id, "changes": changes}, lines)
 
 

@@ -76,8 +76,9 @@ function changeRow(change, id) {
   const icon = make("span", { class: "icon" });
   const counts = make("span", { class: "right soft" });
   const isGone = change.change === "delete";
-  const name = isGone ? make("span", { class: "name" }, change.path)
-    : make("a", { class: "name", href: place("file", id, change.path) }, change.path);
+  const source = change.copied ? soft(` from ${change.copied.path}`) : null;
+  const name = make("span", { class: "name" },
+    isGone ? change.path : link(place("file", id, change.path), change.path), source);
   const head = make("div", { class: "cells entry change" }, icon, word, name, counts);
   const row = make("div", {}, head);
   const size = isGone ? "" : (change.kind === "regular" ? "" : `${change.kind}, `) + sized(change.size);

@@ -71,7 +71,7 @@ def go_on(copy: WorkingCopy, server: Server, done: Rebased, left: list[str]) -> 
         if draft.changes and not onto.changes:
             done.dropped.append(id)
             continue
-        parent = store(server, replace(draft, parents=(parent,), changes=onto.changes), onto)
+        parent = store(server, draft.changing(onto.changes, parents=(parent,)), onto)
         done.drafts.append(parent)
     move(copy, server, parent)
     copy.state.root, copy.state.drafts, copy.state.rebase = done.head, list(done.drafts), None
@@ -149,7 +149,7 @@ def proceed(copy: WorkingCopy, server: Server) -> Rebased:
     draft = server.changeset(rebase.draft)
     done = Rebased(copy.state.root, list(copy.state.drafts), [])
     if found.changes:
-        new = replace(draft, parents=(copy.state.base,), changes=found.changes)
+        new = draft.changing(found.changes, parents=(copy.state.base,))
         upload(server, new, found.contents)
         done.drafts.append(new.id)
     else:

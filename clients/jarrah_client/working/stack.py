@@ -3,7 +3,7 @@
 from __future__ import annotations
 
 from collections.abc import Iterable
-from dataclasses import dataclass, field, replace
+from dataclasses import dataclass, field
 
 from ..changesets import Changeset, File
 from ..fields import digest
@@ -155,7 +155,7 @@ def amend(
     before = tree_of(server, old.parent) if old.parent else None
     plain = {path for path in found.changes if file_in(before, path) == found.changes[path]}
     kept = {path: changes[path] for path in sorted(changes.keys() - plain, key=path_key)}
-    new = replace(old, changes=kept, **words)
+    new = old.changing(kept, **words)
     if new == old:
         raise Trouble("nothing is changed")
     upload(server, new, found.contents)

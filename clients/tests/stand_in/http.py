@@ -40,6 +40,7 @@ ROUTES = [
     (r"/content/([^/]+)", "GET", "content"),
     (r"/changeset", "PUT", "put_changeset"),
     (r"/changeset/([^/]+)", "GET", "changeset"),
+    (r"/copies/([^/]+)", "GET", "copies"),
     (r"/bookmark/([^/]+)/([^/]+)/([^/]+)", "PUT", "set_bookmark"),
     (r"/bookmark/([^/]+)", "GET", "head"),
     (r"/land/([^/]+)/([^/]+)", "POST", "land"),
@@ -149,6 +150,7 @@ def path_of(data: bytes) -> str:
 PARAMETERS: dict[str, list[tuple[str, Callable]]] = {
     "content": [("bad-id", id_of)],
     "changeset": [("bad-id", id_of)],
+    "copies": [("bad-id", id_of)],
     "set_bookmark": [("bad-name", name_of), ("bad-id", optional_id), ("bad-id", optional_id)],
     "head": [("bad-name", name_of)],
     "land": [("bad-name", name_of), ("bad-id", id_of)],
@@ -228,6 +230,9 @@ class Service:
 
     def changeset(self, id: str) -> bytes:
         return self.repository.changeset(id).data
+
+    def copies(self, id: str) -> bytes:
+        return body("copies", {"copies": self.repository.copies(id)})
 
     def set_bookmark(self, name: str, old: str | None, new: str | None) -> bytes:
         head = self.repository.set_bookmark(name, old, new)

@@ -2,6 +2,8 @@
 
 from __future__ import annotations
 
+import time
+
 from .manifests import Manifests
 from .spelling import MOST, Record, Refusal, comparable, digest, key, read_changeset, with_parent
 
@@ -21,6 +23,7 @@ class Repository:
         self.changesets: dict[str, Record] = {}
         self.bookmarks: dict[str, str] = {}
         self.entries: list[dict] = []
+        self.clock = lambda: int(time.time())
         self.manifests = Manifests(self.chain, self.changeset)
 
     def append(self, payload: int, entry: dict) -> None:
@@ -76,6 +79,12 @@ class Repository:
             raise Refusal(404, "no-changeset", id=id)
         return self.changesets[id]
 
+    def copies(self, id: str) -> list[dict]:
+        sets = [(path, file.copied) for path, file in self.changeset(id).changes if file]
+        return [
+            {"from": copied[1], "parent": copied[0], "to": path} for path, copied in sets if copied
+        ]
+
     def head(self, name: str) -> str:
         if name not in self.bookmarks:
             raise Refusal(404, "no-bookmark")
@@ -96,6 +105,7 @@ class Repository:
         return new
 
     def land(self, name: str, draft: str) -> dict:
+        moment = self.clock()
         old = self.head(name)
         self.changeset(draft)
         stack, behind = self.fork(draft, old)
@@ -106,14 +116,15 @@ class Repository:
         if len(stack) > MOST_STACK:
             raise Refusal(413, "stack-too-long", count=len(stack))
         refuse_clash(touched(stack), touched(behind))
-        records = rebased(stack, old)
+        records = rebased(stack, old, moment)
+        dated = {"moment": moment} if any(r.is_dated for r in records) else {}
         payload = 2 + len(name) + 32 + 32 + 2 + sum(4 + len(r.data) for r in records)
+        payload += 8 if dated else 0
         if payload > MOST_PAYLOAD:
             raise Refusal(413, "too-large", length=payload)
         ids = [record.id for record in records]
-        self.append(
-            payload, {"kind": "landing", "name": name, "old": old, "draft": draft, "ids": ids}
-        )
+        entry = {"kind": "landing", "name": name, "old": old, "draft": draft, "ids": ids}
+        self.append(payload, entry | dated)
         for record in records:
             self.changesets.setdefault(record.id, record)
         self.bookmarks[name] = ids[-1]
@@ -144,8 +155,8 @@ def refuse_clash(left: list[str], right: list[str]) -> None:
                 raise Refusal(409, "clash", left=ours, right=theirs)
 
 
-def rebased(stack: list[Record], head: str) -> list[Record]:
+def rebased(stack: list[Record], head: str, moment: int) -> list[Record]:
     records: list[Record] = []
     for record in stack:
-        records.append(with_parent(record, records[-1].id if records else head))
+        records.append(with_parent(record, records[-1].id if records else head, moment))
     return records

@@ -9,6 +9,7 @@ from functools import cached_property
 from hashlib import sha256
 
 MOST = 1_048_576
+LAST_SECOND = 2**63 - 1
 
 
 def digest(data: bytes) -> str:
@@ -30,6 +31,8 @@ class Set:
     content: str
     size: int
     kind: int
+    copied: tuple[int, str] | None = None
+    """The place of a parent, and the path there, that it was copied from."""
 
 
 @dataclass(frozen=True)
@@ -40,6 +43,11 @@ class Record:
     data: bytes
     parents: tuple[str, ...]
     changes: tuple[tuple[str, Set | None], ...]
+
+    @property
+    def is_dated(self) -> bool:
+        """Whether a landing gives it its moment: it is of version 2."""
+        return self.data[1] == 2
 
     @property
     def touched(self) -> list[str]:
@@ -114,7 +122,7 @@ def read_changeset(data: bytes) -> Record:
         raise Refusal(413, "too-long", length=len(data))
     reader = Reader(data)
     reader.take(1, lambda p: p == b"\x43")
-    reader.take(1, lambda p: p == b"\x01")
+    version = reader.number(1, 1, 2)
     parents: list[bytes] = []
     for _ in range(reader.number(1, 0, 2)):
         parents.append(reader.take(32, lambda p: p not in parents))
@@ -124,21 +132,33 @@ def read_changeset(data: bytes) -> Record:
     reader.take(reader.number(4, 0, MOST), is_utf8)
     changes: list[tuple[str, Set | None]] = []
     for _ in range(reader.number(4, 0, 4_096)):
-        changes.append(read_change(reader, changes))
+        changes.append(read_change(reader, changes, version, len(parents)))
     if reader.at != len(data):
         raise Refusal(422, "bad-encoding", place=reader.at)
     refuse_conflict([path for path, file in changes if file])
     return Record(digest(data), data, tuple(p.hex() for p in parents), tuple(changes))
 
 
-def read_change(reader: Reader, before: list) -> tuple[str, Set | None]:
+def read_change(
+    reader: Reader, before: list, version: int, parents: int
+) -> tuple[str, Set | None]:
     length = reader.number(2, 1, 4_096)
     path = reader.take(length, lambda p: path_place(p) is None and follows(p, before)).decode()
     if reader.number(1, 0, 1) == 0:
         return path, None
     kind = reader.number(1, 0, 2)
     size = reader.number(8, 0, MOST)
-    return path, Set(reader.take(32).hex(), size, kind)
+    content = reader.take(32).hex()
+    copied = read_source(reader, parents) if version == 2 else None
+    return path, Set(content, size, kind, copied)
+
+
+def read_source(reader: Reader, parents: int) -> tuple[int, str] | None:
+    if reader.number(1, 0, 1) == 0:
+        return None
+    place = reader.take(1, lambda p: p[0] < parents)[0]
+    length = reader.number(2, 1, 4_096)
+    return place, reader.take(length, lambda p: path_place(p) is None).decode()
 
 
 def follows(path: bytes, changes: list) -> bool:
@@ -164,9 +184,13 @@ def refuse_conflict(paths: list[str]) -> None:
                 raise Refusal(422, "self-conflict", long=path, short=short)
 
 
-def with_parent(record: Record, parent: str) -> Record:
-    """The changeset with another parent, all else kept."""
+def with_parent(record: Record, parent: str, moment: int) -> Record:
+    """The changeset with another parent, and with this date where it is of version 2."""
     data = record.data[:3] + bytes.fromhex(parent) + record.data[35:]
+    if record.is_dated:
+        date = 37 + int.from_bytes(data[35:37], "big")
+        seconds = struct.pack(">Q", min(moment, LAST_SECOND))
+        data = data[:date] + seconds + bytes(4) + data[date + 12 :]
     return Record(digest(data), data, (parent,), record.changes)
 
 
