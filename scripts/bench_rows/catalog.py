@@ -2,11 +2,12 @@
 
 from __future__ import annotations
 
-from . import answers, calls, landings, memory, names, opening, ranges, upload
+from . import answers, calls, landings, memory, names, opening, ranges, seals, upload
 from .row import Row
 
 LISTED = (
     Row("landings", "stacks a second, beside the raw log of the same appends", landings.stacks),
+    Row("seals", "landings of drafts that lie ready, and their syncs", seals.landings, 2),
     Row("range", "landing over 9,990 changesets, beside one over 1", ranges.landing),
     Row("range-opening", "opening such landings, beside those over 1", ranges.opening),
     Row("names", "reads of one name in wide directories, beside the root", names.reads),

@@ -13,15 +13,20 @@ HEADING = f"{'what':<50} {'amount':>11} {'unit':<22} {'ratio':>7}  wanted"
 
 @dataclass(frozen=True)
 class Bench:
-    """What a row is given: the program, a new folder for its files, and the words of the run."""
+    """What a row is given: the programs, a new folder for its files, and the words of the run."""
 
-    program: Program
+    programs: tuple[Program, ...]
     folder: Path
     small: bool
     divide: int
     clients: list[int] | None
     turns: int | None
     size: int
+
+    @property
+    def program(self) -> Program:
+        """The program, for a row that measures one."""
+        return self.programs[0]
 
     def choose(self, full: int, small: int) -> int:
         """A size, by --small and --divide; at least 1."""
@@ -51,8 +56,10 @@ def spelled(ratio: float) -> str:
 
 @dataclass(frozen=True)
 class Row:
-    """A row by its name. `run` yields figures, and lines of text for what isn't one."""
+    """A row by its name. `run` yields figures, and lines of text for what isn't one. It measures so
+    many programs at most."""
 
     name: str
     measures: str
     run: Callable[[Bench], Iterator[Figure | str]]
+    programs: int = 1
