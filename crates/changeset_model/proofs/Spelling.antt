@@ -79,7 +79,7 @@ reads_signed_32 z h =
     reads_field 4 (λ bytes. Some (cast_signed w32 (from_be_bytes w32 bytes))) (to_be_bytes w32 (cast_unsigned w32 z)) z refl (ap Some (ap (cast_signed w32) (from_be_bytes-to_be_bytes_4 (cast_unsigned w32 z) (Fits-of_z fits).fits) ∙ to_z-of_z w32 z fits))
 
 small_64 : (n : ℕ) → nat_le n most_size ≡ true → n < 2 ^ 64
-small_64 n h = let le : n ≤ 1_048_576 = leb-true n most_size h in omega arith
+small_64 n h = let le : n ≤ 67_108_864 = leb-true n most_size h in omega arith
 
 pub below_3 : (k : Kind) → nat_lt (kind_byte k) 3 ≡ true
 below_3 Regular = refl

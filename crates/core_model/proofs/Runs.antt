@@ -1,12 +1,11 @@
 -- Worked examples on whole histories, which hold by computing, digests included.
-use Rattle.std.specs.Prelude.{◌≡◌, ℕ, ◌+◌, true, false, List, [], ◌∷◌, ◌++◌, length, map, replicate, codes, Option, Some, None, Ok, Err, refl, option_map, take}
-use Rattle.std.proofs.Common.{inl, inr}
+use Rattle.std.specs.Prelude.{◌≡◌, ℕ, ◌+◌, true, false, List, [], ◌∷◌, ◌++◌, length, map, replicate, codes, Option, Some, None, Ok, Err, refl, option_map, take, drop}
 use Rattle.std.specs.Str.{is_utf8, chars}
 use Rattle.sha2.specs.Sha256.{sha256, digest_bytes, hash_after, compress, rounds, schedule, first_words}
 use Rattle.byte_fields.specs.Bytes.{Id}
 use Rattle.changeset_model.specs.Path.{Path, text_of, elements}
 use Rattle.changeset_model.specs.Changeset.{Changeset, Set, File, Regular, spelling, id_of, touched_paths}
-use Rattle.history_model.specs.History.{Landing, Fault, Content, Land, Entry, unnumbered, Known, with_id, known}
+use Rattle.history_model.specs.History.{Landing, Fault, Content, Land, Policy, Entry, unnumbered, Known, with_id, known}
 use Rattle.history_model.specs.Chain.{line}
 use Rattle.history_model.specs.Tree.{files_of, files}
 use Rattle.history_model.specs.Bookmark.{head}
@@ -14,7 +13,8 @@ use Rattle.history_model.specs.Pushrebase.{Fork, fork, clash}
 use Rattle.history_model.specs.Journal.{payload_len, record_len, size, is_full, Stands, payload}
 use Rattle.manifest_model.specs.Fsnode.{fsnode, fsnode_bytes}
 use Rattle.manifest_model.specs.Unode.{Unode, Manifest, FileUnode, UnodeFile, UnodeDir, unode, unode_id, unode_bytes}
-use Rattle.reply_model.specs.Reply.{ChangesetPut, NoBookmark, NoChangeset, NoRoot, Merge, BadEncoding, Down, ContentPut, PutContent, PutChangeset, SetBookmark, LandDraft, BookmarkSet, Landed, judge, NoParent, NoContent, WrongSize, Moved, AlreadyIn, Clash, Full, SeenIds, NoPath, seen_history}
+use Rattle.policy_model.specs.Examples.{ann_policy}
+use Rattle.reply_model.specs.Reply.{SetPolicy, ChangesetPut, NoBookmark, NoChangeset, NoRoot, Merge, BadEncoding, Down, ContentPut, PutContent, PutChangeset, SetBookmark, LandDraft, BookmarkSet, Landed, judge, NoParent, NoContent, WrongSize, Moved, AlreadyIn, Clash, Full, SeenIds, NoPath, seen_history}
 use Rattle.reply_model.specs.Legal.{IsLegal}
 use Rattle.reply_model.specs.Opening.{nobody, opens, NotARepository, Damaged}
 use Rattle.manifest_model.specs.FileHistory.{file_history}
@@ -22,9 +22,9 @@ use Rattle.manifest_model.specs.Manifests.{nodes_of}
 use Rattle.reply_model.proofs.Examples.{by_a, set_abc, set_nil, delete, on, B, C, X, S, main, after, starting, uploads}
 use Rattle.history_model.specs.Payload.{payload_body}
 use Rattle.manifest_model.specs.NodeReading.{fsnode_of, unode_of}
-use Rattle.changeset_model.specs.Version.{First}
+use Rattle.changeset_model.specs.Version.{First, Second}
 use Rattle.reply_model.specs.After.{After, Asks, Grants, DiskFault}
-use Rattle.core_model.specs.Core.{Step, Exchange, WriteGroup, SyncGroup, OpenGate, Seal, Acknowledge, TakeJob, Settle, Crash, nodes_among, opened, after_steps}
+use Rattle.core_model.specs.Core.{PlanLanding, Step, Exchange, WriteGroup, SyncGroup, OpenGate, Seal, Acknowledge, TakeJob, Settle, Crash, nodes_among, opened, after_steps}
 
 -- ---- a content, and the same again
 
@@ -257,26 +257,29 @@ front_after = record {
   made = record { entry = Some (Content (sha256 (codes "abc")) 3); fault = None };
   grows = record { begins = ([], refl); own = refl; stands = (_, refl); only = refl; last = λ no. absurd cc; failed = λ no. absurd cc };
   answers = (refl, refl);
+  at_once = λ now. absurd now;
 }
 
--- another seat's entry may lie between, and a change that meets a fault before its entry is made leaves none
-front_after_fault : After (record { capacity = 65536; version = First }) [] 1 (Asks (PutContent (codes "abc"))) DiskFault (record { who = 2; body = Content (sha256 []) 0 } ∷ record { who = 1; body = Fault true } ∷ [])
+-- a change that makes no entry as another seat's stands there already waits for that one, and may meet the fault
+front_after_fault : After (record { capacity = 65536; version = First }) [] 1 (Asks (PutContent (codes "abc"))) DiskFault (record { who = 2; body = Content (sha256 (codes "abc")) 3 } ∷ record { who = 1; body = Fault true } ∷ [])
 unfolding is_utf8 chars lib.Utf8.encode sha256 digest_bytes hash_after compress rounds schedule first_words
 front_after_fault = record {
-  before = record { who = 2; body = Content (sha256 []) 0 } ∷ [];
+  before = record { who = 2; body = Content (sha256 (codes "abc")) 3 } ∷ [];
   made = record { entry = None; fault = Some true };
   grows = record { begins = (_, refl); own = refl; stands = (_, refl); only = refl; last = λ no. absurd cc; failed = λ is. refl };
-  answers = (refl, ContentPut (sha256 (codes "abc")), Some (Content (sha256 (codes "abc")) 3), refl, inl (refl, refl));
+  answers = (refl, ContentPut (sha256 (codes "abc")), refl);
+  at_once = λ now. absurd now;
 }
 
--- or its entry stands, and a seat that sealed it and others met the fault
+-- its own entry stands, also where a seat that sealed it and others met the fault
 front_after_group : After (record { capacity = 65536; version = First }) [] 1 (Asks (PutContent (codes "abc"))) DiskFault (record { who = 1; body = Content (sha256 (codes "abc")) 3 } ∷ record { who = 2; body = Content (sha256 []) 0 } ∷ record { who = 2; body = Fault true } ∷ [])
 unfolding is_utf8 chars lib.Utf8.encode sha256 digest_bytes hash_after compress rounds schedule first_words
 front_after_group = record {
   before = [];
   made = record { entry = Some (Content (sha256 (codes "abc")) 3); fault = Some true };
   grows = record { begins = ([], refl); own = refl; stands = (_, refl); only = refl; last = λ no. absurd cc; failed = λ is. refl };
-  answers = (refl, ContentPut (sha256 (codes "abc")), Some (Content (sha256 (codes "abc")) 3), refl, inr refl);
+  answers = (refl, ContentPut (sha256 (codes "abc")), refl);
+  at_once = λ now. absurd now;
 }
 
 abbrev history_after : List Step → Option (List Entry)
@@ -320,9 +323,22 @@ tables : map table_after (
     ∷ (TakeJob (id_of B) ∷ Settle (id_of B) ∷ Crash false ∷ [])
     ∷ (TakeJob (id_of C) ∷ [])
     ∷ [])
-    ≡ None ∷ Some (id_of B ∷ id_of X ∷ [], 5) ∷ Some (id_of B ∷ [], 2) ∷ Some ([], 0) ∷ None ∷ []
+    ≡ None ∷ Some (id_of B ∷ id_of X ∷ [], 7) ∷ Some (id_of B ∷ [], 3) ∷ Some ([], 0) ∷ None ∷ []
 unfolding is_utf8 chars lib.Utf8.encode sha256 digest_bytes hash_after compress rounds schedule first_words
 tables = refl
+
+-- ---- a policy between a plan and its landing
+
+abbrev landed_under : List ℕ → Option (List Entry)
+landed_under caller = option_map (λ s. drop 5 s.history) (after_steps (record { capacity = 65536; version = Second }) (opened (starting B (X ∷ [])))
+    (PlanLanding 1 main (id_of X) 0 ∷ Exchange 2 (SetPolicy (codes "ann") ann_policy) ∷ Exchange 1 (LandDraft caller main (id_of X) 0) ∷ []))
+
+-- the landing is judged by the policy that is held when it is entered
+policy_between : map landed_under (codes "bob" ∷ codes "ann" ∷ []) ≡ Some (record { who = 2; body = Policy (codes "ann") ann_policy } ∷ [])
+    ∷ Some (record { who = 2; body = Policy (codes "ann") ann_policy } ∷ record { who = 1; body = Land (record { name = main; old = id_of B; draft = id_of X; new = X ∷ []; moment = None; caller = Some (codes "ann") }) } ∷ [])
+    ∷ []
+unfolding is_utf8 chars lib.Utf8.encode sha256 digest_bytes hash_after compress rounds schedule first_words
+policy_between = refl
 
 -- ---- other refusals
 
@@ -422,7 +438,7 @@ history_of_x : file_history (line three (id_of second_tree)) (elements (codes "a
 unfolding is_utf8 chars lib.Utf8.encode sha256 digest_bytes hash_after compress rounds schedule first_words
 history_of_x = refl
 
--- of each directory two nodes, and of each file one
-node_counts : map (λ c. length (nodes_of three (id_of c))) (first_tree ∷ second_tree ∷ third_tree ∷ []) ≡ 8 ∷ 9 ∷ 6 ∷ []
+-- of each directory two nodes, of each file one, and of each path at or under which one was taken away one, as of the root
+node_counts : map (λ c. length (nodes_of three (id_of c))) (first_tree ∷ second_tree ∷ third_tree ∷ []) ≡ 9 ∷ 10 ∷ 10 ∷ []
 unfolding is_utf8 chars lib.Utf8.encode sha256 digest_bytes hash_after compress rounds schedule first_words
 node_counts = refl

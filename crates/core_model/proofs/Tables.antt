@@ -1,6 +1,6 @@
 -- What every list of steps keeps of the table: its manifests are those of known changesets by the definitions from scratch.
 use Rattle.std.proofs.Common.{◌≡◌, ℕ, Bool, true, false, cond, not, ◌||◌, List, [], ◌∷◌, ◌++◌, map, take, length, reverse, refl, sym, ap, subst, ◌∙◌}
-use Rattle.std.specs.Prelude.{Option, Some, None, IfSome, find, bytes_eq, option_map, is_some, unwrap_or, is_none, slice_get, nat_lt, ◌&&◌, if◌then◌else◌}
+use Rattle.std.specs.Prelude.{Option, Some, None, IfSome, find, bytes_eq, option_map, is_some, is_none, slice_get, nat_lt, ◌&&◌, if◌then◌else◌}
 use Rattle.std.specs.List.{AllByRecursion}
 use Rattle.std.specs.Option.{option_and_then, option_map_or}
 use Rattle.std.proofs.lemmas.List.{append-nil}
@@ -8,7 +8,7 @@ use Rattle.std.proofs.lemmas.Grind.{flat_map-append}
 use Rattle.std.proofs.lemmas.Slice.Eq.{bytes_eq-Decides}
 use Rattle.byte_fields.specs.Bytes.{Id}
 use Rattle.history_model.specs.History.{Body, Fault, Entry, unnumbered, bodies, Known, known, is_known}
-use Rattle.history_model.specs.Chain.{first_parent}
+use Rattle.history_model.specs.Chain.{first_of, first_parent}
 use Rattle.history_model.specs.Past.{Past, Begin, second_of, past}
 use Rattle.history_model.proofs.Chains.{first_of_all}
 use Rattle.history_model.proofs.Clashes.{same_some}
@@ -18,7 +18,7 @@ use Rattle.reply_model.specs.Legal.{IsLegal}
 use Rattle.reply_model.specs.Reply.{Ask, is_ask, judge}
 use Rattle.core_model.specs.Core.{State, Step, Sealing, Stage, Written, Flushed, Opened, PlanLanding, Exchange, Look, WriteGroup, SyncGroup, OpenGate, Seal, Acknowledge, TakeJob, Settle, Crash, set_for, is_idle, is_as_planned, entry_of, entered, exchanged, added, broken, come_to, all_sealed, written, device_call, acknowledged_with, answer, are_apart, nodes_among, settled_in, parent_in, both_of, job_on, settled_with, kept_of, opened, reopened, after_step, after_steps}
 use Rattle.reply_model.proofs.Parents.{HasParents-known, known_reverse}
-use Rattle.manifest_model.proofs.Derivations.{of_past, job_of_past, derives}
+use Rattle.manifest_model.proofs.Jobs.{of_past, job_of_past, derives}
 use Rattle.reply_model.proofs.Lines.{known_once, PastGoesOn, past_goes_on, second_of_all, no_past, known_grows, past_grows}
 use Rattle.core_model.proofs.Cores.{Kept, step_kept, started_kept, some_is, when_ok}
 use Rattle.byte_fields.proofs.Lists.{all_push, weaker}
@@ -92,6 +92,11 @@ module _ (header : Header) (h : List Entry) (legal : IsLegal header h) (table : 
       let scratch : m ≡ manifests_in g.first.id (past (known h) p) = s.0.1 ∙ (λ i. manifests_in (s.1 i) (past (known h) ((s.1 ∙ g.id_is) i))) in
       ap of_past g.past_is ∙ (λ i. (ap (manifests_in g.first.id) (sym g.past_is) ∙ sym scratch) i ∷ []) ∙ one.2
 
+  -- a changeset without a first parent has no second one
+  only_first : (ps : List Id) → IfSome (first_of ps) (λ p. is_known (reverse (known h)) p ≡ true) → past_of (first_of ps) ≡ Begin → past_of (second_of ps) ≡ Begin
+  only_first [] there e = refl
+  only_first (p ∷ ps) there e = let g = goes_on p there in absurd (let is = sym g.past_is ∙ e in cc)
+
   job_by : (x : Id) (job : Job) → PastGoesOn (reverse (known h)) x → is_known (known h) x ≡ true → job_on table (past (known h) x) ≡ Some job → IsRightJob (known h) job
   job_by x job g there e =
       let c = g.first in
@@ -105,7 +110,7 @@ module _ (header : Header) (h : List Entry) (legal : IsLegal header h) (table : 
       in
       let same : job.changeset.id ≡ x = ap (λ (job : Job). job.changeset.id) (sym made.2) ∙ g.id_is in
       let derived : derive job ≡ manifests_in c.id (past (known h) x) =
-      ap derive (sym made.2) ∙ ap (λ ms. derive (job_of_past c first second ms)) (sym parents) ∙ derives c first second ∙ ap (manifests_in c.id) (sym g.past_is)
+      ap derive (sym made.2) ∙ ap (λ ms. derive (job_of_past c first second ms)) (sym parents) ∙ derives c first second (only_first c.changeset.parents (first_of_all known_at c.changeset.parents g.parents)) ∙ ap (manifests_in c.id) (sym g.past_is)
       in
       (subst (λ y. is_known (known h) y ≡ true) (sym same) there, derived ∙ (λ i. manifests_in ((g.id_is ∙ sym same) i) (past (known h) (sym same i))))
 

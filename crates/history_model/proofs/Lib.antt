@@ -6,3 +6,4 @@ pub mod Landings
 pub mod Pasts
 pub mod Merges
 pub mod Places
+pub mod Policies

@@ -1,5 +1,5 @@
 //! Laws of histories, each the contract of a function that does nothing.
-ghost use Rattle.std.specs.Prelude.{◌≡◌, ℕ, ◌+◌, true, false, cond, None, Some, Err, List, [], ◌∷◌, ◌++◌, Contains};
+ghost use Rattle.std.specs.Prelude.{◌≡◌, ℕ, ◌+◌, true, false, cond, None, Some, Err, List, [], ◌∷◌, ◌++◌, Contains, is_some};
 ghost use Rattle.std.specs.List.{list_any};
 ghost use Rattle.byte_fields.specs.Bytes.{Id};
 ghost use Rattle.changeset_model.specs.Path.{Path, comparable, IsRising};
@@ -10,7 +10,7 @@ ghost use Rattle.history_model.specs.Tree.{decides, tree, tree_of, files, files_
 ghost use Rattle.history_model.specs.Merge.{unresolved};
 ghost use Rattle.history_model.specs.Payload.{payload_body, IsPayloadFault};
 ghost use Rattle.history_model.specs.Pushrebase.{clash, IsLeastClash, rewrite};
-ghost use Rattle.history_model.specs.History.{Entry, Known, is_stored};
+ghost use Rattle.history_model.specs.History.{Entry, Known, is_stored, holds_policy, policy_of};
 ghost use Rattle.history_model.specs.Journal.{record_len, size};
 
 /// The clash that is found is the least, and where none is found there is none.
@@ -76,4 +76,9 @@ pub fn merges_agree()
 /// The place of a payload's fault: the payload is too long, or a field is cut off or breaks its rule there and whole fields that keep their rules stand before it, or bytes follow there behind the last field. The rest of a changeset behind its mark is one field.
 pub fn a_payload_fault_is_at_its_field()
     ensures { (bytes : List ℕ) (at : ℕ) → payload_body bytes ≡ Err at → IsPayloadFault bytes at }
+{}
+
+/// A policy is held exactly where there is a last one.
+pub fn a_held_policy_has_a_text()
+    ensures { (h : List Entry) → holds_policy h ≡ is_some (policy_of h) }
 {}

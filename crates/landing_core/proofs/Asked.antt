@@ -5,7 +5,7 @@ use Rattle.std.specs.Option.{option_and_then}
 use Rattle.std.proofs.lemmas.List.{append-nil}
 use Rattle.history_model.specs.History.{Body, Entry, is_stored, is_down}
 use Rattle.history_model.specs.Journal.{Header}
-use Rattle.reply_model.specs.Reply.{Ask, PutContent, PutWhole, PutChangeset, SetBookmark, LandDraft, Granted, judge}
+use Rattle.reply_model.specs.Reply.{Ask, PutContent, PutWhole, PutChangeset, SetBookmark, LandDraft, SetPolicy, Granted, judge}
 use Rattle.reply_model.specs.After.{Answer, Grants, Refuses, Shows as Sees, Lacks, Roots, DiskFault, ReadFault, BadBytes, NodeCollision, Memory, Asks, Made, Answers, Replies, nothing, entry_by, entries_of}
 use Rattle.reply_model.proofs.Granted.{MakesStored, judge_stored}
 use Rattle.core_model.specs.Core.{Plan, Sealing, State, Step, PlanLanding, Exchange, set_for, is_idle, plan_of, is_as_planned, entry_of, entered, exchanged, when, after_step, after_steps}
@@ -104,7 +104,7 @@ module _ (header : Header) (start s : State) (before : List Step) (reaches : aft
   answered (Refuses refusal) made new whole planned a grows = (asked, refl, quiet new (unmade_is made new a.0 grows) (ap entry_of a.1))
   answered (Sees seen) made new whole planned a grows = absurd a
   answered (Lacks absent) made new whole planned a grows = absurd a
-  answered (Roots fsnode unode) made new whole planned a grows = absurd a
+  answered (Roots fsnode unode deleted) made new whole planned a grows = absurd a
   answered DiskFault made new whole planned a grows = absurd (whole refl)
   answered ReadFault made new whole planned a grows = absurd a
   answered (BadBytes wanted found) made new whole planned a grows = absurd a
@@ -124,7 +124,9 @@ no_landing h (Some plan) (PutWhole body pieces) e = refl
 no_landing h None (PutChangeset bytes) e = refl
 no_landing h (Some plan) (PutChangeset bytes) e = refl
 no_landing h None (SetBookmark caller name from to) e = refl
+no_landing h None (SetPolicy caller text) e = refl
 no_landing h (Some plan) (SetBookmark caller name from to) e = refl
+no_landing h (Some plan) (SetPolicy caller text) e = refl
 no_landing h plan (LandDraft caller name draft moment) e = absurd cc
 
 stored_at : (header : Header) (s : State) (who : ℕ) (ask : Ask) (answer : Answer) (new : List Entry) → answer ≢ DiskFault → IsLeft (is_down s.history) s.sealing → MayAsk s who ask → Replies header s.history who (Asks ask) answer new → Stored header s.sealed s who ask answer new
@@ -136,6 +138,8 @@ stored_at header s who (PutChangeset bytes) answer new whole left may r =
     answered header s s [] refl (record { history_is = refl; sealed_is = refl; left = left }) who (PutChangeset bytes) left may answer r.made new whole (λ _ _ _. no_landing s.history (s.plan who) (PutChangeset bytes) refl) r.answers r.new_is
 stored_at header s who (SetBookmark caller name from to) answer new whole left may r =
     answered header s s [] refl (record { history_is = refl; sealed_is = refl; left = left }) who (SetBookmark caller name from to) left may answer r.made new whole (λ _ _ _. no_landing s.history (s.plan who) (SetBookmark caller name from to) refl) r.answers r.new_is
+stored_at header s who (SetPolicy caller text) answer new whole left may r =
+    answered header s s [] refl (record { history_is = refl; sealed_is = refl; left = left }) who (SetPolicy caller text) left may answer r.made new whole (λ _ _ _. no_landing s.history (s.plan who) (SetPolicy caller text) refl) r.answers r.new_is
 stored_at header s who (LandDraft caller name draft moment) answer new whole left may r =
     answered header s (record s { plan = set_for who (plan_of s.history name draft moment) s.plan }) (PlanLanding who name draft moment ∷ []) refl (record { history_is = refl; sealed_is = refl; left = left }) who (LandDraft caller name draft moment) left
     (record { free = may.free; asks = may.asks }) answer r.made new whole (planned_here header s.history who s.plan caller name draft moment) r.answers r.new_is

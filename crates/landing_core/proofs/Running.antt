@@ -10,7 +10,7 @@ use Rattle.history_model.specs.History.{Entry, Known, known}
 use Rattle.history_model.specs.Past.{Past, Begin, At, past}
 use Rattle.history_model.specs.Journal.{Header}
 use Rattle.manifest_model.specs.Manifests.{Manifests, nodes_in, Job, derive}
-use Rattle.manifest_model.proofs.Derivations.{job_of_past}
+use Rattle.manifest_model.proofs.Jobs.{job_of_past}
 use Rattle.reply_model.specs.Legal.{IsLegal}
 use Rattle.core_model.specs.Core.{State, Step, PlanLanding, Exchange, Look, WriteGroup, SyncGroup, OpenGate, Seal, Acknowledge, TakeJob, Settle, Crash, are_apart, nodes_among, settled_in, parent_in, both_of, job_on, settled_with, kept_of, opened, reopened, after_step, after_steps}
 use Rattle.core_model.proofs.Cores.{Kept, step_kept, started_kept, some_is}

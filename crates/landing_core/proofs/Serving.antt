@@ -6,7 +6,7 @@ use Rattle.std.proofs.lemmas.List.{append-nil, append_assoc}
 use Rattle.history_model.specs.History.{Body, Fault, Entry, is_stored, bodies, is_down}
 use Rattle.history_model.specs.Journal.{Header}
 use Rattle.reply_model.specs.Reply.{Ask, Granted, judge}
-use Rattle.reply_model.specs.After.{Answer, Grants, Refuses, Shows as Sees, Lacks, Roots, DiskFault, ReadFault, BadBytes, NodeCollision, Memory, Asks, FailedAs, Replies, entry_by, entries_of}
+use Rattle.reply_model.specs.After.{Answer, Grants, Refuses, Shows as Sees, Lacks, Roots, DiskFault, ReadFault, BadBytes, NodeCollision, Memory, Asks, Replies, entry_by, entries_of}
 use Rattle.reply_model.proofs.Granted.{MakesStored, judge_stored}
 use Rattle.reply_model.proofs.Histories.{bodies-append}
 use Rattle.reply_model.proofs.Stored.{granted_is_up}
@@ -68,21 +68,19 @@ module _ (header : Header) (h : List Entry) (n who : ℕ) (ask : Ask) (s : State
   abbrev after_fault : Option Body → List Entry
   after_fault entry = h ++ entries_of who (record { entry = entry; fault = Some true })
 
-  failed_served : (granted : Granted) (judged entry : Option Body) (new : List Entry) → length (bodies h) < length (bodies new) → judge header h ask ≡ Ok (record { granted = granted; made = judged }) → FailedAs judged entry → new ≡ after_fault entry → Served DiskFault new
-  failed_served granted judged None new first is how grows = absurd (let none = no_more h who in let same = ap (λ h. length (bodies h)) grows in omega arith)
-  failed_served granted judged (Some body) new first is (inl none) grows = absurd (let e = none.1 in cc)
-  failed_served granted judged (Some body) new first is (inr same) grows =
-      let judged_is = is ∙ ap (λ made. Ok (record { granted = granted; made = made })) (sym same) in
+  failed_served : (granted : Granted) (entry : Option Body) (new : List Entry) → length (bodies h) < length (bodies new) → judge header h ask ≡ Ok (record { granted = granted; made = entry }) → new ≡ after_fault entry → Served DiskFault new
+  failed_served granted None new first is grows = absurd (let none = no_more h who in let same = ap (λ h. length (bodies h)) grows in omega arith)
+  failed_served granted (Some body) new first is grows =
       let new_is : (h ++ entry_by who body ∷ []) ++ entry_by who (Fault true) ∷ [] ≡ new = append_assoc h (entry_by who body ∷ []) (entry_by who (Fault true) ∷ []) ∙ sym grows in
-      (asking who ask ++ calls_to who AtSeal, (AtSeal, refl), subst (λ new. Goes header s (asking who ask ++ calls_to who AtSeal) (Shows new n)) new_is (failed_here granted body judged_is))
+      (asking who ask ++ calls_to who AtSeal, (AtSeal, refl), subst (λ new. Goes header s (asking who ask ++ calls_to who AtSeal) (Shows new n)) new_is (failed_here granted body is))
 
   served : (answer : Answer) (new : List Entry) → Replies header h who (Asks ask) answer new → IsMadeFirst h answer new → Served answer new
   served (Grants granted) new r first = granted_served granted r.made.entry new r.answers.1 (r.new_is ∙ (λ i. h ++ entries_of who (record { entry = r.made.entry; fault = r.answers.0 i })))
   served (Refuses refusal) new r first = stored_goes header h n who ask (Refuses refusal) new s (λ e. absurd cc) r shows may
   served (Sees seen) new r first = absurd r.answers
   served (Lacks absent) new r first = absurd r.answers
-  served (Roots fsnode unode) new r first = absurd r.answers
-  served DiskFault new r first = failed_served r.answers.1 r.answers.2 r.made.entry new (first refl) r.answers.3 r.answers.4 (r.new_is ∙ (λ i. h ++ entries_of who (record { entry = r.made.entry; fault = r.answers.0 i })))
+  served (Roots fsnode unode deleted) new r first = absurd r.answers
+  served DiskFault new r first = failed_served r.answers.1 r.made.entry new (first refl) r.answers.2 (r.new_is ∙ (λ i. h ++ entries_of who (record { entry = r.made.entry; fault = r.answers.0 i })))
   served ReadFault new r first = absurd r.answers
   served (BadBytes wanted found) new r first = absurd r.answers
   served (NodeCollision x) new r first = absurd r.answers.1

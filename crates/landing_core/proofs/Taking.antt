@@ -8,7 +8,7 @@ use Rattle.history_model.specs.History.{Entry, Known, known}
 use Rattle.history_model.specs.Past.{Past, Begin, At, past}
 use Rattle.history_model.specs.Journal.{Header}
 use Rattle.manifest_model.specs.Manifests.{Manifests, Job}
-use Rattle.manifest_model.proofs.Derivations.{job_of_past}
+use Rattle.manifest_model.proofs.Jobs.{job_of_past}
 use Rattle.reply_model.specs.Legal.{IsLegal}
 use Rattle.core_model.specs.Core.{State, TakeJob, settled_in, parent_in, job_on}
 use Rattle.core_model.proofs.Tables.{job_right}

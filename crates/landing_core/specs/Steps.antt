@@ -15,7 +15,7 @@ use Rattle.byte_fields.specs.Bytes.{Id}
 use Rattle.changeset_model.specs.Changeset.{Changeset}
 use Rattle.history_model.specs.History.{Entry, bodies, is_down}
 use Rattle.history_model.specs.Journal.{Header}
-use Rattle.reply_model.specs.Reply.{Ask, PutContent, PutWhole, PutChangeset, SetBookmark, LandDraft, is_ask}
+use Rattle.reply_model.specs.Reply.{Ask, PutContent, PutWhole, PutChangeset, SetBookmark, LandDraft, SetPolicy, is_ask}
 use Rattle.reply_model.specs.After.{Answer, Grants, Refuses, Shows as Sees, Lacks, Roots, DiskFault, ReadFault, BadBytes, NodeCollision, Memory}
 use Rattle.core_model.specs.Core.{Plan, Sealing, LeftOver, State, Step, PlanLanding, Exchange, WriteGroup, SyncGroup, OpenGate, Seal, is_left_over, after_steps}
 
@@ -50,6 +50,7 @@ asking who (PutWhole body pieces) = Exchange who (PutWhole body pieces) ∷ []
 asking who (PutChangeset bytes) = Exchange who (PutChangeset bytes) ∷ []
 asking who (SetBookmark caller name from to) = Exchange who (SetBookmark caller name from to) ∷ []
 asking who (LandDraft caller name draft moment) = PlanLanding who name draft moment ∷ Exchange who (LandDraft caller name draft moment) ∷ []
+asking who (SetPolicy caller text) = Exchange who (SetPolicy caller text) ∷ []
 
 -- An entry that is made stands in the history, pending. Where memory ran out nothing was asked. A call of the disk fails in the sealing alone.
 abbrev pub AreSteps : List Step → Answer → List Step → Type 0
@@ -57,7 +58,7 @@ AreSteps asked (Grants granted) steps = steps ≡ asked
 AreSteps asked (Refuses refusal) steps = steps ≡ asked
 AreSteps asked (Sees seen) steps = ⊥
 AreSteps asked (Lacks absent) steps = ⊥
-AreSteps asked (Roots fsnode unode) steps = ⊥
+AreSteps asked (Roots fsnode unode deleted) steps = ⊥
 AreSteps asked DiskFault steps = ⊥
 AreSteps asked ReadFault steps = ⊥
 AreSteps asked (BadBytes wanted found) steps = ⊥
@@ -93,7 +94,7 @@ AreStepsWithSeal who asked (Grants granted) steps = (steps ≡ asked) ⊎ (steps
 AreStepsWithSeal who asked (Refuses refusal) steps = steps ≡ asked
 AreStepsWithSeal who asked (Sees seen) steps = ⊥
 AreStepsWithSeal who asked (Lacks absent) steps = ⊥
-AreStepsWithSeal who asked (Roots fsnode unode) steps = ⊥
+AreStepsWithSeal who asked (Roots fsnode unode deleted) steps = ⊥
 AreStepsWithSeal who asked DiskFault steps = (cut : Cut) × (steps ≡ asked ++ calls_to who cut)
 AreStepsWithSeal who asked ReadFault steps = ⊥
 AreStepsWithSeal who asked (BadBytes wanted found) steps = ⊥
@@ -106,7 +107,7 @@ sealed_then n (Grants granted) new = length (bodies new)
 sealed_then n (Refuses refusal) new = n
 sealed_then n (Sees seen) new = n
 sealed_then n (Lacks absent) new = n
-sealed_then n (Roots fsnode unode) new = n
+sealed_then n (Roots fsnode unode deleted) new = n
 sealed_then n DiskFault new = n
 sealed_then n ReadFault new = n
 sealed_then n (BadBytes wanted found) new = n

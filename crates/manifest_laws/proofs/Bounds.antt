@@ -80,7 +80,7 @@ edits_long v n ((p, Set f copied) ∷ es) h =
     let whole = length-append (edit_bytes v (p, Set f copied)) (flat_map (edit_bytes v) es) in
     omega (arith, one, rest, whole)
 
-changes_of : (c : Changeset) → is_changeset c ≡ true → list_all (λ e. is_path e.0 && is_change c.version (length c.parents) e.1) c.changes ≡ true
+pub changes_of : (c : Changeset) → is_changeset c ≡ true → list_all (λ e. is_path e.0 && is_change c.version (length c.parents) e.1) c.changes ≡ true
 changes_of c h =
     let es = (and_parts (are_parents c.parents && is_author c.author && is_signed 64 c.seconds && is_signed 32 c.offset && is_message c.message) (are_changes c.version (length c.parents) c.changes) h).1 in
     (and_parts (nat_le (length c.changes) 4096) (list_all (λ e. is_path e.0 && is_change c.version (length c.parents) e.1) c.changes) (and_parts (nat_le (length c.changes) 4096 && list_all (λ e. is_path e.0 && is_change c.version (length c.parents) e.1) c.changes) (is_sorted path_cmp c.changes) es).0).1
@@ -94,7 +94,7 @@ sets_long c h =
 
 -- ---- a history's changesets
 
-abbrev weight : Changeset → ℕ
+abbrev pub weight : Changeset → ℕ
 weight c = 45 * length (sets_of c)
 
 abbrev pub IsRight : Changeset → Type 0
@@ -140,7 +140,7 @@ stored_long (Book move) later n all h false e = absurd (true≢false e)
 stored_long (Land landing) later n all h false e = absurd (true≢false e)
 stored_long (Fault breaking) later n all h false e = omega arith
 
-history_long : (h : List Entry) → AllByRecursion IsRight (changesets_of h) → total weight (changesets_of h) ≤ sum_by record_len (bodies h)
+pub history_long : (h : List Entry) → AllByRecursion IsRight (changesets_of h) → total weight (changesets_of h) ≤ sum_by record_len (bodies h)
 history_long [] all = omega arith
 history_long (e ∷ h) all =
     let parts = both_parts IsRight (changesets_in e.body) (changesets_of h) all in
@@ -215,7 +215,7 @@ chain_right h x all =
     (all_reverse P (line_among (reverse (known h)) x) (all_line P (reverse (known h)) (all_reverse P (known h) (all_once P (map with_id (changesets_of h)) (all_with_id IsRight (changesets_of h) all))) x))
 
 -- the ids of known changesets are digests
-ids_known : (cs : List Changeset) → AllByRecursion (λ k. is_bytes 32 k.id ≡ true) (map with_id cs)
+pub ids_known : (cs : List Changeset) → AllByRecursion (λ k. is_bytes 32 k.id ≡ true) (map with_id cs)
 ids_known [] = tt
 ids_known (c ∷ cs) = (is_id (spelling c), ids_known cs)
 
@@ -238,7 +238,7 @@ chain_clear h x all =
 
 -- ---- the files of a tree
 
-abbrev with_file : (Path → Option File) → Path → Option (Path × File)
+abbrev pub with_file : (Path → Option File) → Path → Option (Path × File)
 with_file g p = option_map (λ f. (p, f)) (g p)
 
 abbrev find_with : Bool → Option File → Option File → Option File
@@ -255,13 +255,13 @@ found_by g p q found m ih true e None at = ih ∙ none_either m (g p) (ap g (tie
 found_by g p q found m ih false e (Some f) at = ih
 found_by g p q found m ih false e None at = ih
 
-found_in : (g : Path → Option File) (p : Path) (qs : List Path) → find_key path_cmp p (filter_map (with_file g) qs) ≡ cond (among p qs) (g p) None
+pub found_in : (g : Path → Option File) (p : Path) (qs : List Path) → find_key path_cmp p (filter_map (with_file g) qs) ≡ cond (among p qs) (g p) None
 found_in g p [] = refl
 found_in g p (q ∷ qs) =
     find_first p q (g q) (filter_map (with_file g) qs)
     ∙ found_by g p q (find_key path_cmp p (filter_map (with_file g) qs)) (among p qs) (found_in g p qs) (eq_by_cmp path_cmp p q) refl (g q) refl
 
-abbrev set_paths : List Changeset → List Path
+abbrev pub set_paths : List Changeset → List Path
 set_paths cs = flat_map (λ c. map (λ f. f.0) (sets_of c)) cs
 
 set_among_by : (p r : Path) (f : File) (change : FileChange) (es : List (Path × FileChange)) → (option_and_then file_of (find_key path_cmp p es) ≡ Some f → among p (map (λ f. f.0) (sets_in es)) ≡ true) → (b : Bool) → eq_by_cmp path_cmp p r ≡ b → option_and_then file_of (cond b (Some change) (find_key path_cmp p es)) ≡ Some f → among p (map (λ f. f.0) (cons_option (option_map (λ f. (r, f)) (file_of change)) (sets_in es))) ≡ true
@@ -270,11 +270,11 @@ set_among_by p r f Delete es ih true t h = none_some f h
 set_among_by p r f (Set g copied) es ih false t h = or_right (eq_by_cmp path_cmp p r) (among p (map (λ f. f.0) (sets_in es))) (ih h)
 set_among_by p r f Delete es ih false t h = ih h
 
-set_among : (p : Path) (f : File) (es : List (Path × FileChange)) → option_and_then file_of (find_key path_cmp p es) ≡ Some f → among p (map (λ f. f.0) (sets_in es)) ≡ true
+pub set_among : (p : Path) (f : File) (es : List (Path × FileChange)) → option_and_then file_of (find_key path_cmp p es) ≡ Some f → among p (map (λ f. f.0) (sets_in es)) ≡ true
 set_among p f [] h = none_some f h
 set_among p f ((r, change) ∷ es) h = set_among_by p r f change es (set_among p f es) (eq_by_cmp path_cmp p r) refl h
 
-decided_some : (b : Bool) (o : Option File) (f : File) → cond b o None ≡ Some f → o ≡ Some f
+pub decided_some : (b : Bool) (o : Option File) (f : File) → cond b o None ≡ Some f → o ≡ Some f
 decided_some true o f h = h
 decided_some false o f h = none_some f h
 
@@ -313,11 +313,11 @@ fewer_placed : (p : Path) (qs : List Path) → length (in_place p qs) ≤ suc (l
 fewer_placed p [] = omega arith
 fewer_placed p (q ∷ qs) = fewer_by p q qs (in_place p qs) (fewer_placed p qs) (path_cmp p q)
 
-fewer_rising : (ps : List Path) → length (rising ps) ≤ length ps
+pub fewer_rising : (ps : List Path) → length (rising ps) ≤ length ps
 fewer_rising [] = omega arith
 fewer_rising (p ∷ ps) = let h = fewer_placed p (rising ps) in let g = fewer_rising ps in omega (arith, h, g)
 
-sets_counted : (cs : List Changeset) → 45 * length (set_paths cs) ≤ total weight cs
+pub sets_counted : (cs : List Changeset) → 45 * length (set_paths cs) ≤ total weight cs
 sets_counted [] = omega arith
 sets_counted (c ∷ cs) =
     let both = length-append (map (λ (f : Path × File). f.0) (sets_of c)) (set_paths cs) in
@@ -364,7 +364,7 @@ rules_by v n p r f (Set g copied) es rule ih true t h = subst (FileRules p) (ap 
 rules_by v n p r f Delete es rule ih true t h = none_some f h
 rules_by v n p r f change es rule ih false t h = ih h
 
-rules_in : (v : Version) (n : ℕ) (p : Path) (f : File) (es : List (Path × FileChange)) → list_all (λ e. is_path e.0 && is_change v n e.1) es ≡ true → option_and_then file_of (find_key path_cmp p es) ≡ Some f → FileRules p f
+pub rules_in : (v : Version) (n : ℕ) (p : Path) (f : File) (es : List (Path × FileChange)) → list_all (λ e. is_path e.0 && is_change v n e.1) es ≡ true → option_and_then file_of (find_key path_cmp p es) ≡ Some f → FileRules p f
 rules_in v n p f [] rules h = none_some f h
 rules_in v n p f ((r, change) ∷ es) rules h =
     let parts = and_parts (is_path r && is_change v n change) (list_all (λ e. is_path e.0 && is_change v n e.1) es) rules in
@@ -374,7 +374,7 @@ pub rules_tree : (cs : List Changeset) → AllByRecursion IsRight cs → (p : Pa
 rules_tree [] all p f h = none_some f h
 rules_tree (c ∷ cs) all p f h = from_tree c cs p f (λ g. rules_in c.version (length c.parents) p f c.changes (changes_of c all.0) g) (λ g. rules_tree cs all.1 p f g) h
 
-rules_filed : (t : Path → Option File) → ((p : Path) (f : File) → t p ≡ Some f → FileRules p f) → (ps : List Path) → AllByRecursion (λ f. FileRules f.0 f.1) (filter_map (with_file t) ps)
+pub rules_filed : (t : Path → Option File) → ((p : Path) (f : File) → t p ≡ Some f → FileRules p f) → (ps : List Path) → AllByRecursion (λ f. FileRules f.0 f.1) (filter_map (with_file t) ps)
 rules_filed t good [] = tt
 rules_filed t good (p ∷ ps) = by (t p) refl (rules_filed t good ps)
   where
@@ -385,7 +385,7 @@ rules_filed t good (p ∷ ps) = by (t p) refl (rules_filed t good ps)
 pub rules_files : (cs : List Changeset) → AllByRecursion IsRight cs → AllByRecursion (λ f. FileRules f.0 f.1) (files cs)
 rules_files cs all = rules_filed (tree cs) (rules_tree cs all) (touched_paths cs)
 
-sizes_bounded : (fs : Files) → AllByRecursion (λ f. FileRules f.0 f.1) fs → total_size fs ≤ most_size * length fs
+pub sizes_bounded : (fs : Files) → AllByRecursion (λ f. FileRules f.0 f.1) fs → total_size fs ≤ most_size * length fs
 sizes_bounded [] all = omega arith
 sizes_bounded (f ∷ fs) all =
     let one : f.1.size ≤ most_size = all.0.small in

@@ -6,8 +6,9 @@ use Rattle.std.specs.List.{AllByRecursion, list_any, dedup, dedup_from}
 use Rattle.std.specs.Ordering.{eq_by_cmp}
 use Rattle.std.specs.Cmp.Lexicographic.{texts_ties}
 use Rattle.std.proofs.lemmas.Bool.{or_parts, or_left, or_right, lt-ltb, ne_eqb}
-use Rattle.std.proofs.lemmas.List.{length-map}
+use Rattle.std.proofs.lemmas.List.{length-map, map-append}
 use Rattle.std.proofs.lemmas.List.Folds.{list_any-append}
+use Rattle.byte_fields.specs.Bytes.{Id}
 use Rattle.byte_fields.proofs.Lists.{weaker, each_of, contains_head, contains_tail}
 use Rattle.changeset_model.specs.Path.{Path, path_cmp, is_prefix, is_strict_prefix, rising}
 use Rattle.changeset_model.specs.Changeset.{File, FileChange, Changeset}
@@ -15,7 +16,8 @@ use Rattle.changeset_model.proofs.Rising.{Contains-rising}
 use Rattle.history_model.specs.Tree.{is_dir, below, names}
 use Rattle.manifest_model.specs.Fsnode.{fsnode}
 use Rattle.manifest_model.specs.Unode.{is_renewed}
-use Rattle.manifest_model.specs.Manifests.{above, dirs_of}
+use Rattle.manifest_model.specs.Deleted.{has_node}
+use Rattle.manifest_model.specs.Manifests.{above, dirs_of, gone_paths}
 use Rattle.manifest_model.proofs.Derivations.{among, tied_same}
 use Rattle.manifest_laws.specs.Changes.{renewed_dirs}
 use Rattle.manifest_laws.proofs.Under.{Files}
@@ -84,6 +86,25 @@ directories_are fs d =
 pub renewed_are : (c : Changeset) (d : Path) → Contains (renewed_dirs c) d ↔ (is_renewed c d ≡ true)
 renewed_are c d =
     rises ([] ∷ flat_map (λ (e : Path × FileChange). above e.0) c.changes) d (is_renewed c d) (λ i. root_is d i || above_any (λ (e : Path × FileChange). e.0) c.changes d i)
+
+-- ---- the paths of deleted nodes
+
+up_to : (d q : Path) → among d (above q ++ q ∷ []) ≡ is_prefix d q
+up_to [] [] = refl
+up_to [] (e ∷ q) = refl
+up_to (k ∷ d) [] = refl
+up_to (k ∷ d) (e ∷ q) =
+    ap (among (k ∷ d)) (sym (map-append (λ p. e ∷ p) (above q) (q ∷ []))) ∙ among_under k e d (above q ++ q ∷ []) ∙ ap (λ b. bytes_eq k e && b) (up_to d q)
+
+up_to_any : (gone : List (Path × Id)) (d : Path) → among d (flat_map (λ e. above e.0 ++ e.0 ∷ []) gone) ≡ list_any (λ e. is_prefix d e.0) gone
+up_to_any [] d = refl
+up_to_any (e ∷ gone) d =
+    list_any-append (eq_by_cmp path_cmp d) (above e.0 ++ e.0 ∷ []) (flat_map (λ e. above e.0 ++ e.0 ∷ []) gone)
+    ∙ (λ i. up_to d e.0 i || up_to_any gone d i)
+
+pub gone_paths_are : (gone : List (Path × Id)) (d : Path) → Contains (gone_paths gone) d ↔ (has_node gone d ≡ true)
+gone_paths_are gone d =
+    rises ([] ∷ flat_map (λ (e : Path × Id). above e.0 ++ e.0 ∷ []) gone) d (has_node gone d) (λ i. root_is d i || up_to_any gone d i)
 
 -- ---- a directory without entries
 

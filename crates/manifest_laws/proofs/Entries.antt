@@ -16,7 +16,8 @@ use Rattle.history_model.specs.Chain.{changesets}
 use Rattle.history_model.specs.Tree.{decides, files, file_at, is_file, is_dir, below}
 use Rattle.manifest_model.specs.Fsnode.{Fsnode, FsEntry, FsFile, fs_dir, fsnode}
 use Rattle.manifest_model.specs.Unode.{Unode, UnodeEntry, unode_entry, unode_id, unode}
-use Rattle.manifest_model.specs.Manifests.{dirs_of, paths_of, manifests_by}
+use Rattle.manifest_model.specs.Deleted.{has_node, node_in}
+use Rattle.manifest_model.specs.Manifests.{dirs_of, paths_of, gone_paths, manifests_by}
 use Rattle.manifest_model.proofs.Derivations.{among, tied_same}
 use Rattle.manifest_model.proofs.Links.{file_at-files, tree_on-cons}
 use Rattle.manifest_laws.specs.Changes.{AreClear, tree_at, files_in}
@@ -27,7 +28,7 @@ use Rattle.manifest_laws.proofs.Flat.{file_under, flat}
 use Rattle.manifest_laws.proofs.Fsnodes as fsnodes
 use Rattle.manifest_laws.proofs.Unodes as unodes
 use Rattle.manifest_laws.proofs.Steps.{both_ways}
-use Rattle.manifest_laws.proofs.Directories.{Contains-among, directories_are}
+use Rattle.manifest_laws.proofs.Directories.{Contains-among, directories_are, gone_paths_are}
 use Rattle.manifest_laws.proofs.Lists.{is_so, none_some}
 
 -- ---- entries by rising names are those that are found
@@ -150,10 +151,19 @@ among_dirs fs d =
     let is = directories_are fs d in
     both_ways (among d (dirs_of fs)) (is_dir fs d) (λ h. is.0 (held.1 h)) (λ h. held.0 (is.1 h))
 
-pub fsnode_found : (x : Id) (fs : List (Path × File)) (node : Path → Unode) (d : Path) → find_key path_cmp d (manifests_by x fs node).fsnodes ≡ cond (is_dir fs d) (Some (fsnode fs d)) None
-fsnode_found x fs node d = found_of (fsnode fs) d (dirs_of fs) ∙ ap (λ b. cond b (Some (fsnode fs d)) None) (among_dirs fs d)
+pub fsnode_found : (x : Id) (fs : List (Path × File)) (gone : List (Path × Id)) (node : Path → Unode) (d : Path) → find_key path_cmp d (manifests_by x fs gone node).fsnodes ≡ cond (is_dir fs d) (Some (fsnode fs d)) None
+fsnode_found x fs gone node d = found_of (fsnode fs) d (dirs_of fs) ∙ ap (λ b. cond b (Some (fsnode fs d)) None) (among_dirs fs d)
 
-pub unode_found : (x : Id) (fs : List (Path × File)) (node : Path → Unode) (p : Path) → find_key path_cmp p (manifests_by x fs node).unodes ≡ cond (is_dir fs p || is_file fs p) (Some (node p)) None
-unode_found x fs node p =
+pub unode_found : (x : Id) (fs : List (Path × File)) (gone : List (Path × Id)) (node : Path → Unode) (p : Path) → find_key path_cmp p (manifests_by x fs gone node).unodes ≡ cond (is_dir fs p || is_file fs p) (Some (node p)) None
+unode_found x fs gone node p =
     found_of node p (paths_of fs)
     ∙ ap (λ b. cond b (Some (node p)) None) (list_any-append (eq_by_cmp path_cmp p) (dirs_of fs) (map (λ (f : Path × File). f.0) fs) ∙ (λ i. among_dirs fs p i || sym (is_some-find path_cmp p fs) i))
+
+among_gone : (gone : List (Path × Id)) (d : Path) → among d (gone_paths gone) ≡ has_node gone d
+among_gone gone d =
+    let held = Contains-among (gone_paths gone) d in
+    let is = gone_paths_are gone d in
+    both_ways (among d (gone_paths gone)) (has_node gone d) (λ h. is.0 (held.1 h)) (λ h. held.0 (is.1 h))
+
+pub deleted_found : (x : Id) (fs : List (Path × File)) (gone : List (Path × Id)) (node : Path → Unode) (d : Path) → find_key path_cmp d (manifests_by x fs gone node).deleted_nodes ≡ cond (has_node gone d) (Some (node_in gone d)) None
+deleted_found x fs gone node d = found_of (node_in gone) d (gone_paths gone) ∙ ap (λ b. cond b (Some (node_in gone d)) None) (among_gone gone d)

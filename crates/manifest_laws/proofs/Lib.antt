@@ -18,3 +18,6 @@ pub mod Reach
 pub mod FsSide
 pub mod Seen
 pub mod UnodeSide
+pub mod PastBounds
+pub mod GoneRules
+pub mod PastUnodes

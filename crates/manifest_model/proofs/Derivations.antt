@@ -1,12 +1,8 @@
--- What a job derives is what the definitions give from scratch.
-use Rattle.std.proofs.Common.{◌≡◌, ℕ, zero, suc, ◌+◌, ◌++◌, ◌<◌, Bool, true, false, cond, ◌||◌, ◌&&◌, List, [], ◌∷◌, map, length, refl, sym, ap, ◌∙◌, arith}
-use Rattle.std.specs.Prelude.{Option, Some, None, is_some, filter_map, if◌then◌else◌, flat_map, bytes_eq, unwrap_or, ◌==◌, nat_lt}
+-- The paths of manifests.
+use Rattle.std.proofs.Common.{◌≡◌, ℕ, ◌<◌, Bool, true, false, cond, ◌||◌, ◌&&◌, List, [], ◌∷◌, map, length, refl, sym, ap, ◌∙◌, arith}
+use Rattle.std.specs.Prelude.{Some, flat_map, bytes_eq, unwrap_or, ◌==◌, nat_lt}
 use mathlib.Core.Bool.{true≢false}
-use Rattle.std.specs.List.{AllByRecursion, list_any, cons_option}
-use Rattle.std.specs.Option.{option_map_or}
-use Rattle.std.proofs.lemmas.List.{map-append}
-use Rattle.sha2.specs.Sha256.{sha256}
-use Rattle.history_model.specs.Past.{Past, Begin, At}
+use Rattle.std.specs.List.{AllByRecursion, list_any}
 use Rattle.std.specs.declared.cmp.Ordering.{Ordering}
 use Rattle.std.specs.declared.cmp.Ordering.TheVariants.{Less, Equal, Greater}
 use Rattle.std.specs.Ordering.{is_eq, eq_by_cmp, ordering_then}
@@ -17,13 +13,11 @@ use Rattle.std.specs.FinMap.Entries.{is_some-find}
 use Rattle.std.proofs.lemmas.List.Folds.{list_any-append}
 use Rattle.std.proofs.lemmas.Bool.{and_parts, and_from, lt-ltb, ltb-true, eqb-true}
 use Rattle.std.proofs.lemmas.Slice.Eq.{bytes_eq-Decides}
-use Rattle.changeset_model.specs.Path.{Path, text_of, path_cmp, is_prefix, is_strict_prefix, rising}
-use Rattle.changeset_model.specs.Changeset.{File, set_at}
-use Rattle.history_model.specs.History.{Known}
-use Rattle.history_model.specs.Tree.{files_in, file_at, is_file, is_dir, below, children, depth}
-use Rattle.manifest_model.specs.Unode.{Unode, Manifest, FileUnode, unode_id, unode_entry, is_renewed, no_unode}
-use Rattle.manifest_model.specs.Merged.{Side, files_before, dirs_before, parents_from, differ, kept, merged_within, side_of, unode_at}
-use Rattle.manifest_model.specs.Manifests.{above, dirs_of, paths_of, Manifests, manifests_by, manifests_in, Job, unode_in, side_in, derive}
+use Rattle.changeset_model.specs.Path.{Path, path_cmp, is_prefix, is_strict_prefix, rising}
+use Rattle.changeset_model.specs.Changeset.{File}
+use Rattle.history_model.specs.Tree.{is_file, is_dir}
+use Rattle.manifest_model.specs.Unode.{Unode, no_unode}
+use Rattle.manifest_model.specs.Manifests.{above, dirs_of, paths_of}
 use Rattle.changeset_model.proofs.Paths.{path_cmp-IsAntisymmetric}
 use Rattle.changeset_model.proofs.Rising.{from_rising}
 use Rattle.history_model.proofs.Landings.{or_left, or_true as or_right}
@@ -50,7 +44,7 @@ look_by f p q qs ih true e h = ap f (sym (tied_same p q e))
 look_by f p q qs ih false e h = ih h
 
 -- a path among those listed is found with what was listed for it
-look : (f : Path → Unode) (p : Path) (ps : List Path) → among p ps ≡ true → unwrap_or (find_key path_cmp p (map (λ q. (q, f q)) ps)) no_unode ≡ f p
+pub look : (f : Path → Unode) (p : Path) (ps : List Path) → among p ps ≡ true → unwrap_or (find_key path_cmp p (map (λ q. (q, f q)) ps)) no_unode ≡ f p
 look f p [] h = absurd (true≢false (sym h))
 look f p (q ∷ qs) h = look_by f p q qs (look f p qs) (eq_by_cmp path_cmp p q) refl h
 
@@ -106,72 +100,9 @@ dir_above fs (e ∷ p) h =
     or_case (length (e ∷ p) == 0) (list_any (λ f. is_strict_prefix (e ∷ p) f.0) fs) (λ g. (let none = eqb-true (length (e ∷ p)) 0 g in absurd (omega arith))) (λ g. flat_has (e ∷ p) fs g) h
 
 -- a directory's path is among the paths
-dir_has : (fs : List (Path × File)) (p : Path) → is_dir fs p ≡ true → among p (paths_of fs) ≡ true
+pub dir_has : (fs : List (Path × File)) (p : Path) → is_dir fs p ≡ true → among p (paths_of fs) ≡ true
 dir_has fs p h = list_any-append (eq_by_cmp path_cmp p) (dirs_of fs) (map (λ f. f.0) fs) ∙ or_left _ _ (rising_has p ([] ∷ flat_map (λ f. above f.0) fs) (dir_above fs p h))
 
 -- and a file's too
-file_has : (fs : List (Path × File)) (p : Path) → is_file fs p ≡ true → among p (paths_of fs) ≡ true
+pub file_has : (fs : List (Path × File)) (p : Path) → is_file fs p ≡ true → among p (paths_of fs) ≡ true
 file_has fs p h = list_any-append (eq_by_cmp path_cmp p) (dirs_of fs) (map (λ f. f.0) fs) ∙ or_right (among p (dirs_of fs)) _ (sym (is_some-find path_cmp p fs) ∙ h)
-
--- ---- a job
-
-guarded : (b : Bool) (m n : Unode) → (b ≡ true → m ≡ n) → cond b (Some m) None ≡ cond b (Some n) None
-guarded true m n e = ap (λ u. Some u) (e refl)
-guarded false m n e = refl
-
--- the sides matter by the nodes before alone
-module _ (c : Known) (now : List (Path × File)) (sides others : List Side) (files_are : (p : Path) → files_before sides p ≡ files_before others p) (dirs_are : (p : Path) → dirs_before sides p ≡ dirs_before others p) where
-  within_same : (n : ℕ) (p : Path) → merged_within c now sides n p ≡ merged_within c now others n p
-  within_same zero p = (λ i. option_map_or (λ f. cond (is_some (set_at c.changeset p) || differ (files_are p i)) (FileUnode (parents_from (files_are p i)) f.content f.kind (sha256 (text_of p)) c.id) (kept (files_are p i))) (file_at now p) (kept (dirs_are p i)))
-  within_same (suc n) p = (λ i. option_map_or (λ f. cond (is_some (set_at c.changeset p) || differ (files_are p i)) (FileUnode (parents_from (files_are p i)) f.content f.kind (sha256 (text_of p)) c.id) (kept (files_are p i))) (file_at now p)
-      (cond (is_renewed c.changeset p || differ (dirs_are p i))
-      (Manifest (parents_from (dirs_are p i)) c.id (map (λ child. (child.0, unode_entry child.1 (unode_id (within_same n (p ++ child.0 ∷ []) i)))) (children (below p now))))
-      (kept (dirs_are p i))))
-
--- the manifests of a parent, if there is one
-abbrev pub of_past : Past → List Manifests
-of_past Begin = []
-of_past (At k first second) = manifests_in k.id (At k first second) ∷ []
-
-files_by : (past : Past) (p : Path) → files_before (map side_in (of_past past)) p ≡ files_before (side_of past (unode_at past)) p
-files_by Begin p = refl
-files_by (At k first second) p =
-    let past = At k first second in
-    let files = files_in past in
-    (λ i. cons_option (guarded (is_file files p) (unode_in (manifests_in k.id past) p) (unode_at past p) (λ h. look (unode_at past) p (paths_of files) (file_has files p h)) i) [])
-
-dirs_by : (past : Past) (p : Path) → dirs_before (map side_in (of_past past)) p ≡ dirs_before (side_of past (unode_at past)) p
-dirs_by Begin p = refl
-dirs_by (At k first second) p =
-    let past = At k first second in
-    let files = files_in past in
-    (λ i. cons_option (guarded (is_dir files p) (unode_in (manifests_in k.id past) p) (unode_at past p) (λ h. look (unode_at past) p (paths_of files) (dir_has files p h)) i) [])
-
-some_append : (o : Option Unode) (xs ys : List Unode) → cons_option o (xs ++ ys) ≡ cons_option o xs ++ ys
-some_append None xs ys = refl
-some_append (Some n) xs ys = refl
-
-before_append : (f : Side → Option Unode) (xs ys : List Side) → filter_map f (xs ++ ys) ≡ filter_map f xs ++ filter_map f ys
-before_append f [] ys = refl
-before_append f (x ∷ xs) ys = ap (cons_option (f x)) (before_append f xs ys) ∙ some_append (f x) (filter_map f xs) (filter_map f ys)
-
-abbrev pub job_of_past : Known → Past → Past → List Manifests → Job
-job_of_past c first second parents = record { changeset = c; files = files_in (At c first second); parents = parents }
-
--- on the manifests of the parents, which are those from scratch
-pub derives : (c : Known) (first second : Past) → derive (job_of_past c first second (of_past first ++ of_past second)) ≡ manifests_in c.id (At c first second)
-derives c first second =
-    let now = files_in (At c first second) in
-    let a = of_past first in
-    let b = of_past second in
-    let left = side_of first (unode_at first) in
-    let right = side_of second (unode_at second) in
-    let is_f = λ (p : Path) (side : Side). if is_file side.files p then Some (side.unode_at p) else None in
-    let is_d = λ (p : Path) (side : Side). if is_dir side.files p then Some (side.unode_at p) else None in
-    let files_are : (p : Path) → files_before (map side_in (a ++ b)) p ≡ files_before (left ++ right) p =
-    λ p. ap (λ sides. files_before sides p) (map-append side_in a b) ∙ before_append (is_f p) (map side_in a) (map side_in b) ∙ (λ i. files_by first p i ++ files_by second p i) ∙ sym (before_append (is_f p) left right)
-    in
-    let dirs_are : (p : Path) → dirs_before (map side_in (a ++ b)) p ≡ dirs_before (left ++ right) p =
-    λ p. ap (λ sides. dirs_before sides p) (map-append side_in a b) ∙ before_append (is_d p) (map side_in a) (map side_in b) ∙ (λ i. dirs_by first p i ++ dirs_by second p i) ∙ sym (before_append (is_d p) left right)
-    in
-    (λ i. manifests_by c.id now (λ p. within_same c now (map side_in (a ++ b)) (left ++ right) files_are dirs_are (depth now + 1) p i))

@@ -4,3 +4,5 @@ pub mod Nodes
 pub mod Decoded
 pub mod Merging
 pub mod Places
+pub mod Deletions
+pub mod Jobs

@@ -46,7 +46,7 @@ found_by g p q found m ih false e (Some f) at = ih
 found_by g p q found m ih false e None at = ih
 
 -- what is found at a path of files that were listed by their paths
-found_in : (g : Path → Option File) (p : Path) (qs : List Path) → find_key path_cmp p (filter_map (with_file g) qs) ≡ cond (among p qs) (g p) None
+pub found_in : (g : Path → Option File) (p : Path) (qs : List Path) → find_key path_cmp p (filter_map (with_file g) qs) ≡ cond (among p qs) (g p) None
 found_in g p [] = refl
 found_in g p (q ∷ qs) =
     find_first p q (g q) (filter_map (with_file g) qs)

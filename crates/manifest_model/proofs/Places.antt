@@ -1,8 +1,7 @@
 -- The readers of nodes find their faults at fields.
-use Rattle.std.proofs.Common.{◌≡◌, ℕ, zero, suc, Bool, true, false, cond, List, [], ◌∷◌, refl}
+use Rattle.std.proofs.Common.{ℕ, zero, suc, Bool, true, false, cond, List, [], ◌∷◌}
 use Rattle.std.specs.Prelude.{nat_lt, ◌&&◌, ◌||◌, ◌==◌, Option, Some, None}
 use Rattle.std.specs.Int.{from_be_bytes, w8, w32, w64}
-use Rattle.byte_fields.specs.Bytes.{Id}
 use Rattle.byte_fields.specs.Reading.{Reader, keeping, number, any}
 use Rattle.byte_fields.proofs.Places.{KeepsPlaces, HasSize, IsOnlyCut, keeps_value, keeps_number, keeps_exactly, keeps_id, keeps_then, keeps_last, keeps_times, keeps_with_len, keeps_parts, field_size, number_cut, size_then, size_last, cut_then, cut_last}
 use Rattle.changeset_model.specs.Path.{is_element}
@@ -11,7 +10,7 @@ use Rattle.changeset_model.proofs.Places.{keeps_file}
 use Rattle.history_model.proofs.Places.{keeps_optional}
 use Rattle.manifest_model.specs.Fsnode.{Summary, FsFile, FsDir}
 use Rattle.manifest_model.specs.Unode.{Manifest, FileUnode}
-use Rattle.manifest_model.specs.NodeReading.{is_after_name, entry, entries, summary_fields, summary, fs_entry_of, fs_entry, fsnode_fields, unode_entry_for, one_unode_entry, node_parents, manifest, file_unode, unode_fields, deleted_fields}
+use Rattle.manifest_model.specs.NodeReading.{is_after_name, entry, entries, summary, fs_entry_of, fs_entry, fsnode_fields, unode_entry_for, one_unode_entry, node_parents, manifest, file_unode, unode_fields, deleted_fields}
 
 keeps_entry : {X : Type 0} {r : Reader X} (c : ℕ) (before : Option (List ℕ)) → KeepsPlaces c r → KeepsPlaces c (entry r before)
 keeps_entry c before k =

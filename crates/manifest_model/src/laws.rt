@@ -1,15 +1,17 @@
 //! Laws of manifests, each the contract of a function that does nothing.
-ghost use Rattle.std.specs.Prelude.{◌≡◌, ◌↔◌, ℕ, true, cond, None, Some, Ok, Err, List, [], ◌∷◌, reverse, find, option_map, is_some};
+ghost use Rattle.std.specs.Prelude.{◌≡◌, ◌↔◌, ℕ, true, cond, None, Some, Ok, Err, List, [], ◌∷◌, ◌++◌, reverse, find, option_map, is_some};
+ghost use Rattle.std.specs.FinMap.{find as find_key};
 ghost use Rattle.byte_fields.specs.Bytes.{IsBytes};
 ghost use Rattle.byte_fields.specs.Places.{NamesPlace};
-ghost use Rattle.changeset_model.specs.Path.{Path, text_of};
+ghost use Rattle.changeset_model.specs.Path.{Path, path_cmp, text_of};
 ghost use Rattle.changeset_model.specs.Changeset.{File, set_at};
 ghost use Rattle.byte_fields.specs.Bytes.{Id};
 ghost use Rattle.history_model.specs.Chain.{line, changesets};
-ghost use Rattle.history_model.specs.Past.{past_on, HaveOneParent};
+ghost use Rattle.history_model.specs.Past.{Past, Begin, At, past_on, HaveOneParent};
 ghost use Rattle.manifest_model.specs.Merged.{unode_at};
-ghost use Rattle.manifest_model.specs.Manifests.{manifests_on, manifests_of};
-ghost use Rattle.history_model.specs.Tree.{tree};
+ghost use Rattle.manifest_model.specs.Manifests.{Manifests, manifests_on, manifests_in, manifests_of, derive};
+ghost use Rattle.history_model.specs.Tree.{tree, tree_of, files_in};
+ghost use Rattle.manifest_model.specs.Deleted.{deleted_at, deletions, gone_on};
 ghost use Rattle.history_model.specs.History.{Known};
 ghost use Rattle.sha2.specs.Sha256.{sha256};
 ghost use Rattle.manifest_model.specs.Unode.{Unode, FileUnode, linknode_of, is_unode, unode, unode_bytes, unode_id};
@@ -58,4 +60,26 @@ pub fn a_node_fault_is_at_its_field()
     ensures fsnode { (bytes : List ℕ) (at : ℕ) → fsnode_of bytes ≡ Err at → NamesPlace 0 fsnode_fields bytes at }
     ensures unode { (bytes : List ℕ) (at : ℕ) → unode_of bytes ≡ Err at → NamesPlace 0 unode_fields bytes at }
     ensures deleted { (bytes : List ℕ) (at : ℕ) → deleted_of bytes ≡ Err at → NamesPlace 1 deleted_fields bytes at }
+{}
+
+/// The deletions of a past have at each path what was deleted there.
+pub fn deletions_are_by_their_paths()
+    ensures { (past : Past) (p : Path) → find_key path_cmp p (deletions past) ≡ deleted_at past p }
+{}
+
+/// With one changeset more nothing is deleted where it has a file; where only its first parent has one, it deleted that one;
+/// and where neither has one it is as it was at the first parent. The second parent tells nothing of it.
+pub fn deletion_with_one_more()
+    ensures there { (c : Known) (first second : Past) (p : Path) (f : File) → tree_of (At c first second) p ≡ Some f → deleted_at (At c first second) p ≡ None }
+    ensures gone { (c : Known) (first second : Past) (p : Path) (f : File) → tree_of (At c first second) p ≡ None → tree_of first p ≡ Some f → deleted_at (At c first second) p ≡ Some c.id }
+    ensures before { (c : Known) (first second : Past) (p : Path) → tree_of (At c first second) p ≡ None → tree_of first p ≡ None → deleted_at (At c first second) p ≡ deleted_at first p }
+    ensures all { (c : Known) (first second : Past) → gone_on c.id (files_in (At c first second)) (files_in first) (deletions first) ≡ deletions (At c first second) }
+{}
+
+/// What is derived from the manifests of the parents is what the definitions give from scratch. A changeset without a first parent has no second one.
+pub fn a_job_derives_its_manifests()
+    ensures root { (c : Known) → derive (record { changeset = c; files = files_in (At c Begin Begin); parents = [] }) ≡ manifests_in c.id (At c Begin Begin) }
+    ensures line { (c k : Known) (first second : Past) → derive (record { changeset = c; files = files_in (At c (At k first second) Begin); parents = manifests_in k.id (At k first second) ∷ [] }) ≡ manifests_in c.id (At c (At k first second) Begin) }
+    ensures merge { (c k j : Known) (first second third fourth : Past) → derive (record { changeset = c; files = files_in (At c (At k first second) (At j third fourth)); parents = manifests_in k.id (At k first second) ∷ manifests_in j.id (At j third fourth) ∷ [] }) ≡
+        manifests_in c.id (At c (At k first second) (At j third fourth)) }
 {}

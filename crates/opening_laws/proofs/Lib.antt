@@ -8,3 +8,5 @@ pub mod Opening
 pub mod Pieces
 pub mod Held
 pub mod Callers
+pub mod Whoever
+pub mod Denials

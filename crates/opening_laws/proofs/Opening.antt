@@ -16,14 +16,18 @@ use Rattle.byte_fields.specs.Reading.{any, keeping}
 use Rattle.byte_fields.proofs.FieldLemmas.{all_bytes, keeps, reads_with_len, spelled_32, spelled_64}
 use Rattle.changeset_model.specs.Changeset.{Changeset, id_of, touched_paths, most_content}
 use Rattle.changeset_model.proofs.Accepting.{IsBytes-drop}
-use Rattle.history_model.specs.History.{Body, Content, Whole, Book, Entry, is_stored, unnumbered, bodies, stored, is_down, known, is_known, content_len, holds_policy}
+use Rattle.history_model.specs.History.{Body, Content, Whole, Book, Entry, is_stored, unnumbered, bodies, stored, is_down, known, is_known, content_len, holds_policy, policy_of}
 use Rattle.history_model.specs.Bookmark.{is_name, head}
 use Rattle.history_model.specs.Pushrebase.{Fork, fork, clash, seconds_at, offset_at, on_parent, rewrite, moment_of}
 use Rattle.history_model.specs.Journal.{Header, is_header, mark, header_bytes, open_record, payload, most_payload, IsPayload, HoldsRecords, held, HoldsParts, Stands}
 use Rattle.history_model.specs.Payload.{payload_body}
-use Rattle.reply_model.specs.Reply.{is_ask, Ask, PutContent, PutWhole, PutChangeset, SetBookmark, LandDraft, ids_in, are_pieces, parts_of, told, is_merge, Refusal, Down, TooLong, NoChangeset, Moved, NoBookmark, NoRoot, TooFarBehind, AlreadyIn, StackTooLong, MergeInStack, MergeInRange, Clash, ContentPut, WholePut, BookmarkSet, Granted, Judged, ◌>>=◌, refuse_if, refuse_some, unchanged, entered, most_range, most_stack, enter_landing, land, judge}
+use Rattle.policy_model.specs.Rules.{Denial, bookmark_place}
+use Rattle.policy_model.specs.Held.{denied_under}
+use Rattle.history_model.proofs.Policies.{held_has_text}
+use Rattle.changeset_model.specs.Path.{Path}
+use Rattle.reply_model.specs.Reply.{is_ask, Ask, PutContent, PutWhole, PutChangeset, SetBookmark, LandDraft, ids_in, are_pieces, parts_of, told, is_merge, Refusal, Down, TooLong, NoChangeset, Moved, NoBookmark, NoRoot, TooFarBehind, AlreadyIn, StackTooLong, MergeInStack, MergeInRange, Clash, ContentPut, WholePut, BookmarkSet, Granted, Judged, ◌>>=◌, refuse_if, refuse_some, unchanged, entered, most_range, most_stack, enter_landing, land, judge, SetPolicy, denial, denied_at}
 use Rattle.reply_model.specs.Legal.{MayFollow, GoesOn, IsLegal}
-use Rattle.reply_model.specs.Opening.{OpenFault, Damaged, NotARepository, nobody, ask_of, made_by, next_entry, next_record, go_on, records, opens_with, version_in, opens}
+use Rattle.reply_model.specs.Opening.{Damaged, NotARepository, nobody, ask_of, made_by, next_entry, next_record, go_on, records, opens_with, version_in, opens}
 use Rattle.reply_model.proofs.Histories.{bodies-append, IsLegal-push}
 use Rattle.reply_model.proofs.Opened.{opens_as, flat_is, joined_more}
 use Rattle.byte_fields.proofs.Booleans.{same_some}
@@ -45,7 +49,10 @@ same_put header h bytes other x n =
 
 -- and of a whole the digest and length of its pieces, joined
 same_join : (header : Header) (h : List Entry) (body : List ℕ) (pieces others : List (List ℕ)) → sha256 (concat pieces) ≡ sha256 (concat others) → length (concat pieces) ≡ length (concat others) → judge header h (PutWhole body pieces) ≡ judge header h (PutWhole body others)
-same_join header h body pieces others x n = refl
+same_join header h body pieces others x n =
+    (λ i. refuse_if (is_down h) Down >>= λ _.
+    parts_of header h body >>= λ parts.
+    cond (is_some (content_len h (x i))) (unchanged (WholePut (x i) (n i))) (entered header h (WholePut (x i) (n i)) (Whole (x i) (n i) parts)))
 
 -- ---- the next entry
 
@@ -87,11 +94,21 @@ told_asked : (b : Bool) (caller : List ℕ) (rule : List ℕ → Bool) → rule 
 told_asked true caller rule h g = h
 told_asked false caller rule h g = g
 
-set_same : (header : Header) (h : List Entry) (who caller name : List ℕ) (from to : Option Id) → told h who ≡ told h caller → judge header h (SetBookmark who name from to) ≡ judge header h (SetBookmark caller name from to)
-set_same header h who caller name from to same =
+-- and is denied nothing
+denied_by : (b : Bool) (held : Option (List ℕ)) → b ≡ is_some held → (caller : List ℕ) (ps : List Path) → denied_under held (unwrap_or (cond b (Some caller) None) nobody) ps ≡ denied_under held caller ps
+denied_by true held e caller ps = refl
+denied_by false None e caller ps = refl
+denied_by false (Some text) e caller ps = absurd (true≢false (sym e))
+
+denied_back : (h : List Entry) (caller : List ℕ) (ps : List Path) → denied_at h (unwrap_or (told h caller) nobody) ps ≡ denied_at h caller ps
+denied_back h caller ps = denied_by (holds_policy h) (policy_of h) (held_has_text h) caller ps
+
+pub set_same : (header : Header) (h : List Entry) (who caller name : List ℕ) (from to : Option Id) → told h who ≡ told h caller → denied_at h who (bookmark_place name ∷ []) ≡ denied_at h caller (bookmark_place name ∷ []) → judge header h (SetBookmark who name from to) ≡ judge header h (SetBookmark caller name from to)
+set_same header h who caller name from to same alike =
     (λ i. refuse_if (is_down h) Down >>= λ _.
     refuse_some (find (λ x. not (is_known (known h) x)) (option_to_list to)) NoChangeset >>= λ _.
     refuse_if (not (option_eq bytes_eq (head h name) from)) (Moved (head h name)) >>= λ _.
+    refuse_some (alike i) denial >>= λ _.
     cond (option_eq bytes_eq from to) (unchanged BookmarkSet) (entered header h BookmarkSet (Book (record { name = name; from = from; to = to; caller = same i }))))
 
 -- a moment that isn't told makes none
@@ -125,32 +142,33 @@ same_rewrite : (stack : List Changeset) (x : Id) (moment : ℕ) → rewrite stac
 same_rewrite stack x moment = rewrite_by (list_any (λ c. is_second c.version) stack) stack x moment refl
 
 -- a landing from the fork on
-abbrev land_on : Header → List Entry → Option (List ℕ) → List ℕ → Id → Id → Fork → List Changeset → Option ℕ → Result Judged Refusal
-land_on header h caller name draft old f new at =
+abbrev land_on : Header → List Entry → Option Denial → Option (List ℕ) → List ℕ → Id → Id → Fork → List Changeset → Option ℕ → Result Judged Refusal
+land_on header h against caller name draft old f new at =
     refuse_if (nat_lt most_range (length f.range)) (TooFarBehind (length f.range)) >>= λ _.
     refuse_if (length f.stack == 0) AlreadyIn >>= λ _.
     refuse_if (nat_lt most_stack (length f.stack)) (StackTooLong (length f.stack)) >>= λ _.
     refuse_some (option_map id_of (find is_merge f.stack)) MergeInStack >>= λ _.
     refuse_some (option_map id_of (find is_merge f.range)) MergeInRange >>= λ _.
+    refuse_some against denial >>= λ _.
     refuse_some (clash (touched_paths f.stack) (touched_paths f.range)) (λ pair. Clash pair.0 pair.1) >>= λ _.
     enter_landing header h caller name old draft new at
 
 land_is : (header : Header) (h : List Entry) (caller name : List ℕ) (draft : Id) (moment : ℕ) (old : Id) (f : Fork) → head h name ≡ Some old → fork (known h) old draft ≡ Some f →
-    land header h caller name draft moment ≡ (refuse_if (not (is_known (known h) draft)) (NoChangeset draft) >>= λ _. land_on header h (told h caller) name draft old f (rewrite f.stack old moment) (moment_of f.stack moment))
+    land header h caller name draft moment ≡ (refuse_if (not (is_known (known h) draft)) (NoChangeset draft) >>= λ _. land_on header h (denied_at h caller (touched_paths f.stack)) (told h caller) name draft old f (rewrite f.stack old moment) (moment_of f.stack moment))
 land_is header h caller name draft moment old f at forked =
     (λ i. ok_or (at i) NoBookmark >>= λ old.
     refuse_if (not (is_known (known h) draft)) (NoChangeset draft) >>= λ _.
     ok_or (fork (known h) old draft) NoRoot >>= λ f.
-    land_on header h (told h caller) name draft old f (rewrite f.stack old moment) (moment_of f.stack moment))
+    land_on header h (denied_at h caller (touched_paths f.stack)) (told h caller) name draft old f (rewrite f.stack old moment) (moment_of f.stack moment))
     ∙ (λ i. refuse_if (not (is_known (known h) draft)) (NoChangeset draft) >>= λ _.
     ok_or (forked i) NoRoot >>= λ f.
-    land_on header h (told h caller) name draft old f (rewrite f.stack old moment) (moment_of f.stack moment))
+    land_on header h (denied_at h caller (touched_paths f.stack)) (told h caller) name draft old f (rewrite f.stack old moment) (moment_of f.stack moment))
 
-land_same : (header : Header) (h : List Entry) (who caller name : List ℕ) (draft : Id) (s t : ℕ) (old : Id) (f : Fork) → head h name ≡ Some old → fork (known h) old draft ≡ Some f → told h who ≡ told h caller → moment_of f.stack s ≡ moment_of f.stack t → rewrite f.stack old s ≡ rewrite f.stack old t → judge header h (LandDraft who name draft s) ≡ judge header h (LandDraft caller name draft t)
-land_same header h who caller name draft s t old f at forked same moments new =
+pub land_same : (header : Header) (h : List Entry) (who caller name : List ℕ) (draft : Id) (s t : ℕ) (old : Id) (f : Fork) → head h name ≡ Some old → fork (known h) old draft ≡ Some f → told h who ≡ told h caller → denied_at h who (touched_paths f.stack) ≡ denied_at h caller (touched_paths f.stack) → moment_of f.stack s ≡ moment_of f.stack t → rewrite f.stack old s ≡ rewrite f.stack old t → judge header h (LandDraft who name draft s) ≡ judge header h (LandDraft caller name draft t)
+land_same header h who caller name draft s t old f at forked same alike moments new =
     ap (λ (r : Result Judged Refusal). refuse_if (is_down h) Down >>= λ _. r)
     (land_is header h who name draft s old f at forked
-    ∙ (λ i. refuse_if (not (is_known (known h) draft)) (NoChangeset draft) >>= λ _. land_on header h (same i) name draft old f (new i) (moments i))
+    ∙ (λ i. refuse_if (not (is_known (known h) draft)) (NoChangeset draft) >>= λ _. land_on header h (alike i) (same i) name draft old f (new i) (moments i))
     ∙ sym (land_is header h caller name draft t old f at forked))
 
 next_made : (file : List ℕ) (header : Header) (h : List Entry) (more : List Body) (ask : Ask) (granted : Granted) (b : Body) (bytes : List ℕ) → IsBytes file → HoldsRecords (bodies h ++ more) (drop 16 file) → HoldsParts file (bodies h ++ more) b → is_ask h ask ≡ true → judge header h ask ≡ Ok (record { granted = granted; made = Some b }) → MadeBy h ask b → IsBytes bytes → IsPayload b bytes → payload_body bytes ≡ Ok b → next_entry file header h bytes ≡ Some b
@@ -169,13 +187,13 @@ next_made file header h more (PutChangeset given) granted b bytes whole holds pa
     (ap (λ t. judge header h (PutChangeset t)) bytes_are ∙ judged)
     (ap (λ b. payload b (drop 1 bytes)) m.3 ∙ sym q.2)
 next_made file header h more (SetBookmark caller name from to) granted b bytes whole holds parts asked judged m fits p read =
-    let q = subst (λ b. IsPayload b bytes) m p in
+    let q = subst (λ b. IsPayload b bytes) m.0 p in
     let ids = and_parts (is_name caller && is_name name) (list_all (is_bytes 32) (option_to_list from ++ option_to_list to)) asked in
     let names = and_parts (is_name caller) (is_name name) ids.0 in
-    next_by file header h bytes b (SetBookmark (unwrap_or (told h caller) nobody) name from to) granted read (ap (ask_of file h bytes) m)
+    next_by file header h bytes b (SetBookmark (unwrap_or (told h caller) nobody) name from to) granted read (ap (ask_of file h bytes) m.0)
     (told_asked (holds_policy h) caller (λ c. is_ask h (SetBookmark c name from to)) asked (and_from _ _ (and_from (is_name nobody) (is_name name) nobody_is_named names.1) ids.1))
-    (set_same header h (unwrap_or (told h caller) nobody) caller name from to (told_back (holds_policy h) caller) ∙ judged)
-    (ap (λ b. payload b (drop 1 bytes)) m ∙ sym q.2)
+    (set_same header h (unwrap_or (told h caller) nobody) caller name from to (told_back (holds_policy h) caller) (denied_back h caller (bookmark_place name ∷ [])) ∙ judged)
+    (ap (λ b. payload b (drop 1 bytes)) m.0 ∙ sym q.2)
 next_made file header h more (LandDraft caller name draft moment) granted b bytes whole holds parts asked judged m fits p read =
     let q = subst (λ b. IsPayload b bytes) m.8 p in
     let last = and_parts (is_name caller && is_name name && is_bytes 32 draft) (nat_lt moment (2 ^ 64)) asked in
@@ -187,8 +205,11 @@ next_made file header h more (LandDraft caller name draft moment) granted b byte
     let who_fits : is_name who ≡ true = told_asked (holds_policy h) caller is_name names.0 nobody_is_named in
     next_by file header h bytes b (LandDraft who name draft at) granted read (ap (ask_of file h bytes) m.8)
     (and_from _ _ (and_from _ _ (and_from (is_name who) (is_name name) who_fits names.1) both.1) at_fits)
-    (land_same header h who caller name draft at moment m.0 m.1 m.2 m.4 (told_back (holds_policy h) caller) (same_moment m.1.stack moment) (same_rewrite m.1.stack m.0 moment) ∙ judged)
+    (land_same header h who caller name draft at moment m.0 m.1 m.2 m.4 (told_back (holds_policy h) caller) (denied_back h caller (touched_paths m.1.stack)) (same_moment m.1.stack moment) (same_rewrite m.1.stack m.0 moment) ∙ judged)
     (ap (λ b. payload b (drop 1 bytes)) m.8 ∙ sym q.2)
+next_made file header h more (SetPolicy caller text) granted b bytes whole holds parts asked judged m fits p read =
+    let q = subst (λ b. IsPayload b bytes) m.0 p in
+    next_by file header h bytes b (SetPolicy caller text) granted read (ap (ask_of file h bytes) m.0) asked judged (ap (λ b. payload b (drop 1 bytes)) m.0 ∙ sym q.2)
 
 next_is : (file : List ℕ) (header : Header) (h : List Entry) (more : List Body) (b : Body) (bytes : List ℕ) → IsBytes file → HoldsRecords (bodies h ++ more) (drop 16 file) → HoldsParts file (bodies h ++ more) b → IsLegal header h → MayFollow header h b → is_stored b ≡ true → IsBytes bytes → IsPayload b bytes → next_entry file header h bytes ≡ Some b
 next_is file header h more b bytes whole holds parts legal m s fits p =

@@ -11,17 +11,17 @@ use Rattle.std.proofs.lemmas.List.{append-nil}
 use Rattle.sha2.specs.Sha256.{sha256}
 use Rattle.byte_fields.specs.Bytes.{Id, are_bytes, is_bytes, sized}
 use Rattle.byte_fields.specs.Reading.{Reader, value, and_then, ◌>>=◌, field, number, keeping, as_one, times, read, whole, any, id}
-use Rattle.byte_fields.proofs.FieldLemmas.{Reads, reads_then, reads_last, reads_field, keeps, Spelled, reads_number, reads_with_len, spelled_8, spelled_16, spelled_32, spelled_64}
+use Rattle.byte_fields.proofs.FieldLemmas.{Reads, reads_then, reads_last, reads_field, keeps, reads_number, reads_with_len, spelled_8, spelled_16, spelled_32, spelled_64}
 use Rattle.changeset_model.specs.Changeset.{Changeset, spelling, most_content, most_encoded}
 use Rattle.changeset_model.specs.Decoding.{decoded}
 use Rattle.changeset_model.proofs.Spelling.{from_author_bytes, reads_id}
 use Rattle.history_model.specs.Bookmark.{is_name_byte, is_name}
-use Rattle.history_model.specs.History.{Body, Content, Whole, Change, Book, Entry, is_stored, changesets_in, holds_policy}
+use Rattle.history_model.specs.History.{Body, Content, Whole, Change, Book, Policy, Entry, is_stored, changesets_in, holds_policy}
 use Rattle.history_model.specs.Pushrebase.{rewrite, moment_of}
 use Rattle.history_model.specs.Journal.{Header, optional_id, moment_bytes, payload, payload_len, IsPayload, most_payload}
 use Rattle.history_model.specs.Payload.{bookmark_name, flagged, optional, encoded, book, no_moment, a_moment, landing, with_caller, wrapper, by_mark, body, payload_body}
 use Rattle.history_model.specs.Payload as reading
-use Rattle.reply_model.specs.Reply.{is_ask, told, ids_in, are_pieces, Ask, PutContent, PutWhole, PutChangeset, SetBookmark, LandDraft, most_stack}
+use Rattle.reply_model.specs.Reply.{is_ask, told, ids_in, are_pieces, Ask, PutContent, PutWhole, PutChangeset, SetBookmark, LandDraft, most_stack, SetPolicy}
 use Rattle.reply_model.specs.Legal.{MayFollow, IsLegal}
 use Rattle.changeset_model.proofs.Spelling.{len_of as len_32}
 use Rattle.manifest_model.proofs.Nodes.{spelled_small as spelled_short}
@@ -156,6 +156,17 @@ read_book h caller name from to asked =
     let ids = both_ids from to both.1 in
     book_by name from to (told h caller) names.1 ids.0 ids.1 (told_fits (holds_policy h) caller names.0)
 
+-- ---- policies
+
+policy_len : (caller text : List ℕ) → length caller ≤ 128 → length text ≤ 65_536 → length (0x41 ∷ (sized w8 caller ++ (0x52 ∷ text))) ≤ most_payload
+policy_len caller text n l = let x = length-append (sized w8 caller) (0x52 ∷ text) in omega arith
+
+read_policy : (caller text : List ℕ) → is_name caller ≡ true → length text ≤ 65_536 → payload_body (payload (Policy caller text) []) ≡ Ok (Policy caller text)
+read_policy caller text n short =
+    read_marked 0x41 (sized w8 caller ++ (0x52 ∷ text)) (Policy caller text) refl (policy_len caller text (name_is_short caller n) short)
+    (ap (λ r. and_then r (λ caller. number w8 may_be_wrapped >>= λ mark. with_caller caller mark)) (reads_name caller n (0x52 ∷ text))
+    ∙ ap (λ r. and_then r (λ mark. with_caller caller mark)) (reads_number w8 may_be_wrapped (0x52 ∷ []) 0x52 (spelled_8 0x52) refl text))
+
 -- ---- landings
 
 reads_encoded : (c : Changeset) → IsUploadable c → Reads encoded (sized w32 (spelling c)) c
@@ -274,8 +285,8 @@ read_made header h (PutChangeset given) b bytes legal asked m good p =
     let q = subst (λ b. IsPayload b bytes) m.3 p in
     ap payload_body q.2 ∙ read_upload m.0 (what_is_uploaded given m.0 asked m.1 m.2).0 ∙ ap (λ b. Ok b) (sym m.3)
 read_made header h (SetBookmark caller name from to) b bytes legal asked m good p =
-    let q = subst (λ b. IsPayload b bytes) m p in
-    ap payload_body (q.2 ∙ ap (payload (a_move name from to (told h caller))) q.1) ∙ read_book h caller name from to asked ∙ ap (λ b. Ok b) (sym m)
+    let q = subst (λ b. IsPayload b bytes) m.0 p in
+    ap payload_body (q.2 ∙ ap (payload (a_move name from to (told h caller))) q.1) ∙ read_book h caller name from to asked ∙ ap (λ b. Ok b) (sym m.0)
 read_made header h (LandDraft caller name draft moment) b bytes legal asked m good p =
     let q = subst (λ b. IsPayload b bytes) m.8 p in
     let last = and_parts (is_name caller && is_name name && is_bytes 32 draft) (nat_lt moment (2 ^ 64)) asked in
@@ -293,6 +304,9 @@ read_made header h (LandDraft caller name draft moment) b bytes legal asked m go
       caller_fits = told_fits (holds_policy h) caller names.0;
     }) m.7
     ∙ ap (λ b. Ok b) (sym m.8)
+read_made header h (SetPolicy caller text) b bytes legal asked m good p =
+    let q = subst (λ b. IsPayload b bytes) m.0 p in
+    ap payload_body q.2 ∙ read_policy caller text (and_parts (is_name caller) (are_bytes text) asked).0 m.1 ∙ ap (λ b. Ok b) (sym m.0)
 
 pub payload_read : (header : Header) (h : List Entry) (b : Body) (bytes : List ℕ) → IsLegal header h → MayFollow header h b → is_stored b ≡ true → IsPayload b bytes → payload_body bytes ≡ Ok b
 payload_read header h b bytes legal m s p =

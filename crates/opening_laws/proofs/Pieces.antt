@@ -14,7 +14,7 @@ use Rattle.changeset_model.specs.Changeset.{most_content}
 use Rattle.changeset_model.proofs.Accepting.{IsBytes-drop, IsBytes-take}
 use Rattle.history_model.specs.History.{Body, Content, Whole, Change, Book, Land, Policy, Fault, Entry, is_stored, unnumbered, bodies, length_in, content_len, is_whole, is_whole_with}
 use Rattle.history_model.specs.Journal.{Header}
-use Rattle.reply_model.specs.Reply.{Ask, PutContent, PutWhole, PutChangeset, SetBookmark, LandDraft, split_ids, ids_in, is_parts_len, is_piece, are_pieces}
+use Rattle.reply_model.specs.Reply.{Ask, PutContent, PutWhole, PutChangeset, SetBookmark, LandDraft, split_ids, ids_in, is_parts_len, is_piece, are_pieces, SetPolicy}
 use Rattle.reply_model.specs.Legal.{MayFollow, GoesOn, IsLegal}
 use Rattle.reply_model.proofs.Histories.{bodies-append}
 use Rattle.reply_model.proofs.Stored.{content_len-stored}
@@ -81,7 +81,8 @@ small_made : (h : List Entry) (ask : Ask) (b : Body) → MadeBy h ask b → IsSm
 small_made h (PutContent bytes) b m = subst IsSmall (sym m.1) m.0
 small_made h (PutWhole body pieces) b m = subst IsSmall (sym m.3) tt
 small_made h (PutChangeset bytes) b m = subst IsSmall (sym m.3) tt
-small_made h (SetBookmark caller name from to) b m = subst IsSmall (sym m) tt
+small_made h (SetBookmark caller name from to) b m = subst IsSmall (sym m.0) tt
+small_made h (SetPolicy caller text) b m = subst IsSmall (sym m.0) tt
 small_made h (LandDraft caller name draft moment) b m = subst IsSmall (sym m.8) tt
 
 abbrev AreSmall : List Entry → Type 0

@@ -1,12 +1,12 @@
 -- The known changesets of a legal history keep the rules of a changeset.
 --     IsUploadable c      what an upload must keep
 use Rattle.std.proofs.Common.{◌≡◌, ℕ, zero, suc, ◌+◌, ◌*◌, ◌/◌, ◌≤◌, ◌%◌, ◌^◌, ℤ, Bool, true, false, cond, not, ◌&&◌, List, [], ◌∷◌, ◌++◌, map, length, drop, refl, sym, ap, subst, ◌∙◌, arith, length-append}
-use Rattle.std.specs.Prelude.{Option, None, Some, Ok, Err, Contains, IfSome, IsTrue, flat_map, bytes_eq, nat_lt, ◌==◌, option_map, unwrap_or, slice_index, min}
+use Rattle.std.specs.Prelude.{Option, None, Some, Ok, Err, Contains, IfSome, IsTrue, flat_map, bytes_eq, nat_lt, option_map, unwrap_or, slice_index, min}
 use mathlib.Core.Bool.{true≢false}
 use Rattle.std.specs.List.{AllByRecursion, concat, position_or_len}
 use Rattle.std.specs.Int.{w16, w32, w64, to_be_bytes, cast_unsigned}
 use Rattle.changeset_model.specs.Version.{Version, First, Second, version_byte}
-use Rattle.std.proofs.lemmas.Bool.{ltb-false, le-ltb, lt-ltb, and_parts, and_from, eq-eqb, eqb-true}
+use Rattle.std.proofs.lemmas.Bool.{ltb-false, le-ltb, lt-ltb, and_parts, and_from, eq-eqb}
 use Rattle.std.proofs.lemmas.List.{append_assoc, append-nil}
 use Rattle.std.proofs.lemmas.Slice.Eq.{bytes_eq-Decides}
 use Rattle.std.proofs.lemmas.Grind.{flat_map-append}
@@ -25,7 +25,7 @@ use Rattle.history_model.specs.Bookmark.{head}
 use Rattle.history_model.specs.Past.{HaveOneParent}
 use Rattle.history_model.specs.Pushrebase.{Fork, following, fork_at, fork, most_seconds, seconds_at, offset_at, on_parent, rewrite}
 use Rattle.history_model.specs.Journal.{Header}
-use Rattle.reply_model.specs.Reply.{is_ask, is_merge, Ask, PutContent, PutWhole, PutChangeset, SetBookmark, LandDraft}
+use Rattle.reply_model.specs.Reply.{is_ask, is_merge, Ask, PutContent, PutWhole, PutChangeset, SetBookmark, LandDraft, SetPolicy}
 use Rattle.reply_model.specs.Legal.{MayFollow, GoesOn, IsLegal}
 use Rattle.reply_model.proofs.Parents.{brought, grown, legal_chain}
 use Rattle.manifest_model.proofs.Derivations.{or_case}
@@ -218,7 +218,8 @@ uploadable_made : (header : Header) (h : List Entry) (ask : Ask) (body : Body) �
 uploadable_made header h (PutContent bytes) body legal all asked m = subst (λ b. AllByRecursion IsUploadable (changesets_in b)) (sym m.1) tt
 uploadable_made header h (PutWhole bytes pieces) body legal all asked m = subst (λ b. AllByRecursion IsUploadable (changesets_in b)) (sym m.3) tt
 uploadable_made header h (PutChangeset bytes) body legal all asked m = subst (λ b. AllByRecursion IsUploadable (changesets_in b)) (sym m.3) ((what_is_uploaded bytes m.0 asked m.1 m.2).0, tt)
-uploadable_made header h (SetBookmark caller name from to) body legal all asked m = subst (λ b. AllByRecursion IsUploadable (changesets_in b)) (sym m) tt
+uploadable_made header h (SetBookmark caller name from to) body legal all asked m = subst (λ b. AllByRecursion IsUploadable (changesets_in b)) (sym m.0) tt
+uploadable_made header h (SetPolicy caller text) body legal all asked m = subst (λ b. AllByRecursion IsUploadable (changesets_in b)) (sym m.0) tt
 uploadable_made header h (LandDraft caller name draft moment) body legal all asked m =
     subst (λ b. AllByRecursion IsUploadable (changesets_in b)) (sym m.8)
     (uploadable_rewrite m.1.stack m.0 moment (head_is_id header h name m.0 legal m.2) (uploadable_stack header h m.0 draft m.1 legal all m.3 m.4) (none_found is_merge m.1.stack m.6))

@@ -1,14 +1,20 @@
 //! Laws of opening, each the contract of a function that does nothing.
-ghost use Rattle.std.specs.Prelude.{◌≡◌, ◌≤◌, ◌+◌, ◌↔◌, ℕ, true, None, Some, Ok, IsTrue, List, [], ◌∷◌, ◌++◌, length, take, drop, Contains, flat_map, Option};
+ghost use Rattle.std.specs.Prelude.{◌≡◌, ◌≤◌, ◌+◌, ◌↔◌, ℕ, true, None, Some, Ok, Err, IsTrue, List, [], ◌∷◌, ◌++◌, length, take, drop, Contains, flat_map, Option};
 ghost use Rattle.std.specs.List.{AllByRecursion};
 ghost use Rattle.sha2.specs.Sha256.{sha256};
 ghost use Rattle.byte_fields.specs.Bytes.{Id, IsBytes, IsContent};
-ghost use Rattle.changeset_model.specs.Changeset.{id_of, is_changeset, self_conflict, spelling, most_encoded};
-ghost use Rattle.history_model.specs.History.{Body, Content, Entry, Known, is_stored, stored, known, changesets_in};
+ghost use Rattle.changeset_model.specs.Path.{Path};
+ghost use Rattle.changeset_model.specs.Changeset.{id_of, touched_paths, is_changeset, self_conflict, spelling, most_encoded};
+ghost use Rattle.history_model.specs.History.{Body, Content, Book, Land, Policy, Move, Landing, Entry, Known, is_stored, stored, known, changesets_in, policy_of};
+ghost use Rattle.policy_model.specs.Rules.{Rule, is_allowed, decide, IsLeastDenied, bookmark_place, policy_place};
 ghost use Rattle.history_model.specs.Past.{HaveOneParent};
+ghost use Rattle.history_model.specs.Bookmark.{head};
+ghost use Rattle.history_model.specs.Pushrebase.{Fork, fork};
+ghost use Rattle.policy_model.specs.Grammar.{parse};
+ghost use Rattle.policy_model.specs.Held.{rules_in};
 ghost use Rattle.history_model.specs.Journal.{Header, IsPayload, Stands, size};
 ghost use Rattle.history_model.specs.Payload.{payload_body};
-ghost use Rattle.reply_model.specs.Reply.{PutContent, SetBookmark, LandDraft, told, judge};
+ghost use Rattle.reply_model.specs.Reply.{PutContent, SetBookmark, LandDraft, SetPolicy, Denied, judge};
 ghost use Rattle.reply_model.specs.Legal.{MayFollow, IsLegal};
 ghost use Rattle.reply_model.specs.Opening.{opens};
 
@@ -62,9 +68,31 @@ pub fn a_file_stands_for_one_history()
     ensures history { (header other : Header) (bytes : List ℕ) (h g : List Entry) → IsBytes bytes → Stands header bytes h → IsLegal header (stored h) → Stands other bytes g → IsLegal other (stored g) → stored h ≡ stored g }
 {}
 
-/// No change holds a policy yet: in a legal history no entry tells its caller, and moves and landings are judged alike whoever asks.
-pub fn callers_are_not_told()
-    ensures told { (header : Header) (h : List Entry) (caller : List ℕ) → IsLegal header h → told h caller ≡ None }
-    ensures moves { (header : Header) (h : List Entry) (caller other name : List ℕ) (from to : Option Id) → IsLegal header h → judge header h (SetBookmark caller name from to) ≡ judge header h (SetBookmark other name from to) }
-    ensures landings { (header : Header) (h : List Entry) (caller other name : List ℕ) (draft : Id) (moment : ℕ) → IsLegal header h → judge header h (LandDraft caller name draft moment) ≡ judge header h (LandDraft other name draft moment) }
+/// Where a policy is held, each entry that may come next and lands, moves a bookmark or sets a policy is one that the policy allows, and tells whom: a landing on each path that it touches, a move on the place of its bookmark, a policy on that of policies. The text of a policy keeps the grammar.
+pub fn what_a_policy_allows()
+    ensures landings { (header : Header) (h : List Entry) (landing : Landing) (text : List ℕ) → policy_of h ≡ Some text → MayFollow header h (Land landing) →
+        (caller : List ℕ) × (landing.caller ≡ Some caller) × ((p : Path) → Contains (touched_paths landing.new) p → is_allowed (rules_in text) caller p ≡ true) }
+    ensures moves { (header : Header) (h : List Entry) (move : Move) (text : List ℕ) → policy_of h ≡ Some text → MayFollow header h (Book move) →
+        (caller : List ℕ) × (move.caller ≡ Some caller) × (is_allowed (rules_in text) caller (bookmark_place move.name) ≡ true) }
+    ensures policies { (header : Header) (h : List Entry) (caller new text : List ℕ) → policy_of h ≡ Some text → MayFollow header h (Policy caller new) → is_allowed (rules_in text) caller policy_place ≡ true }
+    ensures read { (header : Header) (h : List Entry) (caller text : List ℕ) → MayFollow header h (Policy caller text) → (rules : List Rule) × (parse text ≡ Ok rules) }
+{}
+
+/// Where no policy is held, no entry that may come next tells its caller, and moves and landings are judged alike whoever asks.
+pub fn callers_matter_under_a_policy_alone()
+    ensures untold_landing { (header : Header) (h : List Entry) (landing : Landing) → policy_of h ≡ None → MayFollow header h (Land landing) → landing.caller ≡ None }
+    ensures untold_move { (header : Header) (h : List Entry) (move : Move) → policy_of h ≡ None → MayFollow header h (Book move) → move.caller ≡ None }
+    ensures moves { (header : Header) (h : List Entry) (caller other name : List ℕ) (from to : Option Id) → policy_of h ≡ None → judge header h (SetBookmark caller name from to) ≡ judge header h (SetBookmark other name from to) }
+    ensures landings { (header : Header) (h : List Entry) (caller other name : List ℕ) (draft : Id) (moment : ℕ) → policy_of h ≡ None → judge header h (LandDraft caller name draft moment) ≡ judge header h (LandDraft other name draft moment) }
+{}
+
+/// What is denied is, of the paths that a landing's stack touches, of the place of a bookmark or of that of policies, the least that the policy that is held doesn't allow the caller, with the number of the rule that decides there.
+pub fn denials_name_the_least_path()
+    ensures landings { (header : Header) (h : List Entry) (caller name : List ℕ) (draft : Id) (moment : ℕ) (p : Path) (rule : Option ℕ) → judge header h (LandDraft caller name draft moment) ≡ Err (Denied p rule) →
+        (old : Id) × (f : Fork) × (head h name ≡ Some old) × (fork (known h) old draft ≡ Some f) ×
+        (text : List ℕ) × (policy_of h ≡ Some text) × IsLeastDenied (rules_in text) caller (touched_paths f.stack) p × (rule ≡ decide (rules_in text) caller p) }
+    ensures moves { (header : Header) (h : List Entry) (caller name : List ℕ) (from to : Option Id) (p : Path) (rule : Option ℕ) → judge header h (SetBookmark caller name from to) ≡ Err (Denied p rule) →
+        (text : List ℕ) × (policy_of h ≡ Some text) × IsLeastDenied (rules_in text) caller (bookmark_place name ∷ []) p × (rule ≡ decide (rules_in text) caller p) }
+    ensures policies { (header : Header) (h : List Entry) (caller new : List ℕ) (p : Path) (rule : Option ℕ) → judge header h (SetPolicy caller new) ≡ Err (Denied p rule) →
+        (text : List ℕ) × (policy_of h ≡ Some text) × IsLeastDenied (rules_in text) caller (policy_place ∷ []) p × (rule ≡ decide (rules_in text) caller p) }
 {}

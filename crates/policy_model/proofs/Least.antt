@@ -1,8 +1,8 @@
 -- The first of rising paths that passes a test is the least that does.
 use Rattle.std.proofs.Common.{◌≡◌, ◌<◌, ◌⊎◌, ℕ, zero, suc, Bool, true, false, cond, List, [], ◌∷◌, length, inl, inr, refl, sym, subst, ap, ◌∙◌, arith}
 use Rattle.std.specs.Prelude.{not, find, Option, None, Some, option_map, Contains, slice_index_or}
-use Rattle.byte_fields.proofs.Booleans.{same_some}
-use Rattle.byte_fields.proofs.Lists.{contains_head, contains_tail, each_of}
+use Rattle.byte_fields.proofs.Booleans.{same_some, unmapped as nothing_of}
+use Rattle.byte_fields.proofs.Lists.{contains_head, contains_tail, each_of, none_found}
 use Rattle.changeset_model.specs.Path.{Path, path_lt, IsRising}
 use Rattle.policy_model.specs.Rules.{Rule, Denial, decide, is_allowed, denied, IsLeastDenied}
 
@@ -78,3 +78,14 @@ denied_least rules name ps d rising h =
       refused = not_true (is_allowed rules name found.0) least.passes;
       least = λ q within refused. least.least q within (true_not (is_allowed rules name q) refused);
     })
+
+-- ---- nothing is denied
+
+not_none : (b : Bool) → not b ≡ false → b ≡ true
+not_none true h = refl
+not_none false h = absurd (cc)
+
+pub all_allowed : (rules : List Rule) (name : List ℕ) (ps : List Path) (p : Path) → denied rules name ps ≡ None → Contains ps p → is_allowed rules name p ≡ true
+all_allowed rules name ps p none within =
+    not_none (is_allowed rules name p) (each_of (λ p. not (is_allowed rules name p) ≡ false) ps p
+    (none_found (λ p. not (is_allowed rules name p)) ps (nothing_of (λ p. record { path = p; rule = decide rules name p }) (find (λ p. not (is_allowed rules name p)) ps) none)) within)

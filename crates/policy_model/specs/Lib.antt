@@ -2,3 +2,4 @@ pub mod Rules
 pub mod Grammar
 pub mod Codes
 pub mod Examples
+pub mod Held

@@ -1,8 +1,9 @@
 //! Laws of policies, each the contract of a function that does nothing.
-ghost use Rattle.std.specs.Prelude.{◌≡◌, ◌++◌, ◌∷◌, [], ℕ, None, Some, Ok, Err, List, codes};
+ghost use Rattle.std.specs.Prelude.{◌≡◌, ◌++◌, ◌∷◌, [], ℕ, None, Some, Ok, Err, List, codes, true, Contains};
 ghost use Rattle.changeset_model.specs.Path.{Path, IsRising};
-ghost use Rattle.policy_model.specs.Rules.{Rule, Denial, decide, denied, IsLeastDenied, bookmark_place};
+ghost use Rattle.policy_model.specs.Rules.{Rule, Denial, decide, is_allowed, denied, IsLeastDenied, bookmark_place};
 ghost use Rattle.policy_model.specs.Grammar.{parse};
+ghost use Rattle.policy_model.specs.Held.{rules_in, denied_under};
 ghost use Rattle.policy_model.specs.Examples.{lib_policy, lib_rules, ann_policy, ann_rules};
 
 /// Of rising paths the denied one is the least that isn't allowed, with the number of the rule that decides there.
@@ -29,4 +30,9 @@ pub fn small_policies()
     ensures caller_allowed { denied lib_rules (codes "ann") ((codes "lib" ∷ codes "x" ∷ []) ∷ []) ≡ None }
     ensures elements_not_bytes { denied lib_rules (codes "bob") ((codes "libx" ∷ []) ∷ []) ≡ None }
     ensures no_rule { denied ann_rules (codes "bob") (bookmark_place (codes "main") ∷ []) ≡ Some (record { path = codes ".bookmarks" ∷ codes "main" ∷ []; rule = None }) }
+{}
+
+/// Where a policy is held and nothing is denied, it allows the caller each of the paths.
+pub fn what_is_not_denied_is_allowed()
+    ensures { (text caller : List ℕ) (ps : List Path) (p : Path) → denied_under (Some text) caller ps ≡ None → Contains ps p → is_allowed (rules_in text) caller p ≡ true }
 {}

@@ -1,5 +1,5 @@
 -- What a change makes is a stored entry, which may follow.
-use Rattle.std.proofs.Common.{◌≡◌, ℕ, Bool, true, false, cond, List, map, length, refl, sym, ap, subst}
+use Rattle.std.proofs.Common.{◌≡◌, ℕ, Bool, true, false, cond, List, [], ◌∷◌, map, length, refl, sym, ap, subst}
 use Rattle.std.specs.Prelude.{Option, Some, Result, Ok, Err, is_some, find, bytes_eq, nat_lt, ok_or, ◌==◌, not, option_map, unwrap_or}
 use mathlib.Core.Bool.{true≢false}
 use Rattle.std.specs.List.{concat}
@@ -8,11 +8,15 @@ use Rattle.sha2.specs.Sha256.{sha256}
 use Rattle.byte_fields.specs.Bytes.{Id, first_some}
 use Rattle.changeset_model.specs.Changeset.{Changeset, id_of, sets_of, touched_paths}
 use Rattle.changeset_model.specs.Decoding.{decoded}
-use Rattle.history_model.specs.History.{Body, Content, Whole, Change, Book, Land, Policy, Fault, Entry, is_stored, is_down, known, is_known, content_len}
+use Rattle.history_model.specs.History.{Body, Content, Whole, Change, Book, Land, Policy, Fault, Entry, is_stored, is_down, known, is_known, content_len, stored}
 use Rattle.history_model.specs.Bookmark.{head}
 use Rattle.history_model.specs.Pushrebase.{fork, clash, rewrite, moment_of}
 use Rattle.history_model.specs.Journal.{Header, payload_len, most_payload, size, is_full}
-use Rattle.reply_model.specs.Reply.{is_ask, Down, Merge, OldFormat, NoParent, Unresolved, unresolved_of, MergeInStack, MergeInRange, is_merge, told, parts_of, put_whole, WholePut, PutWhole, content_refusal, collides, Collision, NoChangeset, Moved, TooLarge, first_collision, NoBookmark, NoRoot, TooFarBehind, AlreadyIn, StackTooLong, Clash, most_range, most_stack, Ask, PutContent, PutChangeset, SetBookmark, LandDraft, Refusal, Granted, ContentPut, ChangesetPut, BookmarkSet, Landed, Judged, ◌>>=◌, Full, refuse_if, refuse_some, unchanged, entered, put_content, accepted, put_changeset, set_bookmark, enter_landing, land, by_ask, judge}
+use Rattle.policy_model.specs.Rules.{bookmark_place, policy_place}
+use Rattle.policy_model.specs.Grammar.{parse}
+use Rattle.std.specs.Result.{result_err}
+use Rattle.changeset_model.specs.Version.{is_second}
+use Rattle.reply_model.specs.Reply.{is_ask, Down, Merge, OldFormat, NoParent, Unresolved, unresolved_of, MergeInStack, MergeInRange, is_merge, told, parts_of, put_whole, WholePut, PutWhole, content_refusal, collides, Collision, NoChangeset, Moved, TooLarge, first_collision, NoBookmark, NoRoot, TooFarBehind, AlreadyIn, StackTooLong, Clash, most_range, most_stack, Ask, PutContent, PutChangeset, SetBookmark, LandDraft, Refusal, Granted, ContentPut, ChangesetPut, BookmarkSet, Landed, Judged, ◌>>=◌, Full, refuse_if, refuse_some, unchanged, entered, put_content, accepted, put_changeset, set_bookmark, enter_landing, land, by_ask, judge, SetPolicy, denial, denied_at, BadPolicy, PolicySet, set_policy}
 use Rattle.reply_model.specs.Legal.{MayFollow}
 
 abbrev pub MakesStored : Result Judged Refusal → Type 0
@@ -53,11 +57,19 @@ put_changeset_stored header h bytes =
     through (refuse_if (collides (known h) c) (Collision (id_of c))) _ (λ _.
     either (is_known (known h) (id_of c)) _ _ (none_made (ChangesetPut (id_of c))) (entered_stored header h (ChangesetPut (id_of c)) (Change c) refl)))))))
 
+put_whole_stored : (header : Header) (h : List Entry) (body : List ℕ) (pieces : List (List ℕ)) → Stores (put_whole header h body pieces)
+put_whole_stored header h body pieces =
+    let x = sha256 (concat pieces) in
+    let n = length (concat pieces) in
+    through (parts_of header h body) _ (λ parts.
+    either (is_some (content_len h x)) _ _ (none_made (WholePut x n)) (entered_stored header h (WholePut x n) (Whole x n parts) refl))
+
 set_bookmark_stored : (header : Header) (h : List Entry) (caller name : List ℕ) (from to : Option Id) → Stores (set_bookmark header h caller name from to)
 set_bookmark_stored header h caller name from to =
     through (refuse_some (find (λ x. not (is_known (known h) x)) (option_to_list to)) NoChangeset) _ (λ _.
     through (refuse_if (not (option_eq bytes_eq (head h name) from)) (Moved (head h name))) _ (λ _.
-    either (option_eq bytes_eq from to) _ _ (none_made BookmarkSet) (entered_stored header h BookmarkSet (Book (record { name = name; from = from; to = to; caller = told h caller })) refl)))
+    through (refuse_some (denied_at h caller (bookmark_place name ∷ [])) denial) _ (λ _.
+    either (option_eq bytes_eq from to) _ _ (none_made BookmarkSet) (entered_stored header h BookmarkSet (Book (record { name = name; from = from; to = to; caller = told h caller })) refl))))
 
 enter_landing_stored : (header : Header) (h : List Entry) (caller : Option (List ℕ)) (name : List ℕ) (old draft : Id) (new : List Changeset) (moment : Option ℕ) → Stores (enter_landing header h caller name old draft new moment)
 enter_landing_stored header h caller name old draft new moment =
@@ -76,15 +88,24 @@ land_stored header h caller name draft moment =
     through (refuse_if (nat_lt most_stack (length f.stack)) (StackTooLong (length f.stack))) _ (λ _.
     through (refuse_some (option_map id_of (find is_merge f.stack)) MergeInStack) _ (λ _.
     through (refuse_some (option_map id_of (find is_merge f.range)) MergeInRange) _ (λ _.
+    through (refuse_some (denied_at h caller (touched_paths f.stack)) denial) _ (λ _.
     through (refuse_some (clash (touched_paths f.stack) (touched_paths f.range)) (λ pair. Clash pair.0 pair.1)) _ (λ _.
-    enter_landing_stored header h (told h caller) name old draft (rewrite f.stack old moment) (moment_of f.stack moment))))))))))
+    enter_landing_stored header h (told h caller) name old draft (rewrite f.stack old moment) (moment_of f.stack moment)))))))))))
+
+set_policy_stored : (header : Header) (h : List Entry) (caller text : List ℕ) → Stores (set_policy header h caller text)
+set_policy_stored header h caller text =
+    through (refuse_if (not (is_second header.version)) OldFormat) _ (λ _.
+    through (refuse_some (result_err (parse text)) BadPolicy) _ (λ _.
+    through (refuse_some (denied_at h caller (policy_place ∷ [])) denial) _ (λ _.
+    entered_stored header h (PolicySet (length (stored h))) (Policy caller text) refl)))
 
 by_ask_stored : (header : Header) (h : List Entry) (ask : Ask) → Stores (by_ask header h ask)
 by_ask_stored header h (PutContent bytes) = put_content_stored header h bytes
-by_ask_stored header h (PutWhole body pieces) = record { each = tt }
+by_ask_stored header h (PutWhole body pieces) = put_whole_stored header h body pieces
 by_ask_stored header h (PutChangeset bytes) = put_changeset_stored header h bytes
 by_ask_stored header h (SetBookmark caller name from to) = set_bookmark_stored header h caller name from to
 by_ask_stored header h (LandDraft caller name draft moment) = land_stored header h caller name draft moment
+by_ask_stored header h (SetPolicy caller text) = set_policy_stored header h caller text
 
 pub judge_stored : (header : Header) (h : List Entry) (ask : Ask) → MakesStored (judge header h ask)
 judge_stored header h ask = (through (refuse_if (is_down h) Down) _ (λ _. by_ask_stored header h ask)).each

@@ -1,4 +1,4 @@
--- Worked examples of copies, wholes, merges and deletions, which hold by computing, digests included.
+-- Worked examples of copies, wholes, merges, deletions and policies, which hold by computing, digests included.
 use Rattle.std.specs.Prelude.{◌≡◌, ℕ, List, [], ◌∷◌, ◌++◌, length, take, drop, codes, Option, Some, None, Result, Ok, Err, option_map, map, ℤ, pos, refl}
 use Rattle.std.specs.Str.{is_utf8, chars}
 use Rattle.std.specs.Option.{option_and_then}
@@ -9,13 +9,15 @@ use Rattle.changeset_model.specs.Path.{Path, elements}
 use Rattle.changeset_model.specs.Changeset.{Changeset, FileChange, Set, spelling, id_of}
 use Rattle.changeset_model.specs.Decoding.{decoded, DecodeFault}
 use Rattle.changeset_model.specs.Decoding as reading
-use Rattle.history_model.specs.History.{Body, Entry, Content, Whole, Change, Book, Land, Policy, Fault, unnumbered, known}
+use Rattle.history_model.specs.History.{Body, Entry, Content, Whole, Change, Book, Land, Policy, Fault, unnumbered, known, content_len}
 use Rattle.history_model.specs.Past.{past}
 use Rattle.history_model.specs.Journal.{Header, payload_len, record_len}
 use Rattle.manifest_model.specs.Unode.{unode_bytes}
 use Rattle.manifest_model.specs.Merged.{unode_at}
 use Rattle.manifest_model.specs.Deleted.{deleted, deleted_bytes, path_log}
-use Rattle.reply_model.specs.Reply.{PutContent, PutChangeset, put_whole, unresolved_of, LandDraft, Refusal, Judged, WholePut, Merge, BadParts, NoPiece, OldFormat, judge}
+use Rattle.reply_model.specs.Reply.{PutContent, PutWhole, PutChangeset, unresolved_of, SetBookmark, LandDraft, SetPolicy, Refusal, Judged, ContentPut, Landed, PolicySet, Merge, Moved, MergeInStack, MergeInRange, Denied, BadParts, OldFormat, BadPolicy, SeenBytes, NoPolicy, seen_policy, judge}
+use Rattle.history_model.specs.Tree.{files_of}
+use Rattle.policy_model.specs.Examples.{lib_policy, ann_policy}
 use Rattle.reply_model.specs.Opening.{nobody}
 use Rattle.reply_model.proofs.Examples.{by_a, on, abc, set_abc, set_nil, delete, B, X, main, starting, entry_made}
 
@@ -75,25 +77,37 @@ NIL = sha256 []
 abbrev with_abc : List Entry
 with_abc = entry_made (judge second [] (PutContent (codes "abc")))
 
-whole_is_made : put_whole second with_abc (ABC ++ ABC) (codes "abc" ∷ codes "abc" ∷ []) ≡ Ok (record { granted = WholePut (sha256 (codes "abcabc")) 6; made = Some (Whole (sha256 (codes "abcabc")) 6 (ABC ∷ ABC ∷ [])) })
+not_joined : judge second with_abc (PutWhole (ABC ++ ABC) (codes "abc" ∷ codes "abc" ∷ [])) ≡ Err OldFormat
 unfolding sha256 digest_bytes hash_after compress rounds schedule first_words
-whole_is_made = refl
+not_joined = refl
 
 whole_takes : record_len (Whole (sha256 (codes "abcabc")) 6 (ABC ∷ ABC ∷ [])) ≡ 112
 unfolding sha256 digest_bytes hash_after compress rounds schedule first_words
 whole_takes = refl
 
-no_piece : put_whole second with_abc (ABC ++ NIL) (codes "abc" ∷ [] ∷ []) ≡ Err (NoPiece NIL)
-unfolding sha256 digest_bytes hash_after compress rounds schedule first_words
-no_piece = refl
-
-bad_parts : put_whole second with_abc (take 31 ABC) [] ≡ Err (BadParts 31)
+bad_parts : judge second with_abc (PutWhole (take 31 ABC) []) ≡ Err (BadParts 31)
 unfolding sha256 digest_bytes hash_after compress rounds schedule first_words
 bad_parts = refl
 
-old_format : put_whole (record { capacity = 65536; version = First }) with_abc ABC (codes "abc" ∷ []) ≡ Err OldFormat
+old_format : judge (record { capacity = 65536; version = First }) with_abc (PutWhole ABC (codes "abc" ∷ [])) ≡ Err OldFormat
 unfolding sha256 digest_bytes hash_after compress rounds schedule first_words
 old_format = refl
+
+abbrev ABCABC : Id
+ABCABC = sha256 (codes "abcabc")
+
+-- none is joined yet, so this is as if it were
+abbrev with_whole : List Entry
+with_whole = with_abc ++ unnumbered (Whole ABCABC 6 (ABC ∷ ABC ∷ [])) ∷ []
+
+-- a whole has a length as a content has
+whole_is_known : content_len with_whole ABCABC ≡ Some 6
+unfolding sha256 digest_bytes hash_after compress rounds schedule first_words
+whole_is_known = refl
+
+content_again : judge second with_whole (PutContent (codes "abcabc")) ≡ Ok (record { granted = ContentPut ABCABC; made = None })
+unfolding sha256 digest_bytes hash_after compress rounds schedule first_words
+content_again = refl
 
 -- ---- merges
 
@@ -139,6 +153,37 @@ resolved_has_two_parents : length (unode_bytes (unode_at (past (known (uploaded 
 unfolding is_utf8 chars lib.Utf8.encode sha256 digest_bytes hash_after compress rounds schedule first_words
 resolved_has_two_parents = refl
 
+-- the tree of a merge has the files of both parents, and keeps the nodes that they don't differ in
+both_are_there : files_of (known merged) (id_of M) ≡ (elements (codes "x"), abc) ∷ (elements (codes "y"), abc) ∷ []
+unfolding is_utf8 chars lib.Utf8.encode sha256 digest_bytes hash_after compress rounds schedule first_words
+both_are_there = refl
+
+node_is_kept : unode_at (past (known merged) (id_of M)) (elements (codes "x")) ≡ unode_at (past (known merged) (id_of X)) (elements (codes "x"))
+unfolding is_utf8 chars lib.Utf8.encode sha256 digest_bytes hash_after compress rounds schedule first_words
+node_is_kept = refl
+
+abbrev on_first : Changeset
+on_first = on X (set_nil (codes "z") ∷ [])
+
+abbrev on_merge : Changeset
+on_merge = on M (set_nil (codes "z") ∷ [])
+
+-- where `main` is at this one
+abbrev moved : Changeset → List Entry
+moved at = uploaded (B ∷ X ∷ Y ∷ X1 ∷ M ∷ on_first ∷ on_merge ∷ []) ++ unnumbered (Book (record { name = main; from = None; to = Some (id_of at); caller = None })) ∷ []
+
+merge_in_range : judge second (moved M) (LandDraft nobody main (id_of on_first) 0) ≡ Err (MergeInRange (id_of M))
+unfolding is_utf8 chars lib.Utf8.encode sha256 digest_bytes hash_after compress rounds schedule first_words
+merge_in_range = refl
+
+lands_on_a_merge : judge second (moved M) (LandDraft nobody main (id_of on_merge) 0) ≡ Ok (record { granted = Landed (id_of M) (id_of on_merge ∷ []); made = Some (Land (record { name = main; old = id_of M; draft = id_of on_merge; new = on_merge ∷ []; moment = None; caller = None })) })
+unfolding is_utf8 chars lib.Utf8.encode sha256 digest_bytes hash_after compress rounds schedule first_words
+lands_on_a_merge = refl
+
+merge_in_stack : judge second (moved B) (LandDraft nobody main (id_of on_merge) 0) ≡ Err (MergeInStack (id_of M))
+unfolding is_utf8 chars lib.Utf8.encode sha256 digest_bytes hash_after compress rounds schedule first_words
+merge_in_stack = refl
+
 -- ---- deletions
 
 abbrev set_first : Changeset
@@ -163,3 +208,76 @@ deleted_lengths = refl
 logged : path_log (past (known three) (id_of set_anew)) (elements (codes "p")) ≡ id_of set_anew ∷ id_of then_deleted ∷ id_of set_first ∷ []
 unfolding is_utf8 chars lib.Utf8.encode sha256 digest_bytes hash_after compress rounds schedule first_words
 logged = refl
+
+-- ---- policies
+
+abbrev ann : List ℕ
+ann = codes "ann"
+
+abbrev bob : List ℕ
+bob = codes "bob"
+
+abbrev in_lib : Changeset
+in_lib = on B (set_abc (codes "lib/x") ∷ [])
+
+abbrev beside_lib : Changeset
+beside_lib = on B (set_abc (codes "libx") ∷ [])
+
+abbrev under : List ℕ → List Entry
+under text = starting B (in_lib ∷ beside_lib ∷ []) ++ entry_made (judge second (starting B (in_lib ∷ beside_lib ∷ [])) (SetPolicy ann text))
+
+abbrev landed_by : Option (List ℕ) → Changeset → Result Judged Refusal
+landed_by caller c = Ok (record { granted = Landed (id_of B) (id_of c ∷ []); made = Some (Land (record { name = main; old = id_of B; draft = id_of c; new = c ∷ []; moment = None; caller = caller })) })
+
+-- its number is that of the entries before it: two contents, three changesets and a move
+policy_is_set : judge second (starting B (in_lib ∷ beside_lib ∷ [])) (SetPolicy ann lib_policy) ≡ Ok (record { granted = PolicySet 6; made = Some (Policy ann lib_policy) })
+unfolding is_utf8 chars lib.Utf8.encode sha256 digest_bytes hash_after compress rounds schedule first_words
+policy_is_set = refl
+
+policy_takes : record_len (Policy ann lib_policy) ≡ 46
+policy_takes = refl
+
+other_denied : judge second (under lib_policy) (LandDraft bob main (id_of in_lib) 0) ≡ Err (Denied (codes "lib" ∷ codes "x" ∷ []) (Some 1))
+unfolding is_utf8 chars lib.Utf8.encode sha256 digest_bytes hash_after compress rounds schedule first_words
+other_denied = refl
+
+caller_lands : judge second (under lib_policy) (LandDraft ann main (id_of in_lib) 0) ≡ landed_by (Some ann) in_lib
+unfolding is_utf8 chars lib.Utf8.encode sha256 digest_bytes hash_after compress rounds schedule first_words
+caller_lands = refl
+
+told_landing_is_long : payload_len (Land (record { name = main; old = id_of B; draft = id_of in_lib; new = in_lib ∷ []; moment = None; caller = Some ann })) ≡ 188
+unfolding sha256 digest_bytes hash_after compress rounds schedule first_words
+told_landing_is_long = refl
+
+other_lands_beside : judge second (under lib_policy) (LandDraft bob main (id_of beside_lib) 0) ≡ landed_by (Some bob) beside_lib
+unfolding is_utf8 chars lib.Utf8.encode sha256 digest_bytes hash_after compress rounds schedule first_words
+other_lands_beside = refl
+
+none_told : judge second (starting B (in_lib ∷ beside_lib ∷ [])) (LandDraft bob main (id_of in_lib) 0) ≡ landed_by None in_lib
+unfolding is_utf8 chars lib.Utf8.encode sha256 digest_bytes hash_after compress rounds schedule first_words
+none_told = refl
+
+-- also where the move would change nothing, but only from where the bookmark is
+no_rule : judge second (under ann_policy) (SetBookmark bob main (Some (id_of B)) (Some (id_of B))) ≡ Err (Denied (codes ".bookmarks" ∷ main ∷ []) None)
+unfolding is_utf8 chars lib.Utf8.encode sha256 digest_bytes hash_after compress rounds schedule first_words
+no_rule = refl
+
+moved_first : judge second (under ann_policy) (SetBookmark bob main None (Some (id_of B))) ≡ Err (Moved (Some (id_of B)))
+unfolding is_utf8 chars lib.Utf8.encode sha256 digest_bytes hash_after compress rounds schedule first_words
+moved_first = refl
+
+no_other_policy : judge second (under ann_policy) (SetPolicy bob lib_policy) ≡ Err (Denied (codes ".policy" ∷ []) None)
+unfolding is_utf8 chars lib.Utf8.encode sha256 digest_bytes hash_after compress rounds schedule first_words
+no_other_policy = refl
+
+bad_policy : judge second (under ann_policy) (SetPolicy bob (codes "allow ann")) ≡ Err (BadPolicy 0)
+unfolding is_utf8 chars lib.Utf8.encode sha256 digest_bytes hash_after compress rounds schedule first_words
+bad_policy = refl
+
+policy_of_old_format : judge (record { capacity = 65536; version = First }) with_abc (SetPolicy ann (codes "allow ann")) ≡ Err OldFormat
+unfolding sha256 digest_bytes hash_after compress rounds schedule first_words
+policy_of_old_format = refl
+
+policies_seen : seen_policy (under lib_policy) None ∷ seen_policy (under lib_policy) (Some 6) ∷ seen_policy (under lib_policy) (Some 5) ∷ seen_policy with_abc None ∷ [] ≡ Ok (SeenBytes lib_policy) ∷ Ok (SeenBytes lib_policy) ∷ Err NoPolicy ∷ Err NoPolicy ∷ []
+unfolding is_utf8 chars lib.Utf8.encode sha256 digest_bytes hash_after compress rounds schedule first_words
+policies_seen = refl

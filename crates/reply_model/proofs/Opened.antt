@@ -5,7 +5,7 @@ use mathlib.Core.Bool.{true≢false}
 use Rattle.std.specs.List.{AllByRecursion, list_any, concat}
 use Rattle.changeset_model.specs.Version.{Version, First, Second, is_second}
 use Rattle.std.specs.Option.{option_or, option_map_or, option_and_then, option_eq, option_to_list}
-use Rattle.std.specs.Result.{result_ok}
+use Rattle.std.specs.Result.{result_ok, result_err}
 use Rattle.std.specs.Int.{w32, w64, from_be_bytes, to_be_bytes}
 use Rattle.std.proofs.lemmas.Bool.{eqb-true, eqb-false, ltb-false}
 use Rattle.std.proofs.lemmas.List.{append_assoc, append-nil, take-append-drop, length-take, length-drop, get_or-drop, ext_get_or}
@@ -20,7 +20,9 @@ use Rattle.history_model.specs.Bookmark.{head}
 use Rattle.history_model.specs.Pushrebase.{fork, clash, rewrite, moment_of}
 use Rattle.history_model.specs.Journal.{Header, is_header, mark, header_bytes, payload, payload_len, most_payload, size, is_full, record_len, IsPayload, HoldsRecords, is_content_with, held, joined, HoldsParts, Stands}
 use Rattle.history_model.specs.Payload.{payload_body}
-use Rattle.reply_model.specs.Reply.{is_ask, Merge, ids_in, is_parts_len, BadParts, OldFormat, NoPiece, NotAPiece, parts_of, WholePut, PutWhole, Unresolved, unresolved_of, MergeInStack, MergeInRange, is_merge, told, Down, TooLong, NoParent, content_refusal, collides, Collision, NoChangeset, Moved, TooLarge, first_collision, NoBookmark, NoRoot, TooFarBehind, AlreadyIn, StackTooLong, Clash, most_range, most_stack, Ask, PutContent, PutChangeset, SetBookmark, LandDraft, Refusal, Granted, ContentPut, ChangesetPut, BookmarkSet, Landed, Judged, ◌>>=◌, Full, refuse_if, refuse_some, unchanged, entered, accepted, by_ask, judge}
+use Rattle.policy_model.specs.Rules.{bookmark_place, policy_place}
+use Rattle.policy_model.specs.Grammar.{parse}
+use Rattle.reply_model.specs.Reply.{is_ask, Merge, ids_in, is_parts_len, BadParts, OldFormat, NoPiece, NotAPiece, parts_of, WholePut, PutWhole, Unresolved, unresolved_of, MergeInStack, MergeInRange, is_merge, told, Down, TooLong, NoParent, content_refusal, collides, Collision, NoChangeset, Moved, TooLarge, first_collision, NoBookmark, NoRoot, TooFarBehind, AlreadyIn, StackTooLong, Clash, most_range, most_stack, Ask, PutContent, PutChangeset, SetBookmark, LandDraft, Refusal, Granted, ContentPut, ChangesetPut, BookmarkSet, Landed, Judged, ◌>>=◌, Full, refuse_if, refuse_some, unchanged, entered, accepted, by_ask, judge, SetPolicy, denial, denied_at, BadPolicy, PolicySet}
 use Rattle.reply_model.specs.Legal.{MayFollow, GoesOn, IsLegal, HasParts}
 use Rattle.reply_model.specs.Opening.{OpenFault, Damaged, NotARepository, ask_of, made_by, next_entry, next_record, go_on, records, opens_with, version_in, opens}
 use Rattle.changeset_model.proofs.Accepting.{IsBytes-drop, IsBytes-take, keeping_ok, wide32, wide64, with_len_ok}
@@ -30,7 +32,7 @@ use Rattle.history_model.proofs.Landings.{or_left}
 use Rattle.reply_model.proofs.Histories.{bodies-append, IsLegal-push}
 use Rattle.reply_model.proofs.Stored.{stored-push}
 use Rattle.reply_model.proofs.Granted.{MakesStored, judge_stored, follows_granted}
-use Rattle.byte_fields.proofs.Booleans.{neither, not_false as is_not, ok_some}
+use Rattle.byte_fields.proofs.Booleans.{ok_some}
 
 -- ---- what a change makes
 
@@ -40,6 +42,7 @@ IsPut x n (PutWhole body pieces) = ⊥
 IsPut x n (PutChangeset bytes) = ⊥
 IsPut x n (SetBookmark caller name from to) = ⊥
 IsPut x n (LandDraft caller name draft moment) = ⊥
+IsPut x n (SetPolicy caller text) = ⊥
 
 -- of contents that are held
 abbrev pub AreHeld : List Body → List Id → Type 0
@@ -56,6 +59,7 @@ IsJoin all x parts (PutWhole body pieces) = IsJoined all x parts body pieces
 IsJoin all x parts (PutChangeset bytes) = ⊥
 IsJoin all x parts (SetBookmark caller name from to) = ⊥
 IsJoin all x parts (LandDraft caller name draft moment) = ⊥
+IsJoin all x parts (SetPolicy caller text) = ⊥
 
 -- a content is made by an upload of it, and a whole of contents that are held
 abbrev IsOf : List Body → Ask → Body → Type 0
@@ -140,8 +144,8 @@ ok_same x y e = cc
 
 pub parts_held : (header : Header) (h : List Entry) (body : List ℕ) (parts : List Id) → parts_of header h body ≡ Ok parts → (ids_in body ≡ parts) × AreHeld (bodies h) parts
 parts_held header h body parts e =
-    let a = then_ok (refuse_if (not (is_parts_len (length body))) (BadParts (length body))) (λ _. refuse_if (not (is_second header.version)) OldFormat >>= λ _. refuse_some (find (λ x. is_none (content_len h x)) (ids_in body)) NoPiece >>= λ _. refuse_some (find (is_whole h) (ids_in body)) NotAPiece >>= λ _. Ok (ids_in body)) parts e in
-    let b = then_ok (refuse_if (not (is_second header.version)) OldFormat) (λ _. refuse_some (find (λ x. is_none (content_len h x)) (ids_in body)) NoPiece >>= λ _. refuse_some (find (is_whole h) (ids_in body)) NotAPiece >>= λ _. Ok (ids_in body)) parts a.2 in
+    let a = then_ok (refuse_if (not (is_parts_len (length body))) (BadParts (length body))) (λ _. refuse_if true OldFormat >>= λ _. refuse_some (find (λ x. is_none (content_len h x)) (ids_in body)) NoPiece >>= λ _. refuse_some (find (is_whole h) (ids_in body)) NotAPiece >>= λ _. Ok (ids_in body)) parts e in
+    let b = then_ok (refuse_if true OldFormat) (λ _. refuse_some (find (λ x. is_none (content_len h x)) (ids_in body)) NoPiece >>= λ _. refuse_some (find (is_whole h) (ids_in body)) NotAPiece >>= λ _. Ok (ids_in body)) parts a.2 in
     let c = then_ok (refuse_some (find (λ x. is_none (content_len h x)) (ids_in body)) NoPiece) (λ _. refuse_some (find (is_whole h) (ids_in body)) NotAPiece >>= λ _. Ok (ids_in body)) parts b.2 in
     let d = then_ok (refuse_some (find (is_whole h) (ids_in body)) NotAPiece) (λ _. Ok (ids_in body)) parts c.2 in
     let same = ok_same (ids_in body) parts d.2 in
@@ -158,13 +162,13 @@ is_true false h = absurd (true≢false h)
 
 pub parts_len : (header : Header) (h : List Entry) (body : List ℕ) (parts : List Id) → parts_of header h body ≡ Ok parts → is_parts_len (length body) ≡ true
 parts_len header h body parts e =
-    let a = then_ok (refuse_if (not (is_parts_len (length body))) (BadParts (length body))) (λ _. refuse_if (not (is_second header.version)) OldFormat >>= λ _. refuse_some (find (λ x. is_none (content_len h x)) (ids_in body)) NoPiece >>= λ _. refuse_some (find (is_whole h) (ids_in body)) NotAPiece >>= λ _. Ok (ids_in body)) parts e in
+    let a = then_ok (refuse_if (not (is_parts_len (length body))) (BadParts (length body))) (λ _. refuse_if true OldFormat >>= λ _. refuse_some (find (λ x. is_none (content_len h x)) (ids_in body)) NoPiece >>= λ _. refuse_some (find (is_whole h) (ids_in body)) NotAPiece >>= λ _. Ok (ids_in body)) parts e in
     is_true (is_parts_len (length body)) (was_false (not (is_parts_len (length body))) (BadParts (length body)) a.0 a.1)
 
 pub none_whole : (header : Header) (h : List Entry) (body : List ℕ) (parts : List Id) → parts_of header h body ≡ Ok parts → AllByRecursion (λ x. is_whole h x ≡ false) (ids_in body)
 none_whole header h body parts e =
-    let a = then_ok (refuse_if (not (is_parts_len (length body))) (BadParts (length body))) (λ _. refuse_if (not (is_second header.version)) OldFormat >>= λ _. refuse_some (find (λ x. is_none (content_len h x)) (ids_in body)) NoPiece >>= λ _. refuse_some (find (is_whole h) (ids_in body)) NotAPiece >>= λ _. Ok (ids_in body)) parts e in
-    let b = then_ok (refuse_if (not (is_second header.version)) OldFormat) (λ _. refuse_some (find (λ x. is_none (content_len h x)) (ids_in body)) NoPiece >>= λ _. refuse_some (find (is_whole h) (ids_in body)) NotAPiece >>= λ _. Ok (ids_in body)) parts a.2 in
+    let a = then_ok (refuse_if (not (is_parts_len (length body))) (BadParts (length body))) (λ _. refuse_if true OldFormat >>= λ _. refuse_some (find (λ x. is_none (content_len h x)) (ids_in body)) NoPiece >>= λ _. refuse_some (find (is_whole h) (ids_in body)) NotAPiece >>= λ _. Ok (ids_in body)) parts e in
+    let b = then_ok (refuse_if true OldFormat) (λ _. refuse_some (find (λ x. is_none (content_len h x)) (ids_in body)) NoPiece >>= λ _. refuse_some (find (is_whole h) (ids_in body)) NotAPiece >>= λ _. Ok (ids_in body)) parts a.2 in
     let c = then_ok (refuse_some (find (λ x. is_none (content_len h x)) (ids_in body)) NoPiece) (λ _. refuse_some (find (is_whole h) (ids_in body)) NotAPiece >>= λ _. Ok (ids_in body)) parts b.2 in
     let d = then_ok (refuse_some (find (is_whole h) (ids_in body)) NotAPiece) (λ _. Ok (ids_in body)) parts c.2 in
     none_found (is_whole h) (ids_in body) (no_refusal (find (is_whole h) (ids_in body)) NotAPiece d.0 d.1)
@@ -185,12 +189,18 @@ makes header h (PutChangeset bytes) =
     through (bodies h) ask (refuse_some (unresolved_of (known h) c c.parents) Unresolved) _ (λ _.
     through (bodies h) ask (refuse_if (collides (known h) c) (Collision (id_of c))) _ (λ _.
     either (bodies h) ask (is_known (known h) (id_of c)) _ _ (makes_none (bodies h) ask (ChangesetPut (id_of c))) (makes_entered (bodies h) ask header h (ChangesetPut (id_of c)) (Change c) tt)))))))
-makes header h (PutWhole body pieces) = record { each = tt }
+makes header h (PutWhole body pieces) =
+    let ask = PutWhole body pieces in
+    let x = sha256 (concat pieces) in
+    let n = length (concat pieces) in
+    through_as (bodies h) ask (parts_of header h body) _ (λ parts e. (let facts = parts_held header h body parts e in
+    either (bodies h) ask (is_some (content_len h x)) _ _ (makes_none (bodies h) ask (WholePut x n)) (makes_entered (bodies h) ask header h (WholePut x n) (Whole x n parts) (record { id_is = refl; parts_are = facts.0; are_held = facts.1 }))))
 makes header h (SetBookmark caller name from to) =
     let ask = SetBookmark caller name from to in
     through (bodies h) ask (refuse_some (find (λ x. not (is_known (known h) x)) (option_to_list to)) NoChangeset) _ (λ _.
     through (bodies h) ask (refuse_if (not (option_eq bytes_eq (head h name) from)) (Moved (head h name))) _ (λ _.
-    either (bodies h) ask (option_eq bytes_eq from to) _ _ (makes_none (bodies h) ask BookmarkSet) (makes_entered (bodies h) ask header h BookmarkSet (Book (record { name = name; from = from; to = to; caller = told h caller })) tt)))
+    through (bodies h) ask (refuse_some (denied_at h caller (bookmark_place name ∷ [])) denial) _ (λ _.
+    either (bodies h) ask (option_eq bytes_eq from to) _ _ (makes_none (bodies h) ask BookmarkSet) (makes_entered (bodies h) ask header h BookmarkSet (Book (record { name = name; from = from; to = to; caller = told h caller })) tt))))
 makes header h (LandDraft caller name draft moment) =
     let ask = LandDraft caller name draft moment in
     through (bodies h) ask (ok_or (head h name) NoBookmark) _ (λ old.
@@ -201,13 +211,20 @@ makes header h (LandDraft caller name draft moment) =
     through (bodies h) ask (refuse_if (nat_lt most_stack (length f.stack)) (StackTooLong (length f.stack))) _ (λ _.
     through (bodies h) ask (refuse_some (option_map id_of (find is_merge f.stack)) MergeInStack) _ (λ _.
     through (bodies h) ask (refuse_some (option_map id_of (find is_merge f.range)) MergeInRange) _ (λ _.
+    through (bodies h) ask (refuse_some (denied_at h caller (touched_paths f.stack)) denial) _ (λ _.
     through (bodies h) ask (refuse_some (clash (touched_paths f.stack) (touched_paths f.range)) (λ pair. Clash pair.0 pair.1)) _ (λ _.
     through (bodies h) ask (refuse_if (nat_lt most_payload (payload_len (landed old (rewrite f.stack old moment) (moment_of f.stack moment)))) (TooLarge (payload_len (landed old (rewrite f.stack old moment) (moment_of f.stack moment))))) _ (λ _.
     through (bodies h) ask (refuse_some (first_collision (known h) (rewrite f.stack old moment)) Collision) _ (λ _.
-    makes_entered (bodies h) ask header h (Landed old (map id_of (rewrite f.stack old moment))) (landed old (rewrite f.stack old moment) (moment_of f.stack moment)) tt)))))))))))
+    makes_entered (bodies h) ask header h (Landed old (map id_of (rewrite f.stack old moment))) (landed old (rewrite f.stack old moment) (moment_of f.stack moment)) tt))))))))))))
   where
     landed : Id → List Changeset → Option ℕ → Body
     landed old new at = Land (record { name = name; old = old; draft = draft; new = new; moment = at; caller = told h caller })
+makes header h (SetPolicy caller text) =
+    let ask = SetPolicy caller text in
+    through (bodies h) ask (refuse_if (not (is_second header.version)) OldFormat) _ (λ _.
+    through (bodies h) ask (refuse_some (result_err (parse text)) BadPolicy) _ (λ _.
+    through (bodies h) ask (refuse_some (denied_at h caller (policy_place ∷ [])) denial) _ (λ _.
+    makes_entered (bodies h) ask header h (PolicySet (length (stored h))) (Policy caller text) tt)))
 
 judge_makes : (header : Header) (h : List Entry) (ask : Ask) → MakesOf (bodies h) ask (judge header h ask)
 judge_makes header h ask = (through (bodies h) ask (refuse_if (is_down h) Down) _ (λ _. makes header h ask)).each
@@ -234,6 +251,7 @@ put_is file h bytes read (PutWhole body pieces) x n e p = absurd p
 put_is file h bytes read (PutChangeset other) x n e p = absurd p
 put_is file h bytes read (SetBookmark caller name from to) x n e p = absurd p
 put_is file h bytes read (LandDraft caller name draft moment) x n e p = absurd p
+put_is file h bytes read (SetPolicy caller text) x n e p = absurd p
 put_is file h bytes (Content y m) (PutContent other) x n e p = subst (λ t. (sha256 t ≡ x) × (length t ≡ n)) (sym (put_bytes (drop 1 bytes) other e)) p
   where
     bytes_put : Ask → List ℕ
@@ -242,6 +260,7 @@ put_is file h bytes (Content y m) (PutContent other) x n e p = subst (λ t. (sha
     bytes_put (PutChangeset t) = t
     bytes_put (SetBookmark caller name from to) = name
     bytes_put (LandDraft caller name draft moment) = name
+    bytes_put (SetPolicy caller text) = text
 
     put_bytes : (s t : List ℕ) → ◌≡◌ {A = Option Ask} (Some (PutContent s)) (Some (PutContent t)) → s ≡ t
     put_bytes s t e = ap (λ o. bytes_put (unwrap_or o (PutContent s))) e
@@ -266,6 +285,7 @@ join_is file h bytes read (PutContent other) x parts e j = absurd j
 join_is file h bytes read (PutChangeset other) x parts e j = absurd j
 join_is file h bytes read (SetBookmark caller name from to) x parts e j = absurd j
 join_is file h bytes read (LandDraft caller name draft moment) x parts e j = absurd j
+join_is file h bytes read (SetPolicy caller text) x parts e j = absurd j
 join_is file h bytes (Content y m) (PutWhole other pieces) x parts e j = absurd cc
 join_is file h bytes (Whole y m ps) (PutWhole other pieces) x parts e j = joined_by file (bodies h) x parts (concat ps) other pieces (ap (λ o. body_joined (unwrap_or o (PutWhole other pieces))) e) (ap (λ o. pieces_joined (unwrap_or o (PutWhole other pieces))) e) j
   where
@@ -275,6 +295,7 @@ join_is file h bytes (Whole y m ps) (PutWhole other pieces) x parts e j = joined
     body_joined (PutChangeset t) = t
     body_joined (SetBookmark caller name from to) = name
     body_joined (LandDraft caller name draft moment) = name
+    body_joined (SetPolicy caller text) = text
 
     pieces_joined : Ask → List (List ℕ)
     pieces_joined (PutContent t) = []
@@ -282,6 +303,7 @@ join_is file h bytes (Whole y m ps) (PutWhole other pieces) x parts e j = joined
     pieces_joined (PutChangeset t) = []
     pieces_joined (SetBookmark caller name from to) = []
     pieces_joined (LandDraft caller name draft moment) = []
+    pieces_joined (SetPolicy caller text) = []
 join_is file h bytes (Change c) (PutWhole other pieces) x parts e j = absurd cc
 join_is file h bytes (Book move) (PutWhole other pieces) x parts e j = absurd cc
 join_is file h bytes (Land landing) (PutWhole other pieces) x parts e j = absurd cc
@@ -506,6 +528,7 @@ join_held all x parts (PutWhole body pieces) j = j.are_held
 join_held all x parts (PutChangeset bytes) j = absurd j
 join_held all x parts (SetBookmark caller name from to) j = absurd j
 join_held all x parts (LandDraft caller name draft moment) j = absurd j
+join_held all x parts (SetPolicy caller text) j = absurd j
 
 pub has_parts : (header : Header) (h : List Entry) (b : Body) → MayFollow header h b → HasParts (bodies h) b
 has_parts header h (Content x n) m = tt

@@ -11,7 +11,7 @@ use Rattle.sha2.specs.Sha256.{sha256}
 use Rattle.byte_fields.specs.Bytes.{Id, first_some, last_of, last_some}
 use Rattle.changeset_model.specs.Changeset.{Changeset, id_of, sets_of, touched_paths, most_content}
 use Rattle.changeset_model.specs.Decoding.{decoded}
-use Rattle.history_model.specs.History.{Body, Content, Whole, Change, Book, Land, Policy, Fault, Entry, Known, with_id, each_id_once, is_down, changesets_in, known, is_known, content_len}
+use Rattle.history_model.specs.History.{Body, Content, Whole, Change, Book, Land, Policy, Fault, Entry, Known, with_id, each_id_once, is_down, changesets_in, known, is_known, content_len, stored}
 use Rattle.history_model.specs.Chain.{HasParents, IsChain, chain}
 use Rattle.std.specs.List.{AllByRecursion, last_or, concat}
 use Rattle.byte_fields.proofs.Lists.{weaker}
@@ -20,7 +20,11 @@ use Rattle.std.proofs.lemmas.Grind.{flat_map-append}
 use Rattle.history_model.specs.Bookmark.{moved_to, head}
 use Rattle.history_model.specs.Pushrebase.{Fork, fork, clash, on_parent, rewrite, moment_of}
 use Rattle.history_model.specs.Journal.{Header, payload_len, most_payload, size, is_full}
-use Rattle.reply_model.specs.Reply.{Ask, PutContent, PutWhole, PutChangeset, SetBookmark, LandDraft, Refusal, Down, TooLong, Full, Merge, NoParent, Unresolved, unresolved_of, MergeInStack, MergeInRange, is_merge, told, parts_of, WholePut, Collision, NoChangeset, Moved, NoBookmark, NoRoot, TooFarBehind, AlreadyIn, StackTooLong, Clash, TooLarge, Granted, ContentPut, ChangesetPut, BookmarkSet, Landed, Judged, ◌>>=◌, refuse_if, refuse_some, unchanged, entered, accepted, content_refusal, collides, first_collision, most_range, most_stack, by_ask, judge}
+use Rattle.policy_model.specs.Rules.{bookmark_place, policy_place}
+use Rattle.policy_model.specs.Grammar.{parse}
+use Rattle.std.specs.Result.{result_err}
+use Rattle.changeset_model.specs.Version.{is_second}
+use Rattle.reply_model.specs.Reply.{Ask, PutContent, PutWhole, PutChangeset, SetBookmark, LandDraft, Refusal, Down, TooLong, Full, Merge, NoParent, Unresolved, unresolved_of, MergeInStack, MergeInRange, is_merge, told, parts_of, WholePut, Collision, NoChangeset, Moved, NoBookmark, NoRoot, TooFarBehind, AlreadyIn, StackTooLong, Clash, TooLarge, Granted, ContentPut, ChangesetPut, BookmarkSet, Landed, Judged, ◌>>=◌, refuse_if, refuse_some, unchanged, entered, accepted, content_refusal, collides, first_collision, most_range, most_stack, by_ask, judge, SetPolicy, denial, denied_at, OldFormat, BadPolicy, PolicySet}
 use Rattle.reply_model.specs.Legal.{MayFollow, GoesOn, IsLegal}
 use Rattle.byte_fields.proofs.Booleans.{not_false as not_not, or_turned as or_swap, same_some as some_same}
 use Rattle.byte_fields.proofs.Lists.{option_or-assoc as or_assoc}
@@ -191,12 +195,17 @@ sound_ask header h heads (PutChangeset bytes) =
     through (brought h) (refuse_if (collides (known h) c) (Collision (id_of c))) _ (λ _ _.
     either (brought h) (is_known (known h) (id_of c)) _ _ (sound_none (brought h) (ChangesetPut (id_of c))) (sound_entered (brought h) header h (ChangesetPut (id_of c)) (Change c)
     (weaker (λ p. is_known (known h) p ≡ true) (λ p. is_known (brought h) p ≡ true) (each_known (brought h)) c.parents (all_known (known h) c.parents (none_refused _ NoParent u e))))))))))
-sound_ask header h heads (PutWhole body pieces) = record { each = tt }
+sound_ask header h heads (PutWhole body pieces) =
+    let x = sha256 (concat pieces) in
+    let n = length (concat pieces) in
+    through (brought h) (parts_of header h body) _ (λ parts _.
+    either (brought h) (is_some (content_len h x)) _ _ (sound_none (brought h) (WholePut x n)) (sound_entered (brought h) header h (WholePut x n) (Whole x n parts) tt))
 sound_ask header h heads (SetBookmark caller name from to) =
     through (brought h) (refuse_some (find (λ x. not (is_known (known h) x)) (option_to_list to)) NoChangeset) _ (λ u e.
     through (brought h) (refuse_if (not (option_eq bytes_eq (head h name) from)) (Moved (head h name))) _ (λ _ _.
+    through (brought h) (refuse_some (denied_at h caller (bookmark_place name ∷ [])) denial) _ (λ _ _.
     either (brought h) (option_eq bytes_eq from to) _ _ (sound_none (brought h) BookmarkSet) (sound_entered (brought h) header h BookmarkSet (Book (record { name = name; from = from; to = to; caller = told h caller }))
-    (target to (none_refused _ NoChangeset u e)))))
+    (target to (none_refused _ NoChangeset u e))))))
   where
     target : (to : Option Id) → find (λ x. not (is_known (known h) x)) (option_to_list to) ≡ None → IfSome to (λ x. is_known (brought h) x ≡ true)
     target None e = tt
@@ -210,14 +219,20 @@ sound_ask header h heads (LandDraft caller name draft moment) =
     through (brought h) (refuse_if (nat_lt most_stack (length f.stack)) (StackTooLong (length f.stack))) _ (λ _ _.
     through (brought h) (refuse_some (option_map id_of (find is_merge f.stack)) MergeInStack) _ (λ _ _.
     through (brought h) (refuse_some (option_map id_of (find is_merge f.range)) MergeInRange) _ (λ _ _.
+    through (brought h) (refuse_some (denied_at h caller (touched_paths f.stack)) denial) _ (λ _ _.
     through (brought h) (refuse_some (clash (touched_paths f.stack) (touched_paths f.range)) (λ pair. Clash pair.0 pair.1)) _ (λ _ _.
     through (brought h) (refuse_if (nat_lt most_payload (payload_len (landed old f))) (TooLarge (payload_len (landed old f)))) _ (λ _ _.
     through (brought h) (refuse_some (first_collision (known h) (rewrite f.stack old moment)) Collision) _ (λ _ _.
     sound_entered (brought h) header h (Landed old (map id_of (rewrite f.stack old moment))) (landed old f)
-    (head_known (brought h) (head h name) old (was_some (head h name) NoBookmark old e) (heads name), f.stack, moment, refl))))))))))))
+    (head_known (brought h) (head h name) old (was_some (head h name) NoBookmark old e) (heads name), f.stack, moment, refl)))))))))))))
   where
     landed : Id → Fork → Body
     landed old f = Land (record { name = name; old = old; draft = draft; new = rewrite f.stack old moment; moment = moment_of f.stack moment; caller = told h caller })
+sound_ask header h heads (SetPolicy caller text) =
+    through (brought h) (refuse_if (not (is_second header.version)) OldFormat) _ (λ _ _.
+    through (brought h) (refuse_some (result_err (parse text)) BadPolicy) _ (λ _ _.
+    through (brought h) (refuse_some (denied_at h caller (policy_place ∷ [])) denial) _ (λ _ _.
+    sound_entered (brought h) header h (PolicySet (length (stored h))) (Policy caller text) tt)))
 
 sound_judge : (header : Header) (h : List Entry) → HeadsKnown h → (ask : Ask) → Sound (brought h) (judge header h ask)
 sound_judge header h heads ask = through (brought h) (refuse_if (is_down h) Down) _ (λ _ _. sound_ask header h heads ask)

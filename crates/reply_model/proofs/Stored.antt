@@ -10,11 +10,15 @@ use Rattle.sha2.specs.Sha256.{sha256}
 use Rattle.byte_fields.specs.Bytes.{Id, first_some, last_some, are_bytes}
 use Rattle.changeset_model.specs.Changeset.{Changeset, id_of, sets_of, touched_paths, most_content}
 use Rattle.changeset_model.specs.Decoding.{decoded}
-use Rattle.history_model.specs.History.{Body, Content, Whole, Change, Book, Land, Policy, Fault, Entry, with_id, each_id_once, is_stored, unnumbered, bodies, stored, is_down, changesets_in, known, is_known, length_in, content_len, is_whole_with, is_policy}
+use Rattle.history_model.specs.History.{Body, Content, Whole, Change, Book, Land, Policy, Fault, Entry, with_id, each_id_once, is_stored, unnumbered, bodies, stored, is_down, changesets_in, known, is_known, length_in, content_len, is_whole_with, is_policy, policy_text, policy_of}
 use Rattle.history_model.specs.Bookmark.{moved_to, head}
 use Rattle.history_model.specs.Pushrebase.{fork, clash, rewrite, moment_of}
 use Rattle.history_model.specs.Journal.{Header, record_len, payload_len, most_payload, size}
-use Rattle.reply_model.specs.Reply.{Ask, PutContent, PutWhole, PutChangeset, SetBookmark, LandDraft, is_ask, are_pieces, ids_in, is_parts_len, BadParts, OldFormat, NoPiece, NotAPiece, parts_of, put_whole, WholePut, Down, TooLong, Full, Merge, NoParent, Unresolved, unresolved_of, MergeInStack, MergeInRange, is_merge, told, Collision, NoChangeset, Moved, NoBookmark, NoRoot, TooFarBehind, AlreadyIn, StackTooLong, Clash, TooLarge, Granted, ContentPut, ChangesetPut, BookmarkSet, Landed, Judged, ◌>>=◌, refuse_if, refuse_some, unchanged, entered, put_content, accepted, content_refusal, collides, put_changeset, set_bookmark, first_collision, most_range, most_stack, enter_landing, land, by_ask, judge}
+use Rattle.policy_model.specs.Rules.{bookmark_place, policy_place}
+use Rattle.policy_model.specs.Grammar.{parse}
+use Rattle.policy_model.specs.Held.{denied_under}
+use Rattle.std.specs.Result.{result_err}
+use Rattle.reply_model.specs.Reply.{Ask, PutContent, PutWhole, PutChangeset, SetBookmark, LandDraft, is_ask, are_pieces, ids_in, is_parts_len, BadParts, OldFormat, NoPiece, NotAPiece, parts_of, put_whole, WholePut, Down, TooLong, Full, Merge, NoParent, Unresolved, unresolved_of, MergeInStack, MergeInRange, is_merge, told, Collision, NoChangeset, Moved, NoBookmark, NoRoot, TooFarBehind, AlreadyIn, StackTooLong, Clash, TooLarge, Granted, ContentPut, ChangesetPut, BookmarkSet, Landed, Judged, ◌>>=◌, refuse_if, refuse_some, unchanged, entered, put_content, accepted, content_refusal, collides, put_changeset, set_bookmark, first_collision, most_range, most_stack, enter_landing, land, by_ask, judge, SetPolicy, denial, BadPolicy, PolicySet, set_policy}
 use Rattle.reply_model.specs.Legal.{MayFollow, GoesOn, IsLegal}
 use Rattle.reply_model.proofs.Histories.{bodies-append}
 use Rattle.reply_model.proofs.Parents.{or_none}
@@ -90,8 +94,26 @@ put_content-stored header h bytes =
     (λ i. refuse_if (nat_lt most_content (length bytes)) (TooLong (length bytes)) >>= λ _.
     cond (is_some (content_len-stored h (sha256 bytes) i)) (unchanged (ContentPut (sha256 bytes))) (entered-stored header h (ContentPut (sha256 bytes)) (Content (sha256 bytes) (length bytes)) i))
 
+parts_of-stored : (header : Header) (h : List Entry) (body : List ℕ) → parts_of header (stored h) body ≡ parts_of header h body
+parts_of-stored header h body =
+    (λ i. refuse_if (not (is_parts_len (length body))) (BadParts (length body)) >>= λ _.
+    refuse_if true OldFormat >>= λ _.
+    refuse_some (find (λ x. is_none (content_len-stored h x i)) (ids_in body)) NoPiece >>= λ _.
+    refuse_some (find (λ x. list_any (is_whole_with x) (bodies-stored h i)) (ids_in body)) NotAPiece >>= λ _.
+    Ok (ids_in body))
+
+put_whole-stored : (header : Header) (h : List Entry) (body : List ℕ) (pieces : List (List ℕ)) → put_whole header (stored h) body pieces ≡ put_whole header h body pieces
+put_whole-stored header h body pieces =
+    let x = sha256 (concat pieces) in
+    let n = length (concat pieces) in
+    (λ i. parts_of-stored header h body i >>= λ parts.
+    cond (is_some (content_len-stored h x i)) (unchanged (WholePut x n)) (entered-stored header h (WholePut x n) (Whole x n parts) i))
+
 told-stored : (h : List Entry) (caller : List ℕ) → told (stored h) caller ≡ told h caller
 told-stored h caller = ap (λ bs. cond (list_any is_policy bs) (Some caller) None) (bodies-stored h)
+
+policy_of-stored : (h : List Entry) → policy_of (stored h) ≡ policy_of h
+policy_of-stored h = last_some-stored policy_text (λ breaking. refl) h
 
 put_changeset-stored : (header : Header) (h : List Entry) (bytes : List ℕ) → put_changeset header (stored h) bytes ≡ put_changeset header h bytes
 put_changeset-stored header h bytes =
@@ -107,6 +129,7 @@ set_bookmark-stored : (header : Header) (h : List Entry) (caller name : List ℕ
 set_bookmark-stored header h caller name from to =
     (λ i. refuse_some (find (λ x. not (is_known (known-stored h i) x)) (option_to_list to)) NoChangeset >>= λ _.
     refuse_if (not (option_eq bytes_eq (head-stored h name i) from)) (Moved (head-stored h name i)) >>= λ _.
+    refuse_some (denied_under (policy_of-stored h i) caller (bookmark_place name ∷ [])) denial >>= λ _.
     cond (option_eq bytes_eq from to) (unchanged BookmarkSet) (entered-stored header h BookmarkSet (Book (record { name = name; from = from; to = to; caller = told-stored h caller i })) i))
 
 enter_landing-stored : (header : Header) (h : List Entry) (caller : Option (List ℕ)) (name : List ℕ) (old draft : Id) (new : List Changeset) (moment : Option ℕ) → enter_landing header (stored h) caller name old draft new moment ≡ enter_landing header h caller name old draft new moment
@@ -126,15 +149,27 @@ land-stored header h caller name draft moment =
     refuse_if (nat_lt most_stack (length f.stack)) (StackTooLong (length f.stack)) >>= λ _.
     refuse_some (option_map id_of (find is_merge f.stack)) MergeInStack >>= λ _.
     refuse_some (option_map id_of (find is_merge f.range)) MergeInRange >>= λ _.
+    refuse_some (denied_under (policy_of-stored h i) caller (touched_paths f.stack)) denial >>= λ _.
     refuse_some (clash (touched_paths f.stack) (touched_paths f.range)) (λ pair. Clash pair.0 pair.1) >>= λ _.
     enter_landing-stored header h (told-stored h caller i) name old draft (rewrite f.stack old moment) (moment_of f.stack moment) i)
 
+stored-stored : (h : List Entry) → stored (stored h) ≡ stored h
+stored-stored h = ap (map unnumbered) (bodies-stored h)
+
+set_policy-stored : (header : Header) (h : List Entry) (caller text : List ℕ) → set_policy header (stored h) caller text ≡ set_policy header h caller text
+set_policy-stored header h caller text =
+    (λ i. refuse_if (not (is_second header.version)) OldFormat >>= λ _.
+    refuse_some (result_err (parse text)) BadPolicy >>= λ _.
+    refuse_some (denied_under (policy_of-stored h i) caller (policy_place ∷ [])) denial >>= λ _.
+    entered-stored header h (PolicySet (length (stored-stored h i))) (Policy caller text) i)
+
 by_ask-stored : (header : Header) (h : List Entry) (ask : Ask) → by_ask header (stored h) ask ≡ by_ask header h ask
 by_ask-stored header h (PutContent bytes) = put_content-stored header h bytes
-by_ask-stored header h (PutWhole body pieces) = refl
+by_ask-stored header h (PutWhole body pieces) = put_whole-stored header h body pieces
 by_ask-stored header h (PutChangeset bytes) = put_changeset-stored header h bytes
 by_ask-stored header h (SetBookmark caller name from to) = set_bookmark-stored header h caller name from to
 by_ask-stored header h (LandDraft caller name draft moment) = land-stored header h caller name draft moment
+by_ask-stored header h (SetPolicy caller text) = set_policy-stored header h caller text
 
 -- what a history without a breaking fault grants, its stored entries grant
 pub judge-stored : (header : Header) (h : List Entry) (ask : Ask) → is_down h ≡ false → judge header (stored h) ask ≡ judge header h ask
@@ -152,6 +187,7 @@ is_ask-stored h (PutWhole body pieces) = ap (λ b. are_bytes body && b) (are_pie
 is_ask-stored h (PutChangeset bytes) = refl
 is_ask-stored h (SetBookmark caller name from to) = refl
 is_ask-stored h (LandDraft caller name draft moment) = refl
+is_ask-stored h (SetPolicy caller text) = refl
 
 -- ---- legality
 

@@ -6,19 +6,19 @@
 --     IsNode ks bytes      a node of the definitions' manifests of some known changeset
 --     NodesCollide ks x      two different ones of them have the digest x
 --     SeesMore old who new      the seat has seen more, and made no entry
---     FailedAs judged entry      of what is judged, nothing was made, or all of it, which then wasn't sealed
 --     calm_by who h      the entries that a seat made, but for its breaking faults
 --     stands_of who made      what a call made that stands at its place: the entry, and a fault that isn't breaking
+--     IsAtOnce answer      the answer waits for no other turn
 --     Grows old who before made new      the front before a call and after it, and the history between at which the call is answered
 --     After header old who call answer new      the front before a call that is answered so, and after it
-use Rattle.std.specs.Prelude.{Contains, ◌≡◌, ◌≢◌, ℕ, ◌⊎◌, not, Bool, true, false, IsTrue, IsSome, List, [], ◌∷◌, ◌++◌, map, filter, Option, None, Some, option_map, option_to_list, Result, Ok, Err}
+use Rattle.std.specs.Prelude.{Contains, ◌≡◌, ◌≢◌, ℕ, not, Bool, true, false, IsTrue, IsSome, List, [], ◌∷◌, ◌++◌, map, filter, Option, None, Some, option_map, option_to_list, Result, Ok, Err}
 use mathlib.Core.List.{IsPrefix}
 use Rattle.sha2.specs.Sha256.{sha256}
 use Rattle.byte_fields.specs.Bytes.{Id}
 use Rattle.history_model.specs.History.{Body, Fault, Entry, Known, is_breaking, entries_by, is_down, known, is_known, content_len, whole_parts}
 use Rattle.history_model.specs.Past.{past}
 use Rattle.history_model.specs.Journal.{Header}
-use Rattle.reply_model.specs.Reply.{Ask, Refusal, Granted, judge, PutWhole, are_pieces, parts_of, Question, HeadOf, ContentOf, ChangesetOf, LogFrom, FsnodeOf, UnodeOf, HistoryOf, CopiesOf, PathLogOf, DeletedOf, Seen, Absent, AbsentChangeset, Sees}
+use Rattle.reply_model.specs.Reply.{Ask, Refusal, Granted, judge, PutWhole, are_pieces, parts_of, Question, HeadOf, ContentOf, ChangesetOf, LogFrom, FsnodeOf, UnodeOf, HistoryOf, CopiesOf, PathLogOf, DeletedOf, PolicyOf, Seen, Absent, AbsentChangeset, Sees}
 use Rattle.history_model.specs.Tree.{files_of}
 use Rattle.manifest_model.specs.Fsnode.{fsnode, fsnode_id}
 use Rattle.manifest_model.specs.Unode.{unode_id}
@@ -39,8 +39,8 @@ pub data Answer : Type 0 where
   Refuses : Refusal → Answer
   Shows : Seen → Answer
   Lacks : Absent → Answer
-  -- the ids of a changeset's root fsnode and root unode
-  Roots : (fsnode unode : Id) → Answer
+  -- the ids of a changeset's root fsnode, root unode and root deleted node
+  Roots : (fsnode unode deleted : Id) → Answer
   DiskFault : Answer
   ReadFault : Answer
   -- a content's bytes on the disk have another id than is wanted
@@ -66,6 +66,7 @@ AsksManifest (HistoryOf x p) = Unit {0}
 AsksManifest (CopiesOf x) = ⊥
 AsksManifest (PathLogOf x p) = Unit {0}
 AsksManifest (DeletedOf x d) = Unit {0}
+AsksManifest (PolicyOf number) = ⊥
 
 abbrev pub ReadsManifest : Call → Type 0
 ReadsManifest (Asks ask) = ⊥
@@ -84,9 +85,6 @@ nothing = record { entry = None; fault = None }
 abbrev pub only_fault : Bool → Made
 only_fault breaking = record { entry = None; fault = Some breaking }
 
-abbrev pub FailedAs : Option Body → Option Body → Type 0
-FailedAs judged entry = (IsSome judged × (entry ≡ None)) ⊎ (entry ≡ judged)
-
 -- what is asked where these contents are joined, with bytes that were read of them. Where a refusal comes before they are read, any bytes will do
 abbrev pub IsJoining : Result (List Id) Refusal → List Entry → List (List ℕ) → Type 0
 IsJoining (Ok parts) h pieces = are_pieces h parts pieces ≡ true
@@ -104,12 +102,13 @@ Answers header h (Joins body) (Grants granted) made = (made.fault ≡ None) × (
 Answers header h (Joins body) (Refuses refusal) made = (made ≡ nothing) × (pieces : List (List ℕ)) × IsJoining (parts_of header h body) h pieces × (judge header h (PutWhole body pieces) ≡ Err refusal)
 Answers header h (Looks question) (Shows seen) made = (made ≡ nothing) × Sees h question (Ok seen)
 Answers header h (Looks question) (Lacks absent) made = (made ≡ nothing) × Sees h question (Err absent)
-Answers header h (Derives x) (Roots fs un) made =
+Answers header h (Derives x) (Roots fs un gone) made =
     (made ≡ nothing) × IsTrue (is_known (known h) x) × (fs ≡ fsnode_id (fsnode (files_of (known h) x) [])) × (un ≡ unode_id (unode_at (past (known h) x) []))
+    × (gone ≡ deleted_id (deleted (past (known h) x) []))
 Answers header h (Derives x) (Lacks absent) made = (made ≡ nothing) × (absent ≡ AbsentChangeset x) × (is_known (known h) x ≡ false)
--- The disk failed. A change met a breaking fault before its entry was made, or after that, when it was to be sealed with what stood before it. The read of a known content met another fault
-Answers header h (Asks ask) DiskFault made = (made.fault ≡ Some true) × (granted : Granted) × (judged : Option Body) × (judge header h ask ≡ Ok (record { granted = granted; made = judged })) × FailedAs judged made.entry
-Answers header h (Joins body) DiskFault made = (made.fault ≡ Some true) × (pieces : List (List ℕ)) × (granted : Granted) × (judged : Option Body) × IsJoining (parts_of header h body) h pieces × (judge header h (PutWhole body pieces) ≡ Ok (record { granted = granted; made = judged })) × FailedAs judged made.entry
+-- The disk failed. What a change made, if it made an entry, stands, and wasn't sealed with what stood before it. The read of a known content met another fault
+Answers header h (Asks ask) DiskFault made = (made.fault ≡ Some true) × (granted : Granted) × (judge header h ask ≡ Ok (record { granted = granted; made = made.entry }))
+Answers header h (Joins body) DiskFault made = (made.fault ≡ Some true) × (pieces : List (List ℕ)) × (granted : Granted) × IsJoining (parts_of header h body) h pieces × (judge header h (PutWhole body pieces) ≡ Ok (record { granted = granted; made = made.entry }))
 Answers header h (Looks (ContentOf x)) ReadFault made = (made ≡ only_fault false) × IsSome (content_len h x)
 Answers header h (Joins body) ReadFault made = (made ≡ only_fault false) × (parts : List Id) × MayRead header h body parts
 -- the disk gave other bytes, of a whole or of one of its parts
@@ -165,9 +164,23 @@ pub record Grows (old : List Entry) (who : ℕ) (before : List Entry) (made : Ma
   pub last : made.fault ≡ Some false → new ≡ before ++ stands_of who made
   pub failed : made.fault ≡ Some true → is_down new ≡ true
 
--- the answer is one at some history on the way from the old front to the new one
+-- what is granted, and what the disk failed, waited to be sealed
+abbrev pub IsAtOnce : Answer → Type 0
+IsAtOnce (Grants granted) = ⊥
+IsAtOnce (Refuses refusal) = Unit {0}
+IsAtOnce (Shows seen) = Unit {0}
+IsAtOnce (Lacks absent) = Unit {0}
+IsAtOnce (Roots fs un gone) = Unit {0}
+IsAtOnce DiskFault = ⊥
+IsAtOnce ReadFault = Unit {0}
+IsAtOnce (BadBytes wanted found) = Unit {0}
+IsAtOnce (NodeCollision x) = Unit {0}
+IsAtOnce Memory = Unit {0}
+
+-- The answer is one at some history on the way from the old front to the new one. One that waits for no other turn is an answer at the new front itself, but for the fault that it made.
 pub record After (header : Header) (old : List Entry) (who : ℕ) (call : Call) (answer : Answer) (new : List Entry) : Type 0 where
   pub before : List Entry
   pub made : Made
   pub grows : Grows old who before made new
   pub answers : Answers header before call answer made
+  pub at_once : IsAtOnce answer → new ≡ before ++ stands_of who made

@@ -1,8 +1,10 @@
 -- The repository of one thread: what each call answers at a history, and the entry that it makes.
 --     judge header h ask      of a change: what it is granted and the entry, if it makes one, or the first refusal that applies
+--     told h caller, denied_at h caller ps      the caller that an entry tells;  of these paths the first that isn't allowed, by the policy that is held
 --     seen_changeset h x, seen_log h n, seen_fsnode h x d, seen_unode h x p, seen_history h x p      of a read: what is seen, or what is absent
 --     Sees h question result      of every read. A content may be any bytes of its length whose SHA-256 (FIPS 180-4) is its id
 use Rattle.std.specs.Prelude.{◌≡◌, ℕ, ◌*◌, Bool, true, false, not, ◌&&◌, ◌||◌, ◌==◌, nat_lt, nat_le, zero, suc, ◌/◌, ◌%◌, ◌^◌, if◌then◌else◌, List, [], ◌∷◌, ◌++◌, length, take, drop, map, find, bytes_eq, Option, None, Some, option_map, ok_or, Result, Ok, Err, MatchOption, is_some, is_none}
+use Rattle.std.specs.Result.{result_err}
 use Rattle.std.specs.List.{list_any, list_all, concat}
 use Rattle.std.specs.Option.{option_eq, option_to_list}
 use Rattle.sha2.specs.Sha256.{sha256}
@@ -12,13 +14,16 @@ use Rattle.changeset_model.specs.Version.{is_second}
 use Rattle.changeset_model.specs.Changeset.{File, CopySource, Changeset, spelling, id_of, sets_of, copies_of, touched_paths, most_content}
 use Rattle.changeset_model.specs.Decoding.{DecodeFault, decoded}
 use Rattle.changeset_model.specs.Decoding as reading
-use Rattle.history_model.specs.History.{Body, Content, Whole, Change, Book, Land, Entry, stored, is_down, Known, with_id, known, is_known, changeset_of, content_len, is_whole, holds_policy}
+use Rattle.history_model.specs.History.{Body, Content, Whole, Change, Book, Land, Policy, Entry, stored, is_down, Known, with_id, known, is_known, changeset_of, content_len, is_whole, holds_policy, policy_of, policy_at}
 use Rattle.history_model.specs.Past.{past}
 use Rattle.history_model.specs.Merge.{unresolved}
 use Rattle.history_model.specs.Tree.{files_of, is_file, is_dir}
 use Rattle.history_model.specs.Bookmark.{is_name, head}
 use Rattle.history_model.specs.Pushrebase.{fork, clash, rewrite, moment_of}
 use Rattle.history_model.specs.Journal.{Header, payload_len, most_payload, size, is_full}
+use Rattle.policy_model.specs.Rules.{Denial, bookmark_place, policy_place}
+use Rattle.policy_model.specs.Grammar.{parse}
+use Rattle.policy_model.specs.Held.{denied_under}
 use Rattle.manifest_model.specs.Fsnode.{fsnode, fsnode_bytes}
 use Rattle.manifest_model.specs.Unode.{unode_bytes}
 use Rattle.manifest_model.specs.Merged.{unode_at, history_of}
@@ -33,6 +38,7 @@ pub data Ask : Type 0 where
   PutChangeset : (bytes : List ℕ) → Ask
   SetBookmark : (caller name : List ℕ) (from to : Option Id) → Ask
   LandDraft : (caller name : List ℕ) (draft : Id) (moment : ℕ) → Ask
+  SetPolicy : (caller text : List ℕ) → Ask
 
 -- as many ids, of 32 bytes each
 abbrev pub split_ids : ℕ → List ℕ → List Id
@@ -59,6 +65,7 @@ is_ask h (PutWhole body pieces) = are_bytes body && are_pieces h (ids_in body) p
 is_ask h (PutChangeset bytes) = are_bytes bytes
 is_ask h (SetBookmark caller name from to) = is_name caller && is_name name && list_all (is_bytes 32) (option_to_list from ++ option_to_list to)
 is_ask h (LandDraft caller name draft moment) = is_name caller && is_name name && is_bytes 32 draft && nat_lt moment (2 ^ 64)
+is_ask h (SetPolicy caller text) = is_name caller && are_bytes text
 
 pub data Refusal : Type 0 where
   Down : Refusal
@@ -84,8 +91,12 @@ pub data Refusal : Type 0 where
   StackTooLong : (count : ℕ) → Refusal
   MergeInStack : (id : Id) → Refusal
   MergeInRange : (id : Id) → Refusal
+  -- the policy doesn't allow the caller this path, by the rule of this number, from 0, or as no rule speaks of it
+  Denied : (path : Path) (rule : Option ℕ) → Refusal
   Clash : (left right : Path) → Refusal
   TooLarge : (length : ℕ) → Refusal
+  -- the number of the first line, from 0, that breaks the grammar of a policy
+  BadPolicy : (line : ℕ) → Refusal
   Full : (size length : ℕ) → Refusal
 
 pub data Granted : Type 0 where
@@ -95,6 +106,8 @@ pub data Granted : Type 0 where
   BookmarkSet : Granted
   -- the head before, and the ids of the new changesets
   Landed : (old : Id) (ids : List Id) → Granted
+  -- the number of its entry in the log
+  PolicySet : (number : ℕ) → Granted
 
 -- what a change is granted, and the entry that it makes, if it makes one
 pub record Judged : Type 0 where
@@ -141,7 +154,8 @@ is_parts_len n = (n % 32 == 0) && nat_le 32 n && nat_le n (32 * most_parts)
 abbrev pub parts_of : Header → List Entry → List ℕ → Result (List Id) Refusal
 parts_of header h body = do
   _ ← refuse_if (not (is_parts_len (length body))) (BadParts (length body))
-  _ ← refuse_if (not (is_second header.version)) OldFormat
+  -- contents aren't joined yet
+  _ ← refuse_if true OldFormat
   _ ← refuse_some (find (λ x. is_none (content_len h x)) (ids_in body)) NoPiece
   _ ← refuse_some (find (is_whole h) (ids_in body)) NotAPiece
   Ok (ids_in body)
@@ -180,6 +194,7 @@ unresolved_of ks c (p ∷ q ∷ ps) = unresolved c (files_of ks p) (files_of ks 
 abbrev pub put_changeset : Header → List Entry → List ℕ → Result Judged Refusal
 put_changeset header h bytes = do
   c ← accepted (decoded bytes)
+  -- merges aren't stored yet
   _ ← refuse_if (nat_lt 1 (length c.parents)) Merge
   _ ← refuse_some (find (λ p. not (is_known (known h) p)) c.parents) NoParent
   _ ← refuse_some (first_some (λ e. content_refusal e (content_len h e.1.content)) (sets_of c)) (λ refusal. refusal)
@@ -193,10 +208,17 @@ put_changeset header h bytes = do
 abbrev pub told : List Entry → List ℕ → Option (List ℕ)
 told h caller = if holds_policy h then Some caller else None
 
+abbrev pub denial : Denial → Refusal
+denial d = Denied d.path d.rule
+
+abbrev pub denied_at : List Entry → List ℕ → List Path → Option Denial
+denied_at h caller ps = denied_under (policy_of h) caller ps
+
 abbrev pub set_bookmark : Header → List Entry → List ℕ → List ℕ → Option Id → Option Id → Result Judged Refusal
 set_bookmark header h caller name from to = do
   _ ← refuse_some (find (λ x. not (is_known (known h) x)) (option_to_list to)) NoChangeset
   _ ← refuse_if (not (option_eq bytes_eq (head h name) from)) (Moved (head h name))
+  _ ← refuse_some (denied_at h caller (bookmark_place name ∷ [])) denial
   if option_eq bytes_eq from to then unchanged BookmarkSet else entered header h BookmarkSet (Book (record { name = name; from = from; to = to; caller = told h caller }))
 
 -- the first of these that is, by its id, another changeset than one known or one before it
@@ -231,16 +253,25 @@ land header h caller name draft moment = do
   _ ← refuse_if (nat_lt most_stack (length f.stack)) (StackTooLong (length f.stack))
   _ ← refuse_some (option_map id_of (find is_merge f.stack)) MergeInStack
   _ ← refuse_some (option_map id_of (find is_merge f.range)) MergeInRange
+  _ ← refuse_some (denied_at h caller (touched_paths f.stack)) denial
   _ ← refuse_some (clash (touched_paths f.stack) (touched_paths f.range)) (λ pair. Clash pair.0 pair.1)
   enter_landing header h (told h caller) name old draft (rewrite f.stack old moment) (moment_of f.stack moment)
 
+-- the number of an entry is that of the stored entries before it
+abbrev pub set_policy : Header → List Entry → List ℕ → List ℕ → Result Judged Refusal
+set_policy header h caller text = do
+  _ ← refuse_if (not (is_second header.version)) OldFormat
+  _ ← refuse_some (result_err (parse text)) BadPolicy
+  _ ← refuse_some (denied_at h caller (policy_place ∷ [])) denial
+  entered header h (PolicySet (length (stored h))) (Policy caller text)
+
 abbrev pub by_ask : Header → List Entry → Ask → Result Judged Refusal
 by_ask header h (PutContent bytes) = put_content header h bytes
--- contents aren't joined yet
-by_ask header h (PutWhole body pieces) = Err OldFormat
+by_ask header h (PutWhole body pieces) = put_whole header h body pieces
 by_ask header h (PutChangeset bytes) = put_changeset header h bytes
 by_ask header h (SetBookmark caller name from to) = set_bookmark header h caller name from to
 by_ask header h (LandDraft caller name draft moment) = land header h caller name draft moment
+by_ask header h (SetPolicy caller text) = set_policy header h caller text
 
 abbrev pub judge : Header → List Entry → Ask → Result Judged Refusal
 judge header h ask = do
@@ -260,6 +291,8 @@ pub data Question : Type 0 where
   CopiesOf : (id : Id) → Question
   PathLogOf : (id : Id) (path : Path) → Question
   DeletedOf : (id : Id) (path : Path) → Question
+  -- the last one, or the one that is the stored entry of this number, from 0
+  PolicyOf : (number : Option ℕ) → Question
 
 pub data Seen : Type 0 where
   SeenHead : Option Id → Seen
@@ -276,6 +309,7 @@ pub data Absent : Type 0 where
   NoPath : Absent
   NotADir : Absent
   NotAFile : Absent
+  NoPolicy : Absent
 
 abbrev pub page_len : ℕ
 page_len = 100
@@ -328,6 +362,15 @@ seen_deleted h x d = do
   _ ← refuse_if (not (has_deleted (past (known h) x) d)) NoPath
   Ok (SeenBytes (deleted_bytes (deleted (past (known h) x) d)))
 
+abbrev pub policy_asked : List Entry → Option ℕ → Option (List ℕ)
+policy_asked h None = policy_of h
+policy_asked h (Some number) = policy_at h number
+
+abbrev pub seen_policy : List Entry → Option ℕ → Result Seen Absent
+seen_policy h number = do
+  text ← ok_or (policy_asked h number) NoPolicy
+  Ok (SeenBytes text)
+
 -- the history fixes each answer but a content's bytes
 abbrev pub Sees : List Entry → Question → Result Seen Absent → Type 0
 Sees h (HeadOf name) result = result ≡ Ok (SeenHead (head h name))
@@ -341,3 +384,4 @@ Sees h (HistoryOf x p) result = result ≡ seen_history h x p
 Sees h (CopiesOf x) result = result ≡ seen_copies h x
 Sees h (PathLogOf x p) result = result ≡ seen_path_log h x p
 Sees h (DeletedOf x d) result = result ≡ seen_deleted h x d
+Sees h (PolicyOf number) result = result ≡ seen_policy h number
