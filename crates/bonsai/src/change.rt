@@ -18,7 +18,7 @@ pub enum Change {
         /// The id of the content.
         content: Id,
         kind: FileKind,
-        /// The content's length in bytes, at most `MOST_CONTENT`.
+        /// The content's length in bytes, at most `MOST_SIZE`.
         size: u64,
         /// Where the file was copied from, if it is told. The first version tells none.
         copied: Option<CopySource>,

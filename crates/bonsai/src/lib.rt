@@ -33,6 +33,7 @@ pub use fields::Fields;
 pub use kind::{FileKind, kind_at};
 pub use limits::{
     LONGEST_AUTHOR, LONGEST_ENCODING, LONGEST_MESSAGE, MOST_CONTENT, MOST_EDITS, MOST_PARENTS,
+    MOST_SIZE,
 };
 pub use making::FieldsFault;
 pub use version::{Version, version_at};

@@ -5,8 +5,11 @@ ghost use Rattle.changeset_model.specs.Changeset.{most_content, most_encoded, mo
 /// The most bytes of a changeset's encoding.
 pub const LONGEST_ENCODING: usize = 1_048_576;
 
-/// The most bytes of a content, and the greatest size that a set names.
+/// The most bytes of a content that is uploaded by itself.
 pub const MOST_CONTENT: u64 = 1_048_576;
+
+/// The greatest size in bytes that a set names: a content may be joined of up to 64 that were uploaded.
+pub const MOST_SIZE: u64 = 67_108_864;
 
 /// The most edits of a changeset.
 pub const MOST_EDITS: u32 = 4096;
@@ -24,5 +27,5 @@ pub const LONGEST_MESSAGE: u32 = 1_048_576;
 pub fn limits_are_defined()
     ensures encoded { LONGEST_ENCODING ≡ most_encoded }
     ensures content { MOST_CONTENT ≡ most_content }
-    ensures size { MOST_CONTENT ≡ most_size }
+    ensures size { MOST_SIZE ≡ most_size }
 {}

@@ -13,7 +13,7 @@ use crate::changeset::Changeset;
 use crate::copy_source::CopySource;
 use crate::edit::Edit;
 use crate::fields::Fields;
-use crate::limits::{LONGEST_AUTHOR, LONGEST_MESSAGE, MOST_CONTENT, MOST_EDITS};
+use crate::limits::{LONGEST_AUTHOR, LONGEST_MESSAGE, MOST_EDITS, MOST_SIZE};
 use crate::text::line_of;
 use crate::version::Version;
 use byte_fields::is_text;
@@ -37,7 +37,7 @@ pub enum FieldsFault {
     /// There are more than `MOST_EDITS` edits.
     #[error("too many edits")]
     TooManyEdits,
-    /// A set names a size of more than `MOST_CONTENT` bytes.
+    /// A set names a size of more than `MOST_SIZE` bytes.
     #[error("a file is too large")]
     TooLarge,
     /// A copy source stands in the first version, or names a parent that isn't there.
@@ -208,7 +208,7 @@ fn keeps_size(edit: &Edit) -> bool
             copied: _,
         } => {
             let _bytes = content.as_bytes();
-            *size <= MOST_CONTENT
+            *size <= MOST_SIZE
         }
     }
 }

@@ -14,7 +14,7 @@ use crate::change::Change;
 use crate::copy_source::CopySource;
 use crate::edit::Edit;
 use crate::kind_at;
-use crate::limits::{LONGEST_AUTHOR, LONGEST_MESSAGE, MOST_CONTENT};
+use crate::limits::{LONGEST_AUTHOR, LONGEST_MESSAGE, MOST_SIZE};
 use crate::text::{line_of, text_of};
 use crate::version::Version;
 use byte_fields::fields::{bytes_at, id_at, u8_below, u16_at, u32_up_to, u64_up_to};
@@ -189,7 +189,7 @@ fn set_at(
     ensures { Reads (λ x. (change_view x.0, x.1.now)) result (decoding.change_of (version_view version) parents 1 bytes.now) }
 {
     let (kind, rest) = kind_at(bytes)?;
-    let (size, rest) = u64_up_to(rest, MOST_CONTENT)?;
+    let (size, rest) = u64_up_to(rest, MOST_SIZE)?;
     let (content, rest) = id_at(rest)?;
     let (copied, rest) = copied_at(alloc, version, parents, rest)?;
     let set = Change::Set {

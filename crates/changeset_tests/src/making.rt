@@ -247,8 +247,8 @@ fn sources_of_copies(rt: HostRuntime) {
 
 // Two paths that are set, the bytes of the second file, and why that makes no changeset.
 const EDITS: &str = "\
-a b 1048576 none
-a b 1048577 large
+a b 67108864 none
+a b 67108865 large
 b a 3 unordered
 a a 3 unordered
 a.b a/b 3 unordered

@@ -12,9 +12,10 @@ use Rattle.disk_model.specs.Meaning.{Meaning, IsSound}
 use Rattle.std.specs.Option.{ForSome}
 use Rattle.repo_journal.proofs.Walks.{Walked, leaves_walk}
 use Rattle.repo_journal.specs.View.{JournalView}
-use Rattle.content_pieces.specs.declared.hasher.Hasher.{Hasher}
+use Rattle.object_id.specs.declared.hasher.Hasher.{Hasher}
 use Rattle.content_pieces.specs.declared.piece.Piece.{Piece}
-use Rattle.content_pieces.specs.Joining.{HasFed, IsRead, IsReadAt}
+use Rattle.object_id.specs.Hashing.{HasFed}
+use Rattle.content_pieces.specs.Joining.{IsRead, IsReadAt}
 
 two_stretches : (a b all : List ℕ) (n k at : ℕ) → a ≡ take n (drop at all) → b ≡ take k (drop (at + n) all) → a ++ b ≡ take (n + k) (drop at all)
 two_stretches a b all n k at left right =

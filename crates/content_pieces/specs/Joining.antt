@@ -1,5 +1,4 @@
 -- Contents of a journal that are joined.
---     HasFed hasher bytes      the hasher was fed these bytes
 --     IsWithin j p      the piece lies in the file, or in what waits behind it
 --     IsRead j m p bytes      these bytes may have been read for the piece: an honest disk gives those that stand there
 --     AreJoined j m pieces joined      bytes that may have been read for each piece, of its id, one behind another
@@ -7,19 +6,14 @@
 --     TellsPiece j m pieces fault      the fault is of the disk, or of the first piece whose bytes have another id
 use Rattle.std.specs.Prelude.{◌≡◌, ◌≢◌, ◌+◌, ◌-◌, ◌≤◌, ◌<◌, ◌^◌, ℕ, Bool, true, false, List, [], ◌∷◌, ◌++◌, length, take, drop, Result, Ok, Err, IsTrue, ⊤}
 use Rattle.sha2.specs.Sha256.{sha256}
-use Rattle.sha2.specs.Hashers.{Holds256}
 use Rattle.byte_fields.specs.Bytes.{Id}
 use Rattle.disk_model.specs.Meaning.{Meaning}
 use Rattle.repo_journal.specs.View.{JournalView}
-use Rattle.content_pieces.specs.declared.hasher.Hasher.{Hasher}
 use Rattle.content_pieces.specs.declared.piece.Piece.{Piece}
 use Rattle.content_pieces.specs.declared.fault.PieceFault.{PieceFault}
 use Rattle.content_pieces.specs.declared.fault.PieceFault.TheVariants.{ReadFault, BadBytes}
 use Rattle.content_pieces.specs.declared.fault.AssembleFault.{AssembleFault}
 use Rattle.content_pieces.specs.declared.fault.AssembleFault.TheVariants.{ReadFault as NotRead, BadBytes as OtherBytes, Memory}
-
-abbrev pub HasFed : Hasher → List ℕ → Type 0
-HasFed hasher bytes = Holds256 hasher.0 bytes
 
 pub record IsWithin (j : JournalView) (p : Piece) : Type 0 where
   pub inside : p.at + p.length ≤ j.size + length j.pending.bytes

@@ -5,12 +5,12 @@ ghost use Rattle.sha2.specs.Sha256.{sha256};
 ghost use Rattle.disk_model.specs.Images.{IsImage};
 ghost use Rattle.disk_model.specs.Meaning.{IsLong};
 ghost use Rattle.disk_model.specs.Calls.{Kept, LeavesOnly, Looked};
-ghost use Rattle.content_pieces.specs.Joining.{HasFed, IsWithin, IsRead};
+ghost use Rattle.object_id.specs.Hashing.{HasFed};
+ghost use Rattle.content_pieces.specs.Joining.{IsWithin, IsRead};
 
-use crate::hasher::Hasher;
 use crate::piece::Piece;
 use blob_disk::Disk;
-use object_id::Id;
+use object_id::{Hasher, Id};
 use repo_journal::{DiskFault, Journal};
 
 // How many bytes are read at once.

@@ -9,10 +9,9 @@ ghost use Rattle.content_pieces.specs.Joining.{AreJoined, IsWithin, TellsPiece, 
 
 use crate::fault::PieceFault;
 use crate::feeding::feed;
-use crate::hasher::Hasher;
 use crate::piece::Piece;
 use blob_disk::Disk;
-use object_id::Id;
+use object_id::{Hasher, Id};
 use repo_journal::Journal;
 
 /// The id of the pieces' bytes, one behind another. Each piece is read once, in blocks, and its digest compared: the first

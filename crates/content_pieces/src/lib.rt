@@ -4,12 +4,10 @@
 mod assembled;
 pub mod fault;
 mod feeding;
-pub mod hasher;
 mod joined;
 pub mod piece;
 
 pub use assembled::assemble;
 pub use fault::{AssembleFault, PieceFault};
-pub use hasher::Hasher;
 pub use joined::joined_id;
 pub use piece::Piece;

@@ -1,7 +1,6 @@
 pub mod Spelled
 pub mod Decoded
 pub mod Named
-pub mod Deletions
 pub mod Within
 pub mod Stays
 pub mod Rows

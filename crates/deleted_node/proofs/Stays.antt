@@ -24,7 +24,7 @@ use Rattle.manifest_laws.specs.Changes.{is_reached}
 use Rattle.manifest_laws.proofs.Changes.{none_decides, prefix_itself}
 use Rattle.manifest_laws.proofs.Lists.{is_so}
 use Rattle.manifest_laws.proofs.Names.{name_cmp, same_name}
-use Rattle.deleted_node.proofs.Deletions.{deletion_found, gone_before, none_where_there}
+use Rattle.manifest_model.proofs.Deletions.{deletion_found, deletions_rise, gone_before, none_where_there, same_gone}
 use Rattle.deleted_node.proofs.Within.{Gone, IsWithin, any_below, entry_is, found_below, within_below, within_depth, within_same}
 
 -- ---- below a path the order stays
@@ -56,31 +56,7 @@ below_rises d [] rises = refl
 below_rises d (e ∷ gone) rises =
     sorted_below d e (below d gone) (λ inside. lower_below d e.0 gone inside (first_so (below_all path_cmp e.0 gone) (is_sorted path_cmp gone) rises)) (below_rises d gone (second_so (below_all path_cmp e.0 gone) (is_sorted path_cmp gone) rises)) (is_prefix d e.0) refl
 
--- ---- the deletions rise
-
-listed_below : (t : Path → Option Id) (p : Path) (qs : List Path) → AllByRecursion (λ q. path_lt p q ≡ true) qs → below_all path_cmp p (filter_map (λ q. option_map (λ x. (q, x)) (t q)) qs) ≡ true
-listed_below t p [] all = refl
-listed_below t p (q ∷ qs) all = by (t q) (listed_below t p qs all.1)
-  where
-    by : (o : Option Id) → below_all path_cmp p (filter_map (λ q. option_map (λ x. (q, x)) (t q)) qs) ≡ true → below_all path_cmp p (cons_option (option_map (λ x. (q, x)) o) (filter_map (λ q. option_map (λ x. (q, x)) (t q)) qs)) ≡ true
-    by None h = h
-    by (Some x) h = λ i. all.0 i && h i
-
-listed_rise : (t : Path → Option Id) (ps : List Path) → IsRising ps → is_sorted path_cmp (filter_map (λ q. option_map (λ x. (q, x)) (t q)) ps) ≡ true
-listed_rise t [] rises = refl
-listed_rise t (p ∷ ps) rises = by (t p) (listed_below t p ps rises.0) (listed_rise t ps rises.1)
-  where
-    by : (o : Option Id) → below_all path_cmp p (filter_map (λ q. option_map (λ x. (q, x)) (t q)) ps) ≡ true → is_sorted path_cmp (filter_map (λ q. option_map (λ x. (q, x)) (t q)) ps) ≡ true → is_sorted path_cmp (cons_option (option_map (λ x. (p, x)) o) (filter_map (λ q. option_map (λ x. (q, x)) (t q)) ps)) ≡ true
-    by None h g = g
-    by (Some x) h g = λ i. h i && g i
-
-deletions_rise : (past : Past) → is_sorted path_cmp (deletions past) ≡ true
-deletions_rise past = listed_rise (deleted_at past) (touched_paths (changesets_of past)) (touched_paths_rise (changesets_of past))
-
 -- ---- equal nodes
-
-same_gone : (xs ys : Gone) → is_sorted path_cmp xs ≡ true → is_sorted path_cmp ys ≡ true → ((p : Path) → find_key path_cmp p xs ≡ find_key path_cmp p ys) → xs ≡ ys
-same_gone xs ys h g e = same_entries path_cmp path_cmp_total path_cmp-IsAntisymmetric xs ys (is_so (is_sorted path_cmp xs) h) (is_so (is_sorted path_cmp ys) g) e
 
 abbrev pub AgreeBelow : Past → Past → Path → Type 0
 AgreeBelow past before d = (p : Path) → is_prefix d p ≡ true → deleted_at past p ≡ deleted_at before p

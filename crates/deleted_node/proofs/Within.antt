@@ -16,7 +16,7 @@ use Rattle.history_model.proofs.Landings.{prefix_self}
 use Rattle.manifest_model.proofs.Derivations.{tied_same}
 use Rattle.manifest_laws.proofs.Lists.{and_assoc, filter_map-same, filter_map-twice}
 use Rattle.manifest_laws.proofs.Names.{Name, among_dedup, first_tells, is_among, keyed, looked_up, name_cmp}
-use Rattle.deleted_node.proofs.Deletions.{deletion_found}
+use Rattle.manifest_model.proofs.Deletions.{deletion_found}
 
 abbrev pub Gone : Type 0
 Gone = List (Path × Id)

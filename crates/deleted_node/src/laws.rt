@@ -5,11 +5,10 @@ ghost use Rattle.std.specs.Cmp.Lexicographic.{slice_cmp};
 ghost use Rattle.std.specs.FinMap.{find as find_key};
 ghost use Rattle.byte_fields.specs.Bytes.{IsBytes};
 ghost use Rattle.changeset_model.specs.Path.{Path, is_prefix, path_cmp};
-ghost use Rattle.changeset_model.specs.Changeset.{File};
 ghost use Rattle.history_model.specs.History.{Known};
 ghost use Rattle.history_model.specs.Past.{Past, Begin, At};
 ghost use Rattle.history_model.specs.Tree.{tree_of};
-ghost use Rattle.manifest_model.specs.Deleted.{DeletedNode, deleted, deleted_at, deleted_bytes, deleted_id, deletions, has_deleted, is_deleted};
+ghost use Rattle.manifest_model.specs.Deleted.{DeletedNode, deleted, deleted_at, deleted_bytes, deleted_id, has_deleted, is_deleted};
 ghost use Rattle.manifest_laws.specs.Changes.{is_reached};
 ghost use Rattle.manifest_model.specs.NodeReading.{deleted_of};
 
@@ -22,19 +21,6 @@ pub fn deleted_spelling_is_of_one()
 /// Bytes are read as a deleted node exactly where they spell it.
 pub fn deleted_is_read_exactly()
     ensures { (bytes : List ℕ) (n : DeletedNode) → IsBytes bytes → ((deleted_of bytes ≡ Ok n) ↔ ((is_deleted n ≡ true) × (bytes ≡ deleted_bytes n))) }
-{}
-
-/// The deletions of a past have at each path what was deleted there.
-pub fn deletions_are_by_their_paths()
-    ensures { (past : Past) (p : Path) → find_key path_cmp p (deletions past) ≡ deleted_at past p }
-{}
-
-/// With one changeset more nothing is deleted where it has a file; where only its first parent has one, it deleted that one;
-/// and where neither has one it is as it was at the first parent. The second parent tells nothing of it.
-pub fn deletion_with_one_more()
-    ensures there { (c : Known) (first second : Past) (p : Path) (f : File) → tree_of (At c first second) p ≡ Some f → deleted_at (At c first second) p ≡ None }
-    ensures gone { (c : Known) (first second : Past) (p : Path) (f : File) → tree_of (At c first second) p ≡ None → tree_of first p ≡ Some f → deleted_at (At c first second) p ≡ Some c.id }
-    ensures before { (c : Known) (first second : Past) (p : Path) → tree_of (At c first second) p ≡ None → tree_of first p ≡ None → deleted_at (At c first second) p ≡ deleted_at first p }
 {}
 
 /// The deleted node of a path has the path's link, and under a name it has the node of the path that is longer by the name,

@@ -18,16 +18,16 @@ use Rattle.deleted_step.specs.declared.done.Done.{Done}
 use Rattle.deleted_step.specs.declared.unfolded.Unfolded.{Unfolded}
 use Rattle.deleted_step.specs.Opened.{IsOf}
 use Rattle.deleted_step.specs.Unfolded.{IsUnfolded, entry_in, is_unfolded, link_after, link_in}
-use Rattle.deleted_step.specs.Steps.{AreComeAndGone, AreHeld, IsDoneOf, IsHeld, IsLedTo, IsNew, IsStart, are_set, root_on}
+use Rattle.deleted_step.specs.Steps.{AreComeAndGone, AreHeld, AreHeldAt, IsDoneOf, IsHeld, IsLedTo, IsNew, IsStart, are_set, root_on}
 use Rattle.deleted_step.proofs.SetLinks.{links_are, paths_set}
 use Rattle.deleted_step.proofs.Unfolding.{held_at}
 
-pub root_led : (contents : Id → Option (List ℕ)) (first : Past) (root : Option Id) → root ≡ root_on first → AreHeld contents first → IsLedTo contents root (deleted first [])
-root_led contents first root e held = subst (λ root. IsLedTo contents root (deleted first [])) (sym e) (by first held)
+pub root_led : (contents : Id → Option (List ℕ)) (first : Past) (root : Option Id) → root ≡ root_on first → (ps : List Path) → AreHeldAt contents first ps → IsLedTo contents root (deleted first [])
+root_led contents first root e ps held = subst (λ root. IsLedTo contents root (deleted first [])) (sym e) (by first held)
   where
-    by : (first : Past) → AreHeld contents first → IsLedTo contents (root_on first) (deleted first [])
+    by : (first : Past) → AreHeldAt contents first ps → IsLedTo contents (root_on first) (deleted first [])
     by Begin held = refl
-    by (At c one other) held = (refl, held [] refl)
+    by (At c one other) held = (refl, held [] refl refl)
 
 pub root_alone : (first : Past) (u : Unfolded) → IsOf u.root (deleted first []) → u.places.entries ≡ [] → IsUnfolded first [] [] u
 root_alone first u of none = record {

@@ -16,7 +16,7 @@ use Rattle.history_model.proofs.Landings.{or_true}
 use Rattle.manifest_model.specs.Deleted.{DeletedNode, deleted, deleted_at, deleted_id, deletions, has_deleted}
 use Rattle.manifest_laws.proofs.Changes.{filed_rise}
 use Rattle.manifest_laws.proofs.Names.{Name, below_rises, keyed, name_cmp, names_rise}
-use Rattle.deleted_node.proofs.Deletions.{deletion_found}
+use Rattle.manifest_model.proofs.Deletions.{deletion_found}
 use Rattle.deleted_node.proofs.Within.{Gone, any_below, entries_are, entry_is, found_below, link_is}
 use Rattle.deleted_step.specs.Opened.{has_any, is_there}
 

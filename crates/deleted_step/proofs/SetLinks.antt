@@ -14,7 +14,7 @@ use Rattle.history_model.specs.Past.{At, Past}
 use Rattle.history_model.specs.Tree.{tree_of}
 use Rattle.manifest_model.specs.Deleted.{deleted_at, deletions, last_deletion}
 use Rattle.manifest_model.proofs.Derivations.{tied_same}
-use Rattle.deleted_node.proofs.Deletions.{deletion_found, gone_before, gone_by_it, none_where_there}
+use Rattle.manifest_model.proofs.Deletions.{deletion_found, gone_before, gone_by_it, none_where_there}
 use Rattle.deleted_step.specs.Unfolded.{Links, is_on_way, link_after}
 use Rattle.deleted_step.specs.Steps.{AreComeAndGone, are_set, is_among}
 

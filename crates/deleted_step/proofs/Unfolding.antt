@@ -1,12 +1,14 @@
 -- One more node of the first parent, under the node of the directory above it.
-use Rattle.std.proofs.Common.{◌≡◌, ◌⊎◌, inl, inr, ℕ, ◌<◌, Bool, true, false, cond, ◌||◌, List, [], ◌∷◌, ◌++◌, length, refl, sym, ap, subst, ◌∙◌, arith}
-use Rattle.std.specs.Prelude.{Option, None, Some, Result, Ok, Err, MatchResult, is_some, ◌==◌}
+use Rattle.std.proofs.Common.{◌≡◌, ◌⊎◌, inl, inr, ℕ, zero, suc, ◌<◌, Bool, true, false, cond, ◌||◌, List, [], ◌∷◌, ◌++◌, length, refl, sym, ap, subst, ◌∙◌, arith}
+use Rattle.std.specs.Prelude.{Option, None, Some, Result, Ok, Err, MatchResult, is_some, slice_index_or, ◌==◌}
 use mathlib.Core.Bool.{true≢false}
+use Rattle.std.specs.List.{list_any}
 use Rattle.std.specs.Option.{option_and_then}
 use Rattle.std.specs.Ordering.{eq_by_cmp}
 use Rattle.std.specs.FinMap.{find as find_key}
 use Rattle.std.specs.BTreeMap.{BTreeMap, get, is_at}
-use Rattle.std.proofs.lemmas.Bool.{or_left, or_parts}
+use Rattle.std.proofs.lemmas.Bool.{or_left, or_right, or_parts}
+use Rattle.std.proofs.lemmas.List.Folds.{list_any-append}
 use Rattle.std.proofs.lemmas.List.{length-append}
 use Rattle.byte_fields.specs.Bytes.{Id}
 use Rattle.changeset_model.specs.Path.{Path, is_prefix, path_cmp}
@@ -23,7 +25,7 @@ use Rattle.deleted_step.specs.declared.opened.Opened.{Opened}
 use Rattle.deleted_step.specs.declared.unfolded.Unfolded.{Unfolded}
 use Rattle.deleted_step.specs.Opened.{IsOf, entry_at, is_there}
 use Rattle.deleted_step.specs.Unfolded.{IsUnfolded, Links, entry_in, is_on_way, is_unfolded, link_after, link_in, place_at}
-use Rattle.deleted_step.specs.Steps.{AreHeld, IsHeld, IsLedTo}
+use Rattle.deleted_step.specs.Steps.{AreHeld, AreHeldAt, IsHeld, IsLedTo, is_on_way as is_on_way_to}
 use Rattle.deleted_step.proofs.Defined.{deep_snoc, entry_there, there_is, without}
 use Rattle.deleted_step.proofs.SetLinks.{untouched}
 
@@ -35,6 +37,52 @@ Places = BTreeMap Path Opened
 pub held_at : (contents : Id → Option (List ℕ)) (first : Past) (d : Path) → (length d == 0) ≡ false → AreHeld contents first → has_deleted first d ≡ true → IsHeld contents (deleted first d)
 held_at contents Begin d deep held there = absurd (true≢false (sym there ∙ ap (λ b. b || false) deep))
 held_at contents (At c first second) d deep held there = held d there
+
+pub held_on : (contents : Id → Option (List ℕ)) (first : Past) (d : Path) (ps : List Path) → (length d == 0) ≡ false → AreHeldAt contents first ps → is_on_way_to ps d ≡ true → has_deleted first d ≡ true → IsHeld contents (deleted first d)
+held_on contents Begin d ps deep held on there = absurd (true≢false (sym there ∙ ap (λ b. b || false) deep))
+held_on contents (At c first second) d ps deep held on there = held d on there
+
+-- on the way to fewer paths
+pub held_fewer : (contents : Id → Option (List ℕ)) (first : Past) (ps qs : List Path) → ((d : Path) → list_any (λ q. is_prefix d q) qs ≡ true → list_any (λ p. is_prefix d p) ps ≡ true) → AreHeldAt contents first ps → AreHeldAt contents first qs
+held_fewer contents Begin ps qs fewer held = tt
+held_fewer contents (At c first second) ps qs fewer held = λ d on there. held d (by d (length d == 0) (list_any (λ q. is_prefix d q) qs) refl on) there
+  where
+    by : (d : Path) (b x : Bool) → list_any (λ q. is_prefix d q) qs ≡ x → (b || x) ≡ true → (b || list_any (λ p. is_prefix d p) ps) ≡ true
+    by d true x e h = refl
+    by d false x e h = fewer d (e ∙ h)
+
+pub held_front : (contents : Id → Option (List ℕ)) (first : Past) (p d rest : Path) → p ≡ d ++ rest → AreHeldAt contents first (p ∷ []) → AreHeldAt contents first (d ∷ [])
+held_front contents first p d rest e held = held_fewer contents first (p ∷ []) (d ∷ []) (λ q h. along q (is_prefix q d) refl h) held
+  where
+    along : (q : Path) (b : Bool) → is_prefix q d ≡ b → (b || false) ≡ true → (is_prefix q p || false) ≡ true
+    along q true h g = ap (λ b. b || false) (prefix_trans q d p h (ap (is_prefix d) e ∙ prefix_itself d rest))
+    along q false h g = absurd (true≢false (sym g))
+
+pub held_left : (contents : Id → Option (List ℕ)) (first : Past) (ps qs : List Path) → AreHeldAt contents first (ps ++ qs) → AreHeldAt contents first ps
+held_left contents first ps qs held = held_fewer contents first (ps ++ qs) ps (λ d h. list_any-append (λ p. is_prefix d p) ps qs ∙ or_left (list_any (λ p. is_prefix d p) ps) (list_any (λ p. is_prefix d p) qs) h) held
+
+pub held_right : (contents : Id → Option (List ℕ)) (first : Past) (ps qs : List Path) → AreHeldAt contents first (ps ++ qs) → AreHeldAt contents first qs
+held_right contents first ps qs held = held_fewer contents first (ps ++ qs) qs (λ d h. list_any-append (λ p. is_prefix d p) ps qs ∙ or_right (list_any (λ p. is_prefix d p) ps) (list_any (λ p. is_prefix d p) qs) h) held
+
+any_item : (f : Path → Bool) (ps : List Path) (i : ℕ) (p : Path) → i < length ps → p ≡ slice_index_or ps i p → f p ≡ true → list_any f ps ≡ true
+any_item f [] i p less e h = absurd (omega arith)
+any_item f (q ∷ ps) zero p less e h = or_left (f q) (list_any f ps) (ap f (sym e) ∙ h)
+any_item f (q ∷ ps) (suc i) p less e h = or_right (f q) (list_any f ps) (any_item f ps i p (omega arith) e h)
+
+pub held_item : (contents : Id → Option (List ℕ)) (first : Past) (ps : List Path) (i : ℕ) (p : Path) → i < length ps → p ≡ slice_index_or ps i p → AreHeldAt contents first ps → AreHeldAt contents first (p ∷ [])
+held_item contents first ps i p less e held = held_fewer contents first ps (p ∷ []) (λ d h. any_item (is_prefix d) ps i p less e (one (is_prefix d p) h)) held
+  where
+    one : (b : Bool) → (b || false) ≡ true → b ≡ true
+    one true h = refl
+    one false h = h
+
+itself : (p : Path) → is_on_way_to (p ∷ []) p ≡ true
+itself p = by (length p == 0) (is_prefix p p) (prefix_self p)
+  where
+    by : (b x : Bool) → x ≡ true → (b || (x || false)) ≡ true
+    by true x h = refl
+    by false true h = refl
+    by false false h = h
 
 pub of_nothing : (o : Opened) (n : DeletedNode) → is_there n ≡ false → o.link ≡ None → ((k : Name) → entry_at o k ≡ None) → IsOf o n
 of_nothing o n none link entries =
@@ -106,11 +154,11 @@ module _ (first : Past) (ls : Links) (a : Path) (n : Name) (u : Unfolded) (are :
   pub under_above : entry_in u a n ≡ cond (is_there (deleted first p)) (Some (deleted_id (deleted first p))) None
   under_above = are.entries a above_there n ∙ entry_there first a n
 
-  pub led : (contents : Id → Option (List ℕ)) → AreHeld contents first → IsLedTo contents (entry_in u a n) (deleted first p)
+  pub led : (contents : Id → Option (List ℕ)) → AreHeldAt contents first (p ∷ []) → IsLedTo contents (entry_in u a n) (deleted first p)
   led contents held = subst (λ id. IsLedTo contents id (deleted first p)) (sym under_above) (by (is_there (deleted first p)) refl)
     where
       by : (b : Bool) → is_there (deleted first p) ≡ b → IsLedTo contents (cond b (Some (deleted_id (deleted first p))) None) (deleted first p)
-      by true there = (refl, held_at contents first p (deep_snoc a n) held (sym (there_is first p (deep_snoc a n)) ∙ there))
+      by true there = (refl, held_on contents first p (p ∷ []) (deep_snoc a n) held (itself p) (sym (there_is first p (deep_snoc a n)) ∙ there))
       by false there = there
 
   -- where it was unfolded before
@@ -181,8 +229,8 @@ module _ (first : Past) (ls : Links) (a : Path) (n : Name) (u : Unfolded) (p : P
   pub was_unfolded : is_some (get path_cmp u.places p) ≡ true → IsUnfolded first ls p u
   was_unfolded there = subst (λ p. IsUnfolded first ls p u) (sym is) (as_before first ls a n u are (ap (is_unfolded u) (sym is) ∙ unfolded_deep u p (some_path a p n is) ∙ there))
 
-  pub led_to : (contents : Id → Option (List ℕ)) (id : Option Id) → AreHeld contents first → id ≡ entry_in u a n → IsLedTo contents id (deleted first p)
-  led_to contents id held e = subst (λ p. IsLedTo contents id (deleted first p)) (sym is) (subst (λ id. IsLedTo contents id (deleted first (a ++ n ∷ []))) (sym e) (led first ls a n u are contents held))
+  pub led_to : (contents : Id → Option (List ℕ)) (id : Option Id) → AreHeldAt contents first (p ∷ []) → id ≡ entry_in u a n → IsLedTo contents id (deleted first p)
+  led_to contents id held e = subst (λ p. IsLedTo contents id (deleted first p)) (sym is) (subst (λ id. IsLedTo contents id (deleted first (a ++ n ∷ []))) (sym e) (led first ls a n u are contents (subst (λ p. AreHeldAt contents first (p ∷ [])) is held)))
 
   pub now_unfolded : (o : Opened) (v : Unfolded) → is_some (get path_cmp u.places p) ≡ false → IsOf o (deleted first p) → v.root ≡ u.root
       → ((q : Path) → get path_cmp v.places q ≡ cond (is_at (path_cmp p) q) (Some o) (get path_cmp u.places q)) → IsUnfolded first ls p v

@@ -1,7 +1,9 @@
 -- What the deleted nodes of a changeset are derived from, and what is derived.
 --     are_set x gone come      the links that are set: of a file that is gone it is x, and a file that comes has none
 --     AreComeAndGone c first second gone come      the paths of the files that the first parent has and c hasn't, and of those that c has and the first parent hasn't
+--     is_on_way ps d      the root, one of these paths, or a directory above one
 --     IsHeld contents n, AreHeld contents first      a node is among those that are read, under its id;  so are all of the first parent's
+--     AreHeldAt contents first ps      so are those of the first parent's that lie on the way to these paths
 --     IsLedTo contents id n      the node of an id that was found, or one with nothing in it where none was found
 --     IsNoNode contents id      there is no deleted node of this id
 --     root_on past      the id of the root of a changeset that is there
@@ -11,11 +13,11 @@
 --     IsNodeOf now bytes      the bytes are a node of the definitions
 --     IsNew nodes n      a node is among these, and keeps its rules
 --     IsDoneOf first now ps done      the root is that of the definitions' deleted nodes, of which the new ones are here and all others are the first parent's at the same path. There is at most one new one for each of ways ps
-use Rattle.std.specs.Prelude.{◌≡◌, ◌≢◌, ◌⊎◌, ℕ, ◌≤◌, ◌&&◌, Bool, true, false, List, [], ◌∷◌, ◌++◌, length, map, flat_map, Contains, Option, None, Some, Ok, is_some, is_none}
+use Rattle.std.specs.Prelude.{◌≡◌, ◌≢◌, ◌⊎◌, ℕ, ◌≤◌, ◌&&◌, ◌||◌, ◌==◌, Bool, true, false, List, [], ◌∷◌, ◌++◌, length, map, flat_map, Contains, Option, None, Some, Ok, is_some, is_none}
 use Rattle.std.specs.List.{AllByRecursion, list_any}
 use Rattle.std.specs.Ordering.{eq_by_cmp}
 use Rattle.byte_fields.specs.Bytes.{Id}
-use Rattle.changeset_model.specs.Path.{Path, path_cmp, rising}
+use Rattle.changeset_model.specs.Path.{Path, path_cmp, is_prefix, rising}
 use Rattle.history_model.specs.History.{Known}
 use Rattle.history_model.specs.Past.{Past, Begin, At}
 use Rattle.history_model.specs.Tree.{tree_of}
@@ -44,6 +46,13 @@ abbrev pub AreHeld : (Id → Option (List ℕ)) → Past → Type 0
 AreHeld contents Begin = Unit {0}
 AreHeld contents (At c first second) = (d : Path) → has_deleted (At c first second) d ≡ true → IsHeld contents (deleted (At c first second) d)
 
+abbrev pub is_on_way : List Path → Path → Bool
+is_on_way ps d = (length d == 0) || list_any (λ p. is_prefix d p) ps
+
+abbrev pub AreHeldAt : (Id → Option (List ℕ)) → Past → List Path → Type 0
+AreHeldAt contents Begin ps = Unit {0}
+AreHeldAt contents (At c first second) ps = (d : Path) → is_on_way ps d ≡ true → has_deleted (At c first second) d ≡ true → IsHeld contents (deleted (At c first second) d)
+
 -- of a node that leads to another one, or has no entry for it
 abbrev pub IsLedTo : (Id → Option (List ℕ)) → Option Id → DeletedNode → Type 0
 IsLedTo contents None n = is_there n ≡ false
@@ -59,7 +68,7 @@ root_on (At c first second) = Some (deleted_id (deleted (At c first second) []))
 pub record AreGiven (contents : Id → Option (List ℕ)) (top : Option Id) (c : Known) (first second : Past) (x : Id) (gone come : List Path) : Type 0 where
   pub id : x ≡ c.id
   pub root : top ≡ root_on first
-  pub held : AreHeld contents first
+  pub held : AreHeldAt contents first (gone ++ come)
   pub files : AreComeAndGone c first second gone come
 
 -- ---- what is derived

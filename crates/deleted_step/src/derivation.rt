@@ -5,7 +5,7 @@ ghost use Rattle.history_model.specs.History.{Known};
 ghost use Rattle.history_model.specs.Past.{Past, At};
 ghost use Rattle.deleted_step.specs.declared.fault.StepFault.TheVariants.{NoNode, Memory};
 ghost use Rattle.deleted_step.specs.Unfolded.{IsUnfolded};
-ghost use Rattle.deleted_step.specs.Steps.{AreGiven, AreHeld, IsDoneOf, IsNoNode, are_set, root_on};
+ghost use Rattle.deleted_step.specs.Steps.{AreGiven, AreHeldAt, IsDoneOf, IsNoNode, are_set, root_on};
 
 use crate::done::Done;
 use crate::fault::StepFault;
@@ -53,7 +53,7 @@ fn linked<N: Nodes>(
     gone: &[RepoPath],
     come: &[RepoPath],
 ) -> Result<Unfolded, StepFault>
-    ensures linked { (first : Past) → root ≡ root_on first → AreHeld (N.contents nodes.now) first → MatchResult result (λ u. IsUnfolded first (are_set id gone.now come.now) [] u) (λ fault. fault ≡ Memory) }
+    ensures linked { (first : Past) → root ≡ root_on first → AreHeldAt (N.contents nodes.now) first (gone.now ++ come.now) → MatchResult result (λ u. IsUnfolded first (are_set id gone.now come.now) [] u) (λ fault. fault ≡ Memory) }
     ensures no_node { (other : IdBytes) → IsErrOf result (NoNode other) → IsNoNode (N.contents nodes.now) other }
 {
     let root = match opened_at(alloc, nodes, root) {

@@ -4,7 +4,7 @@ ghost use Rattle.byte_fields.specs.Bytes.{Id as IdBytes};
 ghost use Rattle.history_model.specs.Past.{Past};
 ghost use Rattle.deleted_step.specs.declared.fault.StepFault.TheVariants.{NoNode, Memory};
 ghost use Rattle.deleted_step.specs.Unfolded.{IsUnfolded, Links};
-ghost use Rattle.deleted_step.specs.Steps.{AreHeld, IsNoNode};
+ghost use Rattle.deleted_step.specs.Steps.{AreHeldAt, IsNoNode};
 
 use crate::fault::StepFault;
 use crate::nodes::Nodes;
@@ -22,7 +22,7 @@ pub(crate) fn set_links<N: Nodes>(
     paths: &[RepoPath],
     link: &Option<Id>,
 ) -> Result<(), StepFault>
-    ensures set { (first : Past) (ls : Links) → AreHeld (N.contents nodes.now) first → IsUnfolded first ls [] unfolded.old → MatchResult result (λ _. IsUnfolded first (ls ++ map (λ p. (p, link.now)) paths.now) [] unfolded.new) (λ fault. fault ≡ Memory) }
+    ensures set { (first : Past) (ls : Links) → AreHeldAt (N.contents nodes.now) first paths.now → IsUnfolded first ls [] unfolded.old → MatchResult result (λ _. IsUnfolded first (ls ++ map (λ p. (p, link.now)) paths.now) [] unfolded.new) (λ fault. fault ≡ Memory) }
     ensures no_node { (id : IdBytes) → IsErrOf result (NoNode id) → IsNoNode (N.contents nodes.now) id }
 {
     for path in paths {
@@ -40,7 +40,7 @@ fn set_one<N: Nodes>(
     path: &RepoPath,
     link: &Option<Id>,
 ) -> Result<(), StepFault>
-    ensures set { (first : Past) (ls : Links) → AreHeld (N.contents nodes.now) first → IsUnfolded first ls [] unfolded.old → MatchResult result (λ _. IsUnfolded first (ls ++ (path.now, link.now) ∷ []) [] unfolded.new) (λ fault. fault ≡ Memory) }
+    ensures set { (first : Past) (ls : Links) → AreHeldAt (N.contents nodes.now) first (path.now ∷ []) → IsUnfolded first ls [] unfolded.old → MatchResult result (λ _. IsUnfolded first (ls ++ (path.now, link.now) ∷ []) [] unfolded.new) (λ fault. fault ≡ Memory) }
     ensures no_node { (id : IdBytes) → IsErrOf result (NoNode id) → IsNoNode (N.contents nodes.now) id }
 {
     if let Err(fault) = unfold_way(alloc, nodes, unfolded, path) {

@@ -8,7 +8,7 @@ ghost use Rattle.deleted_step.specs.declared.fault.StepFault.TheVariants.{NoNode
 ghost use Rattle.deleted_step.specs.Texts.{dir_of};
 ghost use Rattle.deleted_step.specs.Opened.{IsOf};
 ghost use Rattle.deleted_step.specs.Unfolded.{IsUnfolded, Links};
-ghost use Rattle.deleted_step.specs.Steps.{AreHeld, IsLedTo, IsNoNode};
+ghost use Rattle.deleted_step.specs.Steps.{AreHeldAt, IsLedTo, IsNoNode};
 
 use crate::fault::StepFault;
 use crate::nodes::Nodes;
@@ -58,7 +58,7 @@ pub(crate) fn unfold_way<N: Nodes>(
     unfolded: &mut Unfolded,
     path: &RepoPath,
 ) -> Result<(), StepFault>
-    ensures unfolded { (first : Past) (ls : Links) → AreHeld (N.contents nodes.now) first → IsUnfolded first ls [] unfolded.old → MatchResult result (λ _. IsUnfolded first ls path.now unfolded.new) (λ fault. fault ≡ Memory) }
+    ensures unfolded { (first : Past) (ls : Links) → AreHeldAt (N.contents nodes.now) first (path.now ∷ []) → IsUnfolded first ls [] unfolded.old → MatchResult result (λ _. IsUnfolded first ls path.now unfolded.new) (λ fault. fault ≡ Memory) }
     ensures no_node { (id : IdBytes) → IsErrOf result (NoNode id) → IsNoNode (N.contents nodes.now) id }
 {
     let mut above = None;
@@ -86,7 +86,7 @@ fn unfold<N: Nodes>(
 ) -> Result<(), StepFault>
     requires name { is_element name.now ≡ true }
     requires here { here.now ≡ dir_of above ++ name.now ∷ [] }
-    ensures unfolded { (first : Past) (ls : Links) → AreHeld (N.contents nodes.now) first → IsUnfolded first ls (dir_of above.entry) unfolded.old → MatchResult result (λ _. IsUnfolded first ls here.now unfolded.new) (λ fault. fault ≡ Memory) }
+    ensures unfolded { (first : Past) (ls : Links) → AreHeldAt (N.contents nodes.now) first (here.now ∷ []) → IsUnfolded first ls (dir_of above.entry) unfolded.old → MatchResult result (λ _. IsUnfolded first ls here.now unfolded.new) (λ fault. fault ≡ Memory) }
     ensures no_node { (id : IdBytes) → IsErrOf result (NoNode id) → IsNoNode (N.contents nodes.now) id }
 {
     if unfolded.places.contains_key(here) {

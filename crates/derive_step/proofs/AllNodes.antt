@@ -1,28 +1,33 @@
--- The nodes of a changeset: those that were put, and those of its parent.
+-- The nodes of a changeset: those that were put, the deleted nodes that are new, and those of its parent.
 use Rattle.std.proofs.Common.{◌≡◌, ◌⊎◌, inl, inr, ℕ, ◌<◌, Bool, true, false, cond, ◌||◌, List, [], ◌∷◌, ◌++◌, map, length, reverse, refl, sym, ap, subst, ◌∙◌, arith}
 use Rattle.std.specs.Prelude.{Contains, flat_map, Option, Some, None, is_some, ◌==◌}
 use mathlib.Core.Bool.{true≢false}
 use Rattle.std.specs.List.{AllByRecursion, list_any}
 use Rattle.std.specs.Option.{option_and_then}
 use Rattle.std.specs.FinMap.{is_sorted, find as find_key}
-use Rattle.std.proofs.lemmas.Bool.{or_left, or_right, or_parts}
+use Rattle.std.proofs.lemmas.Bool.{or_left, or_right, or_parts, ne_eqb}
 use Rattle.changeset_model.specs.Path.{Path, path_cmp, is_strict_prefix}
 use Rattle.changeset_model.specs.Changeset.{CopySource, File, FileChange, Set, Delete, file_of, set_at}
 use Rattle.history_model.specs.History.{Known}
 use Rattle.history_model.specs.Chain.{changesets}
+use Rattle.history_model.specs.Past.{past_on}
 use Rattle.history_model.specs.Tree.{decides, tree, files, is_dir}
 use Rattle.manifest_model.specs.Fsnode.{Fsnode, fsnode, fsnode_bytes}
 use Rattle.manifest_model.specs.Unode.{Unode, unode, unode_bytes, is_renewed}
-use Rattle.manifest_model.specs.Manifests.{dirs_of, paths_of}
+use Rattle.manifest_model.specs.Deleted.{DeletedNode, deleted, deleted_bytes, deletions, has_deleted, node_in}
+use Rattle.manifest_model.specs.Manifests.{dirs_of, paths_of, gone_paths}
 use Rattle.manifest_model.proofs.Links.{file_at-files, unode_kept}
 use Rattle.manifest_laws.specs.Changes.{AreClear, tree_at, files_in}
 use Rattle.manifest_laws.proofs.Changes.{one_more}
 use Rattle.manifest_laws.proofs.Lists.{none_some}
-use Rattle.manifest_laws.proofs.Directories.{directories_are}
+use Rattle.manifest_laws.proofs.Directories.{directories_are, gone_paths_are}
 use Rattle.manifest_laws.proofs.Flat.{dir_from}
 use Rattle.manifest_laws.proofs.Fsnodes.{unrenewed_was_there, unrenewed_node}
 use Rattle.manifest_laws.proofs.Unodes.{chain_more, kept_is}
 use Rattle.manifest_laws.proofs.Seen.{one_more as under_dir}
+use Rattle.deleted_step.specs.declared.done.Done.{Done as DeletedDone}
+use Rattle.deleted_step.specs.Steps.{IsDoneOf as AreDeletedOf, IsNew, IsNodeOf}
+use Rattle.byte_fields.specs.Bytes.{Id}
 use Rattle.derive_step.specs.Jobs.{IsRight, all_nodes_on}
 use Rattle.derive_step.specs.Walk.{name_in}
 use Rattle.derive_step.specs.Renewal.{files_set_in, nodes_there, dir_nodes}
@@ -60,15 +65,34 @@ module _ (k : Known) (ks : List Known) where
   abbrev unodes : List (List ℕ)
   unodes = map unode_spelled (map unode_of (paths_of these))
 
+  abbrev these_gone : List (Path × Id)
+  these_gone = deletions (past_on (k ∷ ks))
+
+  abbrev deleted_spelled : Path × DeletedNode → List ℕ
+  deleted_spelled e = deleted_bytes e.1
+
+  abbrev deleted_of : Path → Path × DeletedNode
+  deleted_of d = (d, node_in these_gone d)
+
+  abbrev deleted_nodes : List (List ℕ)
+  deleted_nodes = map deleted_spelled (map deleted_of (gone_paths these_gone))
+
   pub has_fsnode : (d : Path) → is_dir these d ≡ true → Has all (fsnode_bytes (fsnode these d))
   has_fsnode d dir =
-      has_left fsnodes unodes (fsnode_bytes (fsnode these d))
-      (has_map fs_bytes (map fs_at (dirs_of these)) (fs_at d) (has_map fs_at (dirs_of these) d (contains_has (dirs_of these) d ((directories_are these d).1 dir))))
+      has_left (fsnodes ++ unodes) deleted_nodes (fsnode_bytes (fsnode these d))
+      (has_left fsnodes unodes (fsnode_bytes (fsnode these d))
+      (has_map fs_bytes (map fs_at (dirs_of these)) (fs_at d) (has_map fs_at (dirs_of these) d (contains_has (dirs_of these) d ((directories_are these d).1 dir)))))
 
   has_unode : (p : Path) → Has (paths_of these) p → Has all (unode_bytes (unode (k ∷ ks) p))
   has_unode p h =
-      has_right fsnodes unodes (unode_bytes (unode (k ∷ ks) p))
-      (has_map unode_spelled (map unode_of (paths_of these)) (unode_of p) (has_map unode_of (paths_of these) p h))
+      has_left (fsnodes ++ unodes) deleted_nodes (unode_bytes (unode (k ∷ ks) p))
+      (has_right fsnodes unodes (unode_bytes (unode (k ∷ ks) p))
+      (has_map unode_spelled (map unode_of (paths_of these)) (unode_of p) (has_map unode_of (paths_of these) p h)))
+
+  pub has_gone : (d : Path) → has_deleted (past_on (k ∷ ks)) d ≡ true → Has all (deleted_bytes (deleted (past_on (k ∷ ks)) d))
+  has_gone d there =
+      has_right (fsnodes ++ unodes) deleted_nodes (deleted_bytes (node_in these_gone d))
+      (has_map deleted_spelled (map deleted_of (gone_paths these_gone)) (deleted_of d) (has_map deleted_of (gone_paths these_gone) d (contains_has (gone_paths these_gone) d ((gone_paths_are these_gone d).1 there))))
 
   pub has_dir : (d : Path) → is_dir these d ≡ true → Has all (unode_bytes (unode (k ∷ ks) d))
   has_dir d dir = has_unode d (has_left (dirs_of these) (map (λ f. f.0) these) d (contains_has (dirs_of these) d ((directories_are these d).1 dir)))
@@ -79,8 +103,9 @@ module _ (k : Known) (ks : List Known) where
   pub cases : {P : Type 0} (n : List ℕ) → is_sorted path_cmp these ≡ true → Has all n
       → ((d : Path) → is_dir these d ≡ true → fsnode_bytes (fsnode these d) ≡ n → P)
       → ((d : Path) → is_dir these d ≡ true → unode_bytes (unode (k ∷ ks) d) ≡ n → P)
-      → ((p : Path) (f : File) → tree_at (k ∷ ks) p ≡ Some f → unode_bytes (unode (k ∷ ks) p) ≡ n → P) → P
-  cases {P} n rises has fs dir file = by (has_either fsnodes unodes n has)
+      → ((p : Path) (f : File) → tree_at (k ∷ ks) p ≡ Some f → unode_bytes (unode (k ∷ ks) p) ≡ n → P)
+      → ((d : Path) → has_deleted (past_on (k ∷ ks)) d ≡ true → deleted_bytes (deleted (past_on (k ∷ ks)) d) ≡ n → P) → P
+  cases {P} n rises has fs dir file gone = either (has_either (fsnodes ++ unodes) deleted_nodes n has)
     where
       of_path : (p : Path) → unode_bytes (unode (k ∷ ks) p) ≡ n → Has (dirs_of these) p ⊎ Has (map (λ f. f.0) these) p → P
       of_path p e (inl h) = dir p ((directories_are these p).0 (has_contains (dirs_of these) p h)) e
@@ -98,6 +123,13 @@ module _ (k : Known) (ks : List Known) where
           let one = map_has unode_spelled (map unode_of (paths_of these)) n h in
           let two = map_has unode_of (paths_of these) one.0 one.1 in
           of_path two.0 (ap unode_spelled two.2 ∙ one.2) (has_either (dirs_of these) (map (λ f. f.0) these) two.0 two.1)
+
+      either : Has (fsnodes ++ unodes) n ⊎ Has deleted_nodes n → P
+      either (inl h) = by (has_either fsnodes unodes n h)
+      either (inr h) =
+          let one = map_has deleted_spelled (map deleted_of (gone_paths these_gone)) n h in
+          let two = map_has deleted_of (gone_paths these_gone) one.0 one.1 in
+          gone two.0 ((gone_paths_are these_gone two.0).0 (has_contains (gone_paths these_gone) two.0 two.1)) (ap deleted_spelled two.2 ∙ one.2)
 
 -- ---- of the parent, if there is one
 
@@ -117,6 +149,10 @@ old_dir (k ∷ ks) d deep dir = has_dir k ks d dir
 old_file : (older : List Known) (p : Path) (f : File) → tree_at older p ≡ Some f → Has (all_nodes_on older) (unode_bytes (unode older p))
 old_file [] p f e = none_some f e
 old_file (k ∷ ks) p f e = has_file k ks p f e
+
+old_deleted : (older : List Known) (d : Path) → (length d == 0) ≡ false → has_deleted (past_on older) d ≡ true → Has (all_nodes_on older) (deleted_bytes (deleted (past_on older) d))
+old_deleted [] d deep there = absurd (true≢false (sym there ∙ (λ i. deep i || false)))
+old_deleted (k ∷ ks) d deep there = has_gone k ks d there
 
 -- ---- files that are set in a directory
 
@@ -184,8 +220,8 @@ module _ (c : Known) (older : List Known) (right : IsRight (c ∷ older)) (ds : 
           (has_contains (all_nodes_on (c ∷ older)) (fsnode_bytes (fsnode now d)) (has_fsnode c older d dir), (has_contains (all_nodes_on (c ∷ older)) (unode_bytes (unode (c ∷ older) d)) (has_dir c older d dir), tt))
       by false dir = tt
 
-  pub all_right : AllByRecursion (Contains (all_nodes_on (c ∷ older))) put
-  all_right = all_flat (Contains (all_nodes_on (c ∷ older))) (dir_nodes c older) each_dir ds
+  put_right : AllByRecursion (Contains (all_nodes_on (c ∷ older))) put
+  put_right = all_flat (Contains (all_nodes_on (c ∷ older))) (dir_nodes c older) each_dir ds
 
   there_nodes : (d : Path) (n : List ℕ) → is_renewed c.changeset d ≡ true → is_dir now d ≡ true → Has (nodes_there c older d) n → Has put n
   there_nodes d n renewed dir h = has_flat (dir_nodes c older) ds d n (inside d renewed) (subst (λ b. Has (cond b (nodes_there c older d) []) n) (sym dir) h)
@@ -246,9 +282,44 @@ module _ (c : Known) (older : List Known) (right : IsRight (c ∷ older)) (ds : 
   of_file n p f some there e (Some g) sets = set_file n p f there e (find_key path_cmp p es) refl (sets ∙ sym (set_now c older right p g sets) ∙ there) some
   of_file n p f some there e None unset = old_one n (unode_bytes (unode older p)) (ap unode_bytes (sym (unode_kept c older p f there unset)) ∙ e) (old_file older p f (kept_before p f there unset))
 
-  pub all_whole : (n : List ℕ) → Contains (all_nodes_on (c ∷ older)) n → Found n
-  all_whole n h = cases c older n right.counted.rising (contains_has (all_nodes_on (c ∷ older)) n h) (of_fsnode n) (of_dir n) (λ p f there e. of_file n p f (some_path p f there) there e (set_at c.changeset p) refl)
+  pub put_whole : {P : Type 0} (n : List ℕ) → Contains (all_nodes_on (c ∷ older)) n → (Found n → P) → ((d : Path) → has_deleted (past_on (c ∷ older)) d ≡ true → deleted_bytes (deleted (past_on (c ∷ older)) d) ≡ n → P) → P
+  put_whole n h found gone = cases c older n right.counted.rising (contains_has (all_nodes_on (c ∷ older)) n h) (λ d dir e. found (of_fsnode n d dir e)) (λ d dir e. found (of_dir n d dir e)) (λ p f there e. found (of_file n p f (some_path p f there) there e (set_at c.changeset p) refl)) gone
     where
       some_path : (p : Path) (f : File) → tree_at (c ∷ older) p ≡ Some f → 0 < length p
       some_path [] f there = none_some f (sym (alone c older right [] refl) ∙ there)
       some_path (e ∷ p) f there = omega arith
+
+-- ---- and with the deleted nodes that are new
+
+module _ (c : Known) (older : List Known) (right : IsRight (c ∷ older)) (ds : List Path) (inside : (d : Path) → is_renewed c.changeset d ≡ true → Has ds d) (ps : List Path) (new : DeletedDone) (of : AreDeletedOf (past_on older) (past_on (c ∷ older)) ps new) where
+  abbrev all_put : List (List ℕ)
+  all_put = flat_map (dir_nodes c older) ds ++ new.nodes.items
+
+  a_node : (ns : List (List ℕ)) → AllByRecursion (IsNodeOf (past_on (c ∷ older))) ns → AllByRecursion (Contains (all_nodes_on (c ∷ older))) ns
+  a_node [] h = tt
+  a_node (n ∷ ns) h = (subst (Contains (all_nodes_on (c ∷ older))) (sym h.0.2) (has_contains (all_nodes_on (c ∷ older)) (deleted_bytes (deleted (past_on (c ∷ older)) h.0.0)) (has_gone c older h.0.0 h.0.1)), a_node ns h.1)
+
+  pub all_right : AllByRecursion (Contains (all_nodes_on (c ∷ older))) all_put
+  all_right = all_append (Contains (all_nodes_on (c ∷ older))) (flat_map (dir_nodes c older) ds) new.nodes.items (put_right c older right ds inside) (a_node new.nodes.items of.right)
+
+  abbrev IsThere : List ℕ → Type 0
+  IsThere n = Contains all_put n ⊎ Contains (all_nodes_on older) n
+
+  of_put : (n : List ℕ) → Contains (flat_map (dir_nodes c older) ds) n ⊎ Contains (all_nodes_on older) n → IsThere n
+  of_put n (inl h) = inl (has_contains all_put n (has_left (flat_map (dir_nodes c older) ds) new.nodes.items n (contains_has (flat_map (dir_nodes c older) ds) n h)))
+  of_put n (inr h) = inr h
+
+  is_new : (n : List ℕ) (node : DeletedNode) → deleted_bytes node ≡ n → IsNew new.nodes.items node → IsThere n
+  is_new n node e has = inl (has_contains all_put n (has_right (flat_map (dir_nodes c older) ds) new.nodes.items n (subst (Has new.nodes.items) e (contains_has new.nodes.items (deleted_bytes node) has.here))))
+
+  of_gone : (n : List ℕ) (d : Path) → has_deleted (past_on (c ∷ older)) d ≡ true → deleted_bytes (deleted (past_on (c ∷ older)) d) ≡ n → IsThere n
+  of_gone n [] there e = is_new n (deleted (past_on (c ∷ older)) []) e of.root_new
+  of_gone n (m ∷ d) there e = by (of.whole (m ∷ d) there)
+    where
+      by : IsNew new.nodes.items (deleted (past_on (c ∷ older)) (m ∷ d)) ⊎ ((has_deleted (past_on older) (m ∷ d) ≡ true) × (deleted (past_on (c ∷ older)) (m ∷ d) ≡ deleted (past_on older) (m ∷ d))) → IsThere n
+      by (inl has) = is_new n (deleted (past_on (c ∷ older)) (m ∷ d)) e has
+      by (inr (was, same)) =
+          inr (subst (Contains (all_nodes_on older)) (sym (ap deleted_bytes same) ∙ e) (has_contains (all_nodes_on older) (deleted_bytes (deleted (past_on older) (m ∷ d))) (old_deleted older (m ∷ d) (ne_eqb (length (m ∷ d)) 0 (λ z. absurd (omega arith))) was)))
+
+  pub all_whole : (n : List ℕ) → Contains (all_nodes_on (c ∷ older)) n → IsThere n
+  all_whole n h = put_whole c older right ds inside n h (of_put n) (of_gone n)

@@ -1,10 +1,9 @@
 -- The nodes of a directory that a changeset renews, from those before.
-use Rattle.std.proofs.Common.{◌≡◌, ℕ, ◌<◌, ◌^◌, Bool, true, false, cond, ◌&&◌, ◌||◌, List, [], ◌∷◌, ◌++◌, length, reverse, refl, sym, ap, subst, ◌∙◌, arith}
-use Rattle.std.specs.Prelude.{Option, Some, None, option_map, ◌==◌, nat_lt}
+use Rattle.std.proofs.Common.{◌≡◌, ℕ, ◌^◌, Bool, true, false, cond, ◌&&◌, ◌||◌, List, [], ◌∷◌, ◌++◌, length, reverse, refl, sym, ap, subst, ◌∙◌, arith}
+use Rattle.std.specs.Prelude.{Option, Some, None, ◌==◌, nat_lt}
 use mathlib.Core.Bool.{true≢false}
 use Rattle.std.specs.List.{AllByRecursion, list_any, list_all}
-use Rattle.std.specs.Option.{option_to_list}
-use Rattle.std.specs.BTreeMap.{BTreeMap, get}
+use Rattle.std.specs.BTreeMap.{BTreeMap}
 use Rattle.std.specs.FinMap.{is_sorted, find as find_key}
 use Rattle.std.proofs.lemmas.Bool.{and_parts, ne_eqb, false_from_ne_true}
 use Rattle.changeset_model.specs.Path.{Path, path_cmp, is_prefix, is_strict_prefix, is_element}
@@ -13,7 +12,7 @@ use Rattle.history_model.specs.History.{Known}
 use Rattle.history_model.specs.Chain.{changesets}
 use Rattle.history_model.specs.Tree.{tree, files, is_dir}
 use Rattle.manifest_model.specs.Fsnode.{Fsnode, FsEntry, Summary, fsnode, is_fsnode, are_entries, is_summary, is_fs_entry}
-use Rattle.manifest_model.specs.Unode.{UnodeEntry, Manifest, unode, unode_id, is_renewed}
+use Rattle.manifest_model.specs.Unode.{Manifest, unode, unode_id, is_renewed}
 use Rattle.bonsai.proofs.Rules.{changes_rise}
 use Rattle.manifest_laws.specs.Changes.{AreClear, is_covered, tree_at, files_in}
 use Rattle.manifest_laws.specs.Summaries.{summary_by}

@@ -14,3 +14,4 @@ pub mod AllNodes
 pub mod Few
 pub mod Derived
 pub mod Merged
+pub mod Given

@@ -4,7 +4,6 @@ use Rattle.std.specs.Prelude.{Option, Some, None, option_map, Result, Ok, Err, I
 use Rattle.std.specs.declared.alloc.AllocError.{AllocError}
 use mathlib.Core.Bool.{true≢false}
 use Rattle.std.proofs.lemmas.Bool.{and_parts, ne_eqb}
-use Rattle.std.specs.Option.{option_to_list}
 use Rattle.std.specs.BTreeMap.{BTreeMap, get, Updates}
 use Rattle.std.specs.FinMap.{is_sorted}
 use Rattle.std.specs.FinMap.Entries.{below_all}
@@ -21,7 +20,7 @@ use Rattle.manifest_laws.specs.Summaries.{summary_by}
 use Rattle.manifest_laws.specs.Entries.{fs_entry_at, unode_entry_at}
 use Rattle.manifest_laws.proofs.Directories.{empty_is}
 use Rattle.manifest_laws.specs.EntryEdits.{fs_set, is_fs_file, unode_set, is_unode_file}
-use Rattle.node_table.specs.declared.roots.Roots.{Roots}
+use Rattle.derive_step.specs.declared.job.DirIds.{DirIds}
 use Rattle.node_fields.specs.declared.child.Child.{Child}
 use Rattle.fsnode.specs.declared.entry.FsEntry.{FsEntry as RustFsEntry}
 use Rattle.fsnode.specs.declared.node.Fsnode.{Fsnode as RustFsnode}
@@ -35,13 +34,13 @@ use Rattle.derive_step.specs.Views.{Before}
 use Rattle.derive_step.specs.Jobs.{IsRight, nodes_on}
 use Rattle.derive_step.specs.Steps.{fs_made_in, fs_before, fs_after, unode_made_in, unode_before, unode_after, own_unode, set_nodes}
 use Rattle.derive_step.specs.Slices.{edits_in}
-use Rattle.derive_step.specs.Renewal.{IsDue, IsMadeUnder, IsStep, IsRenewed, fsnode_part, unode_part, parent_part, nodes_there, dir_nodes, roots_at, files_set_in}
+use Rattle.derive_step.specs.Renewal.{IsDue, IsMadeUnder, IsStep, IsRenewed, fsnode_part, unode_part, parent_part, nodes_there, dir_nodes, ids_at, files_set_in}
 use Rattle.derive_step.proofs.Above.{by_test}
 use Rattle.derive_step.proofs.Edits.{same_in, same_in_nodes, in_twice}
 use Rattle.derive_step.proofs.Laws.{rise, uncovered_dir, is_before, fs_entries, same_entries, same_node, unode_entries, same_unode}
 use Rattle.derive_step.proofs.FileNodes.{all_found, file_nodes}
 
-ok_with : {P Q : Type 0} (r : Result Roots AllocError) (a b : Roots) → IfOk r (λ x. x ≡ a) → a ≡ b → OnOk r P → (P → Q) → IfOk r (λ x. (x ≡ b) × Q)
+ok_with : {P Q : Type 0} (r : Result DirIds AllocError) (a b : DirIds) → IfOk r (λ x. x ≡ a) → a ≡ b → OnOk r P → (P → Q) → IfOk r (λ x. (x ≡ b) × Q)
 ok_with (Ok x) a b h e p f = (h ∙ e, f p)
 ok_with (Err x) a b h e p f = tt
 
@@ -66,12 +65,12 @@ module _ (c : Known) (older : List Known) (commit : Changeset) (d : Path) (made 
       ∙ file_nodes c older step.due.right d made c.changeset.changes (unode_before (unode_part b)) (rise c older step.due.right) (all_found c.changeset.changes (rise c older step.due.right))
       (λ n h. step.before.unode (uncovered_dir c older step.due.right d dir) n)
 
-  pub put_all : (r : Result Roots AllocError) (fs : Fsnode) (un : Unode) (old mid new : List (List ℕ)) → fs ≡ fsnode (files_in (c ∷ older)) d → un ≡ unode (c ∷ older) d
-      → IfOk r (λ roots. roots ≡ record { fsnode = fsnode_id fs; unode = unode_id un }) → mid ≡ old ++ set_nodes link made d es (unode_before (unode_part b))
+  pub put_all : (r : Result DirIds AllocError) (fs : Fsnode) (un : Unode) (old mid new : List (List ℕ)) → fs ≡ fsnode (files_in (c ∷ older)) d → un ≡ unode (c ∷ older) d
+      → IfOk r (λ ids. ids ≡ record { fsnode = fsnode_id fs; unode = unode_id un }) → mid ≡ old ++ set_nodes link made d es (unode_before (unode_part b))
       → OnOk r (new ≡ mid ++ fsnode_bytes fs ∷ unode_bytes un ∷ [])
-      → IfOk r (λ roots. (roots ≡ roots_at (c ∷ older) d) × (new ≡ old ++ dir_nodes c older d))
+      → IfOk r (λ ids. (ids ≡ ids_at (c ∷ older) d) × (new ≡ old ++ dir_nodes c older d))
   put_all r fs un old mid new same_fs same_un ids files own =
-      ok_with r (record { fsnode = fsnode_id fs; unode = unode_id un }) (roots_at (c ∷ older) d) ids (λ i. record { fsnode = fsnode_id (same_fs i); unode = unode_id (same_un i) }) own
+      ok_with r (record { fsnode = fsnode_id fs; unode = unode_id un }) (ids_at (c ∷ older) d) ids (λ i. record { fsnode = fsnode_id (same_fs i); unode = unode_id (same_un i) }) own
       (λ h. h ∙ (λ i. files i ++ fsnode_bytes (same_fs i) ∷ unode_bytes (same_un i) ∷ [])
       ∙ append_assoc old (set_nodes link made d es (unode_before (unode_part b))) (fsnode_bytes (fsnode (files_in (c ∷ older)) d) ∷ unode_bytes (unode (c ∷ older) d) ∷ [])
       ∙ (λ i. old ++ (files_are i ++ fsnode_bytes (fsnode (files_in (c ∷ older)) d) ∷ unode_bytes (unode (c ∷ older) d) ∷ []))
@@ -131,17 +130,17 @@ module _ (c : Known) (older : List Known) (commit : Changeset) (d : Path) (made 
 
   -- ---- where it is there
 
-  pub noted : (after : BTreeMap Path Made) (had put : List (List ℕ)) (m : Made) (roots : Roots) → is_dir now d ≡ true → fsnode_seen node ≡ fsnode now d
-      → Updates path_cmp made after d (Some m) → fs_entry_seen m.fsnode ≡ FsDir roots.fsnode (summary_seen node.summary) → unode_entry_seen m.unode ≡ UnodeDir roots.unode
-      → roots ≡ roots_at (c ∷ older) d → put ≡ had ++ dir_nodes c older d → IsRenewed c older d made after had put
-  noted after had put m roots dir same updates fs un ids puts = record {
+  pub noted : (after : BTreeMap Path Made) (had put : List (List ℕ)) (m : Made) (ids : DirIds) → is_dir now d ≡ true → fsnode_seen node ≡ fsnode now d
+      → Updates path_cmp made after d (Some m) → fs_entry_seen m.fsnode ≡ FsDir ids.fsnode (summary_seen node.summary) → unode_entry_seen m.unode ≡ UnodeDir ids.unode
+      → ids ≡ ids_at (c ∷ older) d → put ≡ had ++ dir_nodes c older d → IsRenewed c older d made after had put
+  noted after had put m ids dir same updates fs un are puts = record {
     nodes = puts;
     here = (
       ap (option_map (λ x. fs_entry_seen x.fsnode)) updates.1
-          ∙ ap Some (fs ∙ (λ i. FsDir (ids i).fsnode (same i).summary))
+          ∙ ap Some (fs ∙ (λ i. FsDir (are i).fsnode (same i).summary))
           ∙ ap (λ v. cond v (Some (fs_dir (fsnode now d))) None) (sym dir),
       ap (option_map (λ x. unode_entry_seen x.unode)) updates.1
-          ∙ ap Some (un ∙ (λ i. UnodeDir (ids i).unode))
+          ∙ ap Some (un ∙ (λ i. UnodeDir (are i).unode))
           ∙ ap (λ v. cond v (Some (UnodeDir (unode_id (unode (c ∷ older) d)))) None) (sym dir),
     );
     others = λ p apart. updates.2 p apart;

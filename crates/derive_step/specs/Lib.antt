@@ -9,3 +9,4 @@ pub mod Touched
 pub mod Renewal
 pub mod Slices
 pub mod Covering
+pub mod Put

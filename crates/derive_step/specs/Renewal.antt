@@ -7,7 +7,7 @@
 --     IsStep c older commit d made b      what a directory's nodes are made from
 --     files_set_in d es      the paths that edits set directly in a directory
 --     dir_nodes c older d      of a directory after a changeset, if it is there: the unodes of the files that are set in it, and its own nodes
---     roots_at ks d      the ids of its nodes
+--     ids_at ks d      the ids of its nodes
 --     AreRenewed c older dirs made had put      the nodes of directories are put to the nodes, from the last on, and what is made of each is noted
 --     IsGoneThrough c older dirs left made had put      those that aren't left were gone through
 --     IsRenewed c older d made after had put      its nodes are put to the nodes, and what is made of it is noted
@@ -28,7 +28,7 @@ use Rattle.manifest_model.specs.Unode.{Unode, unode, unode_bytes, unode_id, is_r
 use Rattle.manifest_laws.specs.Changes.{is_covered, files_in}
 use Rattle.manifest_laws.specs.Entries.{fs_entry_at, parents_on}
 use Rattle.manifest_laws.specs.EntryEdits.{fs_made, unode_made, unode_entry_on}
-use Rattle.node_table.specs.declared.roots.Roots.{Roots}
+use Rattle.derive_step.specs.declared.job.DirIds.{DirIds}
 use Rattle.derive_step.specs.declared.job.DirNodes.{DirNodes}
 use Rattle.derive_step.specs.declared.made.Made.{Made}
 use Rattle.derive_step.specs.Views.{Before, before_seen}
@@ -91,8 +91,8 @@ nodes_there c older d =
 abbrev pub dir_nodes : Known → List Known → Path → List (List ℕ)
 dir_nodes c older d = if is_dir (files_in (c ∷ older)) d then nodes_there c older d else []
 
-abbrev pub roots_at : List Known → Path → Roots
-roots_at ks d = record { fsnode = fsnode_id (fsnode (files_in ks) d); unode = unode_id (unode ks d) }
+abbrev pub ids_at : List Known → Path → DirIds
+ids_at ks d = record { fsnode = fsnode_id (fsnode (files_in ks) d); unode = unode_id (unode ks d) }
 
 pub record IsRenewed (c : Known) (older : List Known) (d : Path) (made after : BTreeMap Path Made) (had put : List (List ℕ)) : Type 0 where
   pub nodes : put ≡ had ++ dir_nodes c older d

@@ -1,8 +1,12 @@
 -- How contracts see a job and what was derived.
 --     Before, before_seen n      the nodes of a directory at the parent
---     nodes_before parent d      those of a job;  roots_before parent      the parent's roots
+--     first_of parents, second_of parents      the first parent, and the second
+--     nodes_before parent d      the nodes that a job has of a parent;  roots_before parent      the parent's roots
+--     held_in nodes id      the bytes of a node that is held
 
-use Rattle.std.specs.Prelude.{[], ◌∷◌, Option, None, Some, option_map}
+use Rattle.std.specs.Prelude.{ℕ, List, [], ◌∷◌, Option, None, Some, option_map}
+use Rattle.std.specs.Ordering.{nat_cmp}
+use Rattle.std.specs.Cmp.Lexicographic.{slice_cmp}
 use Rattle.std.specs.BTreeMap.{get}
 use Rattle.byte_fields.specs.Bytes.{Id}
 use Rattle.changeset_model.specs.Path.{Path, path_cmp}
@@ -12,7 +16,10 @@ use Rattle.fsnode.specs.Views.{fsnode_seen}
 use Rattle.unode.specs.Views.{manifest_seen}
 use Rattle.node_table.specs.declared.roots.Roots.{Roots}
 use Rattle.derive_step.specs.declared.job.DirNodes.{DirNodes}
+use Rattle.derive_step.specs.declared.held.HeldNodes.{HeldNodes}
 use Rattle.derive_step.specs.declared.job.Parent.{Parent}
+use Rattle.derive_step.specs.declared.job.Parents.{Parents}
+use Rattle.derive_step.specs.declared.job.Parents.TheVariants.{Absent, One, Two}
 
 pub record Before : Type 0 where
   pub fsnode : Fsnode
@@ -22,6 +29,16 @@ pub record Before : Type 0 where
 abbrev pub before_seen : DirNodes → Before
 before_seen n = record { fsnode = fsnode_seen n.fsnode; unode = manifest_seen n.unode; unode_id = n.unode_id }
 
+abbrev pub first_of : Parents → Option Parent
+first_of Absent = None
+first_of (One p) = Some p
+first_of (Two p q) = Some p
+
+abbrev pub second_of : Parents → Option Parent
+second_of Absent = None
+second_of (One p) = None
+second_of (Two p q) = Some q
+
 abbrev pub nodes_before : Option Parent → Path → Option Before
 nodes_before None d = None
 nodes_before (Some p) [] = Some (before_seen p.root)
@@ -29,3 +46,6 @@ nodes_before (Some p) (e ∷ d) = option_map before_seen (get path_cmp p.dirs (e
 
 abbrev pub roots_before : Option Parent → Option Roots
 roots_before parent = option_map (λ p. p.roots) parent
+
+abbrev pub held_in : HeldNodes → Id → Option (List ℕ)
+held_in held id = get (slice_cmp nat_cmp) held.nodes id

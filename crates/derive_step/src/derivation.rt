@@ -1,42 +1,75 @@
-//! Derivation from the touched directories.
-ghost use Rattle.std.specs.Prelude.{◌≡◌, ◌∷◌, [], ℕ, List, option_map, IfOk};
+//! Derivation from the touched directories, and of the deleted nodes.
+ghost use Rattle.std.specs.Prelude.{◌≡◌, ◌∷◌, [], ℕ, List, option_map, IfOk, IfErr, IsErrOf};
 ghost use Rattle.std.specs.BTreeMap.{get};
+ghost use Rattle.byte_fields.specs.Bytes.{Id as IdBytes};
 ghost use Rattle.changeset_model.specs.Path.{Path, path_cmp};
 ghost use Rattle.history_model.specs.History.{Known};
+ghost use Rattle.deleted_step.specs.declared.fault.StepFault.TheVariants.{NoNode, Memory};
+ghost use Rattle.deleted_step.specs.Steps.{IsNoNode};
 ghost use Rattle.derive_step.specs.Jobs.{IsJobOf, IsDoneOf};
-ghost use Rattle.derive_step.specs.Views.{before_seen, nodes_before, roots_before};
+ghost use Rattle.derive_step.specs.Views.{before_seen, first_of, second_of, held_in, nodes_before, roots_before};
 
+use crate::deletions::put_deleted;
 use crate::done::Done;
-use crate::job::{DirNodes, Job, Parent};
+use crate::job::{DirIds, DirNodes, Job, Parent, Parents};
 use crate::renewal::{Dirs, renew_dirs, renew_root};
 use crate::touched::touched_dirs;
+use deleted_step::StepFault;
 use node_table::Roots;
-use std::alloc::{AllocError, Global};
+use object_id::Id;
+use std::alloc::Global;
 use std::collections::BTreeMap;
 
 /// The manifests of a job's changeset, for whatever history the job is of: the nodes that are new, and all others are the
 /// parent's. Directories are made anew from the deepest up, so that each has those under it.
-pub fn derive(alloc: Global, job: Job) -> Result<Done, AllocError>
-    ensures { (c : Known) (older : List Known) → IsJobOf c older job → IfOk result (λ done. IsDoneOf c older job done) }
+pub fn derive(alloc: Global, job: Job) -> Result<Done, StepFault>
+    ensures done { (c : Known) (older : List Known) → IsJobOf c older job → IfOk result (λ done. IsDoneOf c older job done) }
+    ensures memory { (c : Known) (older : List Known) → IsJobOf c older job → IfErr result (λ fault. fault ≡ Memory) }
+    // A node that isn't there is told only where the job lacks it.
+    ensures no_node { (id : IdBytes) → IsErrOf result (NoNode id) → IsNoNode (held_in job.deletions.nodes) id }
 {
     let Job {
         number,
         commit,
-        parent,
+        parents,
+        deletions,
     } = job;
+    let (parent, second) = first_and_second(parents);
+    // Of two parents nothing is derived yet: no clause says what becomes of such a job.
+    if second.is_some() {
+        return Err(StepFault::Memory);
+    }
     let touched = touched_dirs(alloc, commit.changeset().edits())?;
-    let parent_roots = roots_of(&parent);
+    let first = roots_of(&parent);
     let (root, dirs) = dirs_of(alloc, parent);
     let mut made = BTreeMap::new(alloc);
     let mut nodes = Vec::with_capacity(alloc, touched.len())?;
     renew_dirs(alloc, &commit, dirs, touched, &mut made, &mut nodes)?;
-    let roots = renew_root(alloc, &commit, root, &made, &mut nodes)?;
+    let ids = renew_root(alloc, &commit, root, &made, &mut nodes)?;
+    let deleted = match put_deleted(alloc, &commit, &first, &deletions, &mut nodes) {
+        Ok(id) => id,
+        Err(fault) => return Err(fault),
+    };
+    let roots = roots_with(ids, deleted);
     Ok(Done {
         number,
-        parent: parent_roots,
+        first,
+        second: None,
         roots,
         nodes,
     })
+}
+
+// The first parent, and the second.
+fn first_and_second(parents: Parents) -> (Option<Parent>, Option<Parent>)
+    ensures first { result.0 ≡ first_of parents }
+    ensures second { result.1 ≡ second_of parents }
+{
+    match parents {
+        Parents::Absent => (None, None),
+        Parents::One(parent) => (Some(parent), None),
+        Parents::Two(first, second) => (Some(first), Some(second)),
+    }
 }
 
 // The roots of the parent, if there is one.
@@ -46,6 +79,16 @@ fn roots_of(parent: &Option<Parent>) -> Option<Roots>
     match parent {
         Some(parent) => Some(parent.roots),
         None => None,
+    }
+}
+
+fn roots_with(ids: DirIds, deleted: Id) -> Roots
+    ensures { result ≡ record { fsnode = ids.fsnode; unode = ids.unode; deleted = deleted } }
+{
+    Roots {
+        fsnode: ids.fsnode,
+        unode: ids.unode,
+        deleted,
     }
 }
 

@@ -1,11 +1,13 @@
-//! The manifests of a changeset from those of its parent: only the directories above its change paths are made anew,
-//! and all other nodes are shared by id.
+//! The manifests of a changeset from those of its parent: only the directories above its change paths, and the deleted
+//! nodes of the paths where files come or go, are made anew, and all other nodes are shared by id.
 #![tactic(auto)]
 
 mod covering;
+mod deletions;
 pub mod derivation;
 pub mod done;
 mod fsnodes;
+pub mod held;
 pub mod job;
 mod kind;
 mod made;
@@ -21,5 +23,6 @@ mod walk;
 
 pub use derivation::derive;
 pub use done::Done;
-pub use job::{DirNodes, Job, Parent};
+pub use held::HeldNodes;
+pub use job::{Deletions, DirIds, DirNodes, Job, Parent, Parents};
 pub use place::text_above;

@@ -16,18 +16,18 @@ ghost use Rattle.unode.specs.Views.{manifest_seen};
 ghost use Rattle.derive_step.specs.Covering.{paths_seen, paths_set};
 ghost use Rattle.derive_step.specs.Views.{before_seen};
 ghost use Rattle.derive_step.specs.Jobs.{nodes_on};
-ghost use Rattle.derive_step.specs.Renewal.{AreBefore, AreRenewed, AreTouched, IsDue, IsMadeUnder, IsRenewed, dir_nodes, fsnode_part, parent_part, roots_at, unode_part};
+ghost use Rattle.derive_step.specs.Renewal.{AreBefore, AreRenewed, AreTouched, IsDue, IsMadeUnder, IsRenewed, dir_nodes, fsnode_part, parent_part, ids_at, unode_part};
 
 use crate::covering::{is_covered, set_paths};
 use crate::fsnodes::fsnode_in;
-use crate::job::DirNodes;
+use crate::job::{DirIds, DirNodes};
 use crate::made::{Made, MadeDirs};
 use crate::nodes::put_node;
 use crate::slices::edits_under;
 use crate::unodes::{UnodeBefore, manifest_in};
 use bonsai::Commit;
 use fsnode::{FsEntry, Fsnode, Summary};
-use node_table::{Node, Roots};
+use node_table::Node;
 use repo_path::RepoPath;
 use std::alloc::{AllocError, Global};
 use std::collections::{BTreeMap, BTreeSet};
@@ -86,8 +86,8 @@ fn renew_dir(
     }
     let link = commit.id();
     let unode = manifest_in(alloc, unode_before, link, edits, Some(&dir), made, nodes)?;
-    let roots = put_nodes(alloc, &fsnode, unode, nodes)?;
-    made.insert(dir, made_of(roots, fsnode.summary))?;
+    let ids = put_nodes(alloc, &fsnode, unode, nodes)?;
+    made.insert(dir, made_of(ids, fsnode.summary))?;
     Ok(())
 }
 
@@ -110,16 +110,16 @@ fn apart(nodes: Option<DirNodes>) -> (Option<Fsnode>, Option<UnodeBefore>)
 }
 
 // The entries of a directory in the one above it.
-fn made_of(roots: Roots, summary: Summary) -> Made
-    ensures fsnode { fs_entry_seen result.fsnode ≡ FsDir roots.fsnode (summary_seen summary) }
-    ensures unode { unode_entry_seen result.unode ≡ UnodeDir roots.unode }
+fn made_of(ids: DirIds, summary: Summary) -> Made
+    ensures fsnode { fs_entry_seen result.fsnode ≡ FsDir ids.fsnode (summary_seen summary) }
+    ensures unode { unode_entry_seen result.unode ≡ UnodeDir ids.unode }
 {
     Made {
         fsnode: FsEntry::Directory {
-            id: roots.fsnode,
+            id: ids.fsnode,
             summary,
         },
-        unode: UnodeEntry::Directory(roots.unode),
+        unode: UnodeEntry::Directory(ids.unode),
     }
 }
 
@@ -130,8 +130,8 @@ pub(crate) fn renew_root(
     before: Option<DirNodes>,
     made: &MadeDirs,
     nodes: &mut Vec<Node>,
-) -> Result<Roots, AllocError>
-    ensures { (c : Known) (older : List Known) → IsDue c older commit.now → option_map before_seen before ≡ nodes_on older [] → IsMadeUnder c older made.now [] → IfOk result (λ roots. (roots ≡ roots_at (c ∷ older) []) × (nodes.new.items ≡ nodes.old.items ++ dir_nodes c older [])) }
+) -> Result<DirIds, AllocError>
+    ensures { (c : Known) (older : List Known) → IsDue c older commit.now → option_map before_seen before ≡ nodes_on older [] → IsMadeUnder c older made.now [] → IfOk result (λ ids. (ids ≡ ids_at (c ∷ older) []) × (nodes.new.items ≡ nodes.old.items ++ dir_nodes c older [])) }
 {
     let edits = commit.changeset().edits();
     let (fsnode_before, unode_before) = apart(before);
@@ -146,11 +146,11 @@ fn put_nodes(
     fsnode: &Fsnode,
     manifest: UnodeManifest,
     nodes: &mut Vec<Node>,
-) -> Result<Roots, AllocError>
-    ensures ids { IfOk result (λ roots. roots ≡ record { fsnode = fsnode_id (fsnode_seen fsnode.now); unode = unode_id (manifest_seen manifest) }) }
+) -> Result<DirIds, AllocError>
+    ensures ids { IfOk result (λ ids. ids ≡ record { fsnode = fsnode_id (fsnode_seen fsnode.now); unode = unode_id (manifest_seen manifest) }) }
     ensures nodes { OnOk result (nodes.new.items ≡ nodes.old.items ++ fsnode_bytes (fsnode_seen fsnode.now) ∷ unode_bytes (manifest_seen manifest) ∷ []) }
 {
     let fsnode = put_node(fsnode::encode(alloc, fsnode)?, nodes)?;
     let unode = put_node(unode::encode(alloc, &Unode::Manifest(manifest))?, nodes)?;
-    Ok(Roots { fsnode, unode })
+    Ok(DirIds { fsnode, unode })
 }

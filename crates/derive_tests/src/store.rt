@@ -1,12 +1,12 @@
 //! Nodes by their ids, and derivations over them.
 use crate::changes::path;
-use bonsai::Commit;
-use derive_step::{DirNodes, Done, Job, Parent, derive};
+use bonsai::{Change, Commit, Edit};
+use derive_step::{Deletions, DirIds, DirNodes, Done, HeldNodes, Job, Parent, Parents, derive};
 use fsnode::{FsChild, FsEntry, Fsnode};
-use node_table::Roots;
+use node_table::{Node, Roots};
 use object_id::Id;
 use repo_path::RepoPath;
-use std::alloc::{AllocError, Global};
+use std::alloc::Global;
 use std::collections::BTreeMap;
 use std::str;
 use std::sync::Arc;
@@ -15,6 +15,9 @@ use unode::{Unode, UnodeChild, UnodeEntry, UnodeManifest};
 
 // More than the directories of any tree here.
 const MOST_DIRS: usize = 1_000;
+
+// How a deleted node begins.
+const DELETED: &[u8] = b"D\x01";
 
 type Dirs = BTreeMap<RepoPath, DirNodes>;
 
@@ -61,38 +64,39 @@ impl Store {
     }
 
     /// The ids of the nodes of a directory directly in another.
-    pub(crate) fn dir_in(&self, dir: Roots, name: &str) -> Result<Roots, Fail> {
+    pub(crate) fn dir_in(&self, dir: DirIds, name: &str) -> Result<DirIds, Fail> {
         let nodes = self.dir_nodes(&dir)?;
         Ok(dir_among(&nodes, name).ok_or("a directory")?)
     }
 
     /// The id of the unode of a file directly in a directory.
-    pub(crate) fn file_in(&self, dir: Roots, name: &str) -> Result<Id, Fail> {
+    pub(crate) fn file_in(&self, dir: DirIds, name: &str) -> Result<Id, Fail> {
         let manifest = self.manifest(&dir.unode)?;
         Ok(file_among(&manifest, name).ok_or("a file")?)
     }
 
-    fn dir_nodes(&self, roots: &Roots) -> Result<DirNodes, Fail> {
-        let fsnode = self.fsnode(&roots.fsnode)?;
-        let unode = self.manifest(&roots.unode)?;
+    fn dir_nodes(&self, ids: &DirIds) -> Result<DirNodes, Fail> {
+        let fsnode = self.fsnode(&ids.fsnode)?;
+        let unode = self.manifest(&ids.unode)?;
         Ok(DirNodes {
             fsnode,
             unode,
-            unode_id: roots.unode,
+            unode_id: ids.unode,
         })
     }
 
     // All directories of a parent, from its roots.
     fn parent(&self, roots: Roots) -> Result<Parent, Fail> {
-        let dirs = self.dirs_below(&roots)?;
-        let root = self.dir_nodes(&roots)?;
+        let top = root_of(&roots);
+        let dirs = self.dirs_below(&top)?;
+        let root = self.dir_nodes(&top)?;
         Ok(Parent { roots, root, dirs })
     }
 
-    fn dirs_below(&self, roots: &Roots) -> Result<Dirs, Fail> {
+    fn dirs_below(&self, top: &DirIds) -> Result<Dirs, Fail> {
         let mut dirs = BTreeMap::new(self.alloc);
         let mut left = Vec::new(self.alloc);
-        self.push_dirs(&mut left, "", roots)?;
+        self.push_dirs(&mut left, "", top)?;
         for _ in 0..MOST_DIRS {
             let Some((text, ids)) = left.pop() else {
                 break;
@@ -103,7 +107,7 @@ impl Store {
         Ok(dirs)
     }
 
-    fn put_dir(&self, dirs: &mut Dirs, text: &str, ids: &Roots) -> Result<(), Fail> {
+    fn put_dir(&self, dirs: &mut Dirs, text: &str, ids: &DirIds) -> Result<(), Fail> {
         let path = path(self.alloc, text)?;
         let nodes = self.dir_nodes(ids)?;
         put_nodes(dirs, path, nodes)
@@ -112,15 +116,15 @@ impl Store {
     // Appends the directories directly in one.
     fn push_dirs(
         &self,
-        left: &mut Vec<(String, Roots)>,
+        left: &mut Vec<(String, DirIds)>,
         dir: &str,
-        ids: &Roots,
+        ids: &DirIds,
     ) -> Result<(), Fail> {
         let nodes = self.dir_nodes(ids)?;
         for (child, other) in nodes.fsnode.entries.iter().zip(nodes.unode.entries.iter()) {
-            if let Some(roots) = ids_of(child, other) {
+            if let Some(ids) = ids_of(child, other) {
                 let text = joined(self.alloc, dir, child.name.as_bytes())?;
-                left.push((text, roots))?;
+                left.push((text, ids))?;
             }
         }
         Ok(())
@@ -137,10 +141,35 @@ impl Store {
             Some(before) => Some(self.parent(before.roots)?),
             None => None,
         };
-        let done = done_of(self.alloc, commit, parent)?;
+        let deletions = self.deletions(parent.as_ref(), commit.changeset().edits())?;
+        let done = done_of(self.alloc, commit, parent, deletions)?;
         let (roots, new) = (done.roots, done.nodes.len());
         self.keep(done)?;
         Ok(Derived { id, roots, new })
+    }
+
+    // What edits change of the files of a parent, and all deleted nodes.
+    fn deletions(&self, parent: Option<&Parent>, edits: &[Edit]) -> Result<Deletions, Fail> {
+        let files = match parent {
+            Some(parent) => files_of(self.alloc, parent)?,
+            None => Vec::new(self.alloc),
+        };
+        Ok(Deletions {
+            gone: gone(self.alloc, &files, edits)?,
+            come: come(self.alloc, &files, edits)?,
+            nodes: self.deleted_nodes()?,
+        })
+    }
+
+    fn deleted_nodes(&self) -> Result<HeldNodes, Fail> {
+        let mut nodes = BTreeMap::new(self.alloc);
+        for (id, bytes) in &self.nodes {
+            if bytes.starts_with(DELETED) {
+                let node = Node::of(bytes.clone()?);
+                put_node(&mut nodes, *id, node)?;
+            }
+        }
+        Ok(HeldNodes { nodes })
     }
 
     fn keep(&mut self, done: Done) -> Result<(), Fail> {
@@ -169,11 +198,11 @@ fn read_manifest(alloc: Global, bytes: &[u8]) -> Option<UnodeManifest> {
     }
 }
 
-fn dir_among(nodes: &DirNodes, name: &str) -> Option<Roots> {
+fn dir_among(nodes: &DirNodes, name: &str) -> Option<DirIds> {
     for (child, other) in nodes.fsnode.entries.iter().zip(nodes.unode.entries.iter()) {
-        if let Some(roots) = ids_of(child, other) {
+        if let Some(ids) = ids_of(child, other) {
             if child.name.as_bytes() == name.as_bytes() {
-                return Some(roots);
+                return Some(ids);
             }
         }
     }
@@ -209,23 +238,117 @@ fn joined(alloc: Global, dir: &str, name: &[u8]) -> Result<String, Fail> {
     Ok(text)
 }
 
-fn done_of(alloc: Global, commit: Commit, parent: Option<Parent>) -> Result<Done, AllocError> {
+fn done_of(
+    alloc: Global,
+    commit: Commit,
+    parent: Option<Parent>,
+    deletions: Deletions,
+) -> Result<Done, Fail> {
     let commit = Arc::new(alloc, commit)?;
-    derive(
-        alloc,
-        Job {
-            number: 7,
-            commit,
-            parent,
-        },
-    )
+    let parents = match parent {
+        Some(parent) => Parents::One(parent),
+        None => Parents::Absent,
+    };
+    let job = Job {
+        number: 7,
+        commit,
+        parents,
+        deletions,
+    };
+    Ok(derive(alloc, job)?)
+}
+
+/// The ids of a tree's root, as of a directory.
+pub(crate) fn root_of(roots: &Roots) -> DirIds {
+    DirIds {
+        fsnode: roots.fsnode,
+        unode: roots.unode,
+    }
 }
 
 // The ids of a directory's nodes, by its two entries.
-fn ids_of(child: &FsChild, other: &UnodeChild) -> Option<Roots> {
+fn ids_of(child: &FsChild, other: &UnodeChild) -> Option<DirIds> {
     let fsnode = fsnode_id(&child.entry)?;
     let unode = unode_id(&other.entry)?;
-    Some(Roots { fsnode, unode })
+    Some(DirIds { fsnode, unode })
+}
+
+fn put_node(nodes: &mut BTreeMap<Id, Node>, id: Id, node: Node) -> Result<(), Fail> {
+    match nodes.insert(id, node) {
+        Ok(_) => Ok(()),
+        Err(_) => Err(Fail::from("memory")),
+    }
+}
+
+// Appends the files directly in a directory.
+fn push_files(
+    alloc: Global,
+    files: &mut Vec<RepoPath>,
+    dir: &str,
+    node: &Fsnode,
+) -> Result<(), Fail> {
+    for child in &node.entries {
+        if let FsEntry::File { .. } = child.entry {
+            let text = joined(alloc, dir, child.name.as_bytes())?;
+            files.push(path(alloc, text.as_str())?)?;
+        }
+    }
+    Ok(())
+}
+
+// All files of a parent.
+fn files_of(alloc: Global, parent: &Parent) -> Result<Vec<RepoPath>, Fail> {
+    let mut files = Vec::new(alloc);
+    push_files(alloc, &mut files, "", &parent.root.fsnode)?;
+    for (dir, nodes) in &parent.dirs {
+        push_files(alloc, &mut files, dir.as_str(), &nodes.fsnode)?;
+    }
+    Ok(files)
+}
+
+fn is_under(path: &str, dir: &str) -> bool {
+    match path.strip_prefix(dir) {
+        Some(rest) => rest.starts_with("/"),
+        None => false,
+    }
+}
+
+// Whether an edit takes a file away: it deletes it, or sets a file above or under it.
+fn takes_away(edit: &Edit, file: &RepoPath) -> bool {
+    let (set, file) = (edit.path.as_str(), file.as_str());
+    match edit.change {
+        Change::Delete => set == file,
+        Change::Set { .. } => is_under(file, set) || is_under(set, file),
+    }
+}
+
+// The files that edits take away.
+fn gone(alloc: Global, files: &[RepoPath], edits: &[Edit]) -> Result<Vec<RepoPath>, Fail> {
+    let mut gone = Vec::new(alloc);
+    for file in files {
+        if edits.iter().any(|edit| takes_away(edit, file)) {
+            gone.push(file.copy(alloc)?)?;
+        }
+    }
+    Ok(gone)
+}
+
+fn is_set(edit: &Edit) -> bool {
+    match edit.change {
+        Change::Delete => false,
+        Change::Set { .. } => true,
+    }
+}
+
+// The files that are set where there were none.
+fn come(alloc: Global, files: &[RepoPath], edits: &[Edit]) -> Result<Vec<RepoPath>, Fail> {
+    let mut come = Vec::new(alloc);
+    for edit in edits {
+        if is_set(edit) && !files.contains(&edit.path) {
+            come.push(edit.path.copy(alloc)?)?;
+        }
+    }
+    Ok(come)
 }
 
 fn fsnode_id(entry: &FsEntry) -> Option<Id> {

@@ -1,6 +1,6 @@
 //! The nodes of small trees.
 use crate::changes::{commit_of, edits};
-use crate::store::{Derived, Store};
+use crate::store::{Derived, Store, root_of};
 use object_id::Id;
 use std::alloc::Global;
 use std::process::Abort;
@@ -55,9 +55,9 @@ fn two_files(rt: HostRuntime) -> Result<(), Fail> {
     let alloc = rt.alloc();
     let mut store = Store::new(alloc);
     let root = derived(alloc, &mut store, None, "a/x=abc b=")?;
-    assert_eq!(rt; root.new, 6);
+    assert_eq!(rt; root.new, 7);
     check_dir(&rt, &store, &root.roots.fsnode, "165 [1, 0, 1, 2, 3]")?;
-    let a = store.dir_in(root.roots, "a")?;
+    let a = store.dir_in(root_of(&root.roots), "a")?;
     check_dir(&rt, &store, &a.fsnode, "90 [1, 3, 0, 1, 3]")
 }
 
@@ -66,7 +66,7 @@ fn no_file(rt: HostRuntime) -> Result<(), Fail> {
     let alloc = rt.alloc();
     let mut store = Store::new(alloc);
     let root = derived(alloc, &mut store, None, "")?;
-    assert_eq!(rt; root.new, 2);
+    assert_eq!(rt; root.new, 3);
     check_dir(&rt, &store, &root.roots.fsnode, "46 [0, 0, 0, 0, 0]")
 }
 
@@ -81,11 +81,13 @@ fn a_file_that_was_away_has_no_parent(rt: HostRuntime) -> Result<(), Fail> {
     let first = derived(alloc, &mut store, None, "p=abc")?;
     let away = derived(alloc, &mut store, Some(&first), "p")?;
     let last = derived(alloc, &mut store, Some(&away), "p=abc")?;
-    let id = store.file_in(last.roots, "p")?;
+    let id = store.file_in(root_of(&last.roots), "p")?;
     assert_eq!(rt; length(&store, &id)?, 100);
     let file = file_unode(&store, &id)?;
     assert_eq!(rt; file.parents, Parents::Absent);
     assert_eq!(rt; file.linknode, last.id);
+    assert_eq!(rt; length(&store, &away.roots.deleted)?, 41);
+    assert_eq!(rt; length(&store, &last.roots.deleted)?, 7);
     Ok(())
 }
 
@@ -104,25 +106,26 @@ fn one_file_beside_a_thousand(rt: HostRuntime) -> Result<(), Fail> {
     let mut store = Store::new(alloc);
     let told = thousand(alloc)?;
     let first = derived(alloc, &mut store, None, told.as_str())?;
-    assert_eq!(rt; first.new, 1_004);
+    assert_eq!(rt; first.new, 1_005);
     let next = derived(alloc, &mut store, Some(&first), "a/b/c=22")?;
-    assert_eq!(rt; next.new, 7);
+    assert_eq!(rt; next.new, 8);
     Ok(())
 }
 
-// A changeset, one on it, the files that are then there, and how many nodes the second gives.
+// A changeset, one on it, the files that are then there, and how many nodes the second gives: among them the root of what
+// was deleted, and a node for each path at or above a file that goes.
 const STEPS: &str = "\
-a=1 | a/b=22 | a/b=22 | 5
-a/b=1 a/c/d=22 | a=333 | a=333 | 3
-a/b=1 a/c/d=22 | a=333 a/b | a=333 | 3
-a/b=1 a/c/d=22 | a/b | a/c/d=22 | 4
-a/c/d=22 b=1 | a/c/d | b=1 | 2
-a=1 | a/x | a=1 | 2
-a/b=1 | c/d | a/b=1 | 2
-a/b=1 | a/z/y | a/b=1 | 4
-a=1 | a a/b=22 | a/b=22 | 5
-a/b=22 a.b=1 | a/c=333 | a/b=22 a/c=333 a.b=1 | 5
-a=1 c=333 | b=22 | a=1 b=22 c=333 | 3";
+a=1 | a/b=22 | a/b=22 | 7
+a/b=1 a/c/d=22 | a=333 | a=333 | 8
+a/b=1 a/c/d=22 | a=333 a/b | a=333 | 8
+a/b=1 a/c/d=22 | a/b | a/c/d=22 | 7
+a/c/d=22 b=1 | a/c/d | b=1 | 6
+a=1 | a/x | a=1 | 3
+a/b=1 | c/d | a/b=1 | 3
+a/b=1 | a/z/y | a/b=1 | 5
+a=1 | a a/b=22 | a/b=22 | 7
+a/b=22 a.b=1 | a/c=333 | a/b=22 a/c=333 a.b=1 | 6
+a=1 c=333 | b=22 | a=1 b=22 c=333 | 4";
 
 fn cut(row: &str) -> (&str, &str) {
     row.split_once(" | ").unwrap_or((row, ""))

@@ -1,6 +1,6 @@
 //! Ids and their hex text. The ids are those of FIPS 180-4's examples.
 use crate::samples::ABC;
-use object_id::{BadHex, Id};
+use object_id::{BadHex, Hasher, Id};
 use std::alloc::Global;
 
 const NOTHING: &str = "e3b0c44298fc1c149afbf4c8996fb92427ae41e4649b934ca495991b7852b855";
@@ -35,6 +35,13 @@ fn is_written(alloc: Global, bytes: &[u8], text: &str) -> bool {
     written.as_slice() == text.as_bytes() && id.to_hex(alloc).is_ok_and(|hex| hex.as_str() == text)
 }
 
+fn is_of_pieces(first: &[u8], second: &[u8], text: &str) -> bool {
+    let mut hasher = Hasher::new();
+    hasher.feed(first);
+    hasher.feed(second);
+    Id::from_hex(text) == Ok(hasher.id())
+}
+
 fn is_read(text: &str, bytes: &[u8]) -> bool {
     Id::from_hex(text) == Ok(Id::of(bytes))
 }
@@ -50,6 +57,7 @@ fn place(text: &str) -> Option<usize> {
 fn contents_have_the_ids_of_the_standard(rt: HostRuntime) {
     assert!(rt; is_written(rt.alloc(), b"abc", ABC));
     assert!(rt; is_written(rt.alloc(), b"", NOTHING));
+    assert!(rt; is_of_pieces(b"a", b"bc", ABC));
 }
 
 #[test]

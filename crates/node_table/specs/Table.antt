@@ -34,7 +34,9 @@ abbrev pub empty_table : Table
 empty_table = record { nodes = map.empty; roots = map.empty; settled = [] }
 
 abbrev pub coded_roots : Coded Roots
-coded_roots = code_by (Id × Id) (coded× (coded_list coded_ℕ) (coded_list coded_ℕ)) (λ r. (r.fsnode, r.unode)) (λ p. record { fsnode = p.0; unode = p.1 }) (λ _. refl)
+coded_roots =
+    code_by (Id × (Id × Id)) (coded× (coded_list coded_ℕ) (coded× (coded_list coded_ℕ) (coded_list coded_ℕ)))
+    (λ r. (r.fsnode, (r.unode, r.deleted))) (λ p. record { fsnode = p.0; unode = p.1.0; deleted = p.1.1 }) (λ _. refl)
 
 abbrev pub coded_table : Coded Table
 coded_table =

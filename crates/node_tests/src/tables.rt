@@ -7,6 +7,7 @@ fn roots_of(text: &[u8]) -> Roots {
     Roots {
         fsnode: Id::of(text),
         unode: Id::of(text),
+        deleted: Id::of(text),
     }
 }
 

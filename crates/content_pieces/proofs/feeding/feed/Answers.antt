@@ -2,7 +2,8 @@ use Rattle.std.proofs.Common.{◌≡◌, ◌-◌, ◌++◌, length, take, subst,
 use Rattle.std.proofs.lemmas.List.{append_assoc, length-take-le}
 use Rattle.blob_disk.proofs.Clients.{kept_then}
 use Rattle.repo_journal.proofs.Walks.{leaves_walk, walk_then}
-use Rattle.content_pieces.specs.Joining.{HasFed, IsReadAt}
+use Rattle.object_id.specs.Hashing.{HasFed}
+use Rattle.content_pieces.specs.Joining.{IsReadAt}
 use Rattle.content_pieces.proofs.Blocks.{read_on, one_read}
 use Rattle.content_pieces.proofs.feeding.feed.Goals as goal
 

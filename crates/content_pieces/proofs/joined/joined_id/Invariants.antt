@@ -1,6 +1,7 @@
 use Rattle.std.proofs.Common.{ℕ, List, take}
 use Rattle.repo_journal.proofs.Walks.{Walked}
-use Rattle.content_pieces.specs.Joining.{HasFed, AreJoined}
+use Rattle.object_id.specs.Hashing.{HasFed}
+use Rattle.content_pieces.specs.Joining.{AreJoined}
 use Rattle.content_pieces.proofs.joined.joined_id.Given as goal
 
 abbrev pub invariant-loop-piece : goal.invariant-loop-piece

@@ -2,6 +2,7 @@ use Rattle.std.proofs.Common.{◌≡◌, ◌++◌, ◌∷◌, [], sym, ap, subst
 use Rattle.changeset_model.specs.Path.{is_path}
 use Rattle.deleted_step.specs.Texts.{left}
 use Rattle.deleted_step.specs.Unfolded.{IsUnfolded}
+use Rattle.deleted_step.proofs.Unfolding.{held_front}
 use Rattle.deleted_step.proofs.Texts.{dir_of_ref, front_path, name_of, next_cut, own, some_snoc}
 use Rattle.deleted_step.proofs.way.unfold_way.Goals as goal
 
@@ -34,7 +35,11 @@ unfold-requires-clause-here g c =
 
 pub returns-in-Err-clause-unfolded : goal.returns-in-Err-clause-unfolded
 returns-in-Err-clause-unfolded g c = λ first ls held are.
-    c.in-Err.ensures.unfolded first ls held (subst (λ d. IsUnfolded first ls d c.loop-rest.unfolded) (sym (dir_of_ref c.as_ref.result c.loop-rest.above c.as_ref.ensures.value)) (c.loop-rest.invariant.unfolded first ls held are))
+    let a = own c.loop-rest.above in
+    let n = c.parted.result.0.now in
+    let whole = next_cut c.args.path.now a c.loop-rest.rest c.in-Some.text n c.parted.result.1 c.loop-rest.invariant.cut c.in-Some.is c.parted.ensures in
+    let is = c.in_ok-here.ensures ∙ c.front_of.ensures (a ++ n ∷ []) (some_snoc a n) (c.as_str-in-Some.ensures.elements ∙ whole) in
+    c.in-Err.ensures.unfolded first ls (held_front (g.N.Nodes.contents c.args.nodes.now) first c.args.path.now c.in_ok-here.here (left c.parted.result.1) (whole ∙ ap (λ d. d ++ left c.parted.result.1) (sym is)) held) (subst (λ d. IsUnfolded first ls d c.loop-rest.unfolded) (sym (dir_of_ref c.as_ref.result c.loop-rest.above c.as_ref.ensures.value)) (c.loop-rest.invariant.unfolded first ls held are))
 
 pub loop-rest-preserved : goal.loop-rest-preserved
 loop-rest-preserved g c =
@@ -45,7 +50,7 @@ loop-rest-preserved g c =
     record {
       cut = whole ∙ ap (λ d. d ++ left c.parted.result.1) (sym is);
       unfolded = λ first ls held are.
-          c.in_default-unfold.ensures.unfolded first ls held (subst (λ d. IsUnfolded first ls d c.loop-rest.unfolded) (sym (dir_of_ref c.as_ref.result c.loop-rest.above c.as_ref.ensures.value)) (c.loop-rest.invariant.unfolded first ls held are));
+          c.in_default-unfold.ensures.unfolded first ls (held_front (g.N.Nodes.contents c.args.nodes.now) first c.args.path.now c.in_ok-here.here (left c.parted.result.1) (whole ∙ ap (λ d. d ++ left c.parted.result.1) (sym is)) held) (subst (λ d. IsUnfolded first ls d c.loop-rest.unfolded) (sym (dir_of_ref c.as_ref.result c.loop-rest.above c.as_ref.ensures.value)) (c.loop-rest.invariant.unfolded first ls held are));
     }
 
 pub returns-clause-unfolded : goal.returns-clause-unfolded

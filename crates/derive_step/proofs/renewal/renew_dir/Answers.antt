@@ -56,7 +56,7 @@ returns c = λ k older due e renewed under new.
     let un = c.in_ok-unode.ensures in
     let same_unode = c.apart-fsnode_before.ensures.unode in
     let same_manifest : manifest_seen m ≡ unode (k ∷ older) d = unode_is k older c.args.commit.now d made before step dir link edits is_link are_edits m (λ n. un.entries n ∙ ap (λ u. unode_after link made d edits (unode_before u) n) same_unode) un.rising (un.parent ∙ c.apart-fsnode_before.ensures.id) un.link in
-    let put = put_all k older c.args.commit.now d made before step dir link edits is_link are_edits (Ok c.in_ok-roots.roots) (fsnode_seen node) (manifest_seen m) c.fsnode_in.new.nodes.items c.manifest_in.new.nodes.items c.put_nodes.new.nodes.items same same_manifest
-    c.in_ok-roots.ensures.ids (un.nodes ∙ ap (λ u. c.fsnode_in.new.nodes.items ++ set_nodes link made d edits (unode_before u)) same_unode) c.in_ok-roots.ensures.nodes in
-    noted k older c.args.commit.now d made before step edits are_edits node found told.rising c.insert.new.self c.args.nodes.now.items c.put_nodes.new.nodes.items c.made_of.result c.in_ok-roots.roots dir same
+    let put = put_all k older c.args.commit.now d made before step dir link edits is_link are_edits (Ok c.in_ok-ids.ids) (fsnode_seen node) (manifest_seen m) c.fsnode_in.new.nodes.items c.manifest_in.new.nodes.items c.put_nodes.new.nodes.items same same_manifest
+    c.in_ok-ids.ensures.ids (un.nodes ∙ ap (λ u. c.fsnode_in.new.nodes.items ++ set_nodes link made d edits (unode_before u)) same_unode) c.in_ok-ids.ensures.nodes in
+    noted k older c.args.commit.now d made before step edits are_edits node found told.rising c.insert.new.self c.args.nodes.now.items c.put_nodes.new.nodes.items c.made_of.result c.in_ok-ids.ids dir same
     c.in_ok-insert.ensures.updates c.made_of.ensures.fsnode c.made_of.ensures.unode put.0 (put.1 ∙ ap (λ ns. ns ++ dir_nodes k older d) told.nodes)

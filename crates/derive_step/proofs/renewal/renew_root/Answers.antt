@@ -12,7 +12,7 @@ use Rattle.unode.specs.Views.{manifest_seen}
 use Rattle.derive_step.specs.Slices.{edits_in}
 use Rattle.derive_step.specs.Steps.{fs_after, fs_before, set_nodes, unode_after, unode_before}
 use Rattle.derive_step.specs.Views.{before_seen}
-use Rattle.derive_step.specs.Renewal.{dir_nodes, fsnode_part, roots_at}
+use Rattle.derive_step.specs.Renewal.{dir_nodes, fsnode_part, ids_at}
 use Rattle.derive_step.proofs.Renewed.{step_from, root_seen, node_is, unode_is, put_all}
 use Rattle.derive_step.proofs.renewal.renew_root.Goals as goal
 
@@ -38,6 +38,6 @@ returns c = λ k older due e under.
     let un = c.in_ok-unode.ensures in
     let same_unode = c.apart-fsnode_before.ensures.unode in
     let same_manifest : manifest_seen m ≡ unode (k ∷ older) [] = unode_is k older c.args.commit.now [] made before step refl link edits is_link are_edits m (λ n. un.entries n ∙ ap (λ u. unode_after link made [] edits (unode_before u) n) same_unode) un.rising (un.parent ∙ c.apart-fsnode_before.ensures.id) un.link in
-    subst (λ ns. IfOk c.put_nodes.result (λ roots. (roots ≡ roots_at (k ∷ older) []) × (c.put_nodes.new.nodes.items ≡ ns ++ dir_nodes k older []))) told.nodes
+    subst (λ ns. IfOk c.put_nodes.result (λ ids. (ids ≡ ids_at (k ∷ older) []) × (c.put_nodes.new.nodes.items ≡ ns ++ dir_nodes k older []))) told.nodes
     (put_all k older c.args.commit.now [] made before step refl link edits is_link are_edits c.put_nodes.result (fsnode_seen c.in_ok-fsnode.fsnode) (manifest_seen m) c.fsnode_in.new.nodes.items c.manifest_in.new.nodes.items c.put_nodes.new.nodes.items same same_manifest
     c.put_nodes.ensures.ids (un.nodes ∙ ap (λ u. c.fsnode_in.new.nodes.items ++ set_nodes link made [] edits (unode_before u)) same_unode) c.put_nodes.ensures.nodes)

@@ -1,9 +1,9 @@
 //! An id of bytes that come in pieces.
 ghost use Rattle.std.specs.Prelude.{◌≡◌, ◌++◌, ℕ, List, []};
 ghost use Rattle.sha2.specs.Sha256.{sha256};
-ghost use Rattle.content_pieces.specs.Joining.{HasFed};
+ghost use Rattle.object_id.specs.Hashing.{HasFed};
 
-use object_id::Id;
+use crate::id::Id;
 use sha2::{Digest, Sha256};
 
 /// The SHA-256 (FIPS 180-4) of the bytes that it is fed, one piece behind another.
