@@ -5,7 +5,8 @@
 --     copy_seen copy, copies_seen copies      a path that is set as a copy, with what it was copied from
 --     IsAnswer result answer      the answer that a read gives. A page of the log tells less than the definitions' page
 --     reads_file question      the read asks the disk
---     is_disk_fault result, is_read_fault result, is_bad_bytes result, is_early result      which answer it is
+--     is_disk_fault result, is_unread result, is_misread result      which answer to a change it is
+--     is_read_fault result, is_bad_bytes result, is_early result      which answer of a read it is
 use Rattle.std.specs.Prelude.{◌≡◌, ℕ, Bool, true, false, List, [], map, Option, None, Some, Vec, Result, Ok, Err}
 use Rattle.std.specs.Borrow.{Bor}
 use Rattle.changeset_model.specs.Path.{Path}
@@ -23,9 +24,9 @@ use Rattle.repo_calls.specs.declared.calls.Question.TheVariants as questions
 use Rattle.repo_calls.specs.declared.calls.Seen.{Seen}
 use Rattle.repo_calls.specs.declared.calls.Seen.TheVariants as seen
 use Rattle.repo_calls.specs.declared.calls.ChangeFault.{ChangeFault}
-use Rattle.repo_calls.specs.declared.calls.ChangeFault.TheVariants.{Refused, DiskFault}
+use Rattle.repo_calls.specs.declared.calls.ChangeFault.TheVariants as changes
 use Rattle.repo_calls.specs.declared.calls.AskFault.{AskFault}
-use Rattle.repo_calls.specs.declared.calls.AskFault.TheVariants.{NoContent, NoChangeset, NoPath, NotADir, NotAFile, Collision, ReadFault, BadBytes, Memory}
+use Rattle.repo_calls.specs.declared.calls.AskFault.TheVariants.{NoContent, NoChangeset, NoPath, NotADir, NotAFile, NoPolicy, Collision, ReadFault, BadBytes, Memory}
 
 abbrev pub place_of : Option (Bor Path) → Path
 place_of None = []
@@ -40,16 +41,37 @@ question_seen (questions.Fsnode id dir) = reply.FsnodeOf id (place_of dir)
 question_seen (questions.Unode id path) = reply.UnodeOf id (place_of path)
 question_seen (questions.History id path) = reply.HistoryOf id path.now
 question_seen (questions.Copies id) = reply.CopiesOf id
+question_seen (questions.PathLog id path) = reply.PathLogOf id path.now
+question_seen (questions.Deleted id dir) = reply.DeletedOf id (place_of dir)
+question_seen (questions.Policy number) = reply.PolicyOf number
 
 abbrev pub stored_answer : Result Granted ChangeFault → Answer
 stored_answer (Ok granted) = answers.Grants (granted_seen granted)
-stored_answer (Err (Refused refusal)) = refused refusal
-stored_answer (Err DiskFault) = answers.DiskFault
+stored_answer (Err (changes.Refused refusal)) = refused refusal
+stored_answer (Err changes.DiskFault) = answers.DiskFault
+stored_answer (Err changes.ReadFault) = answers.ReadFault
+stored_answer (Err (changes.BadBytes wanted found)) = answers.BadBytes wanted found
 
 abbrev pub is_disk_fault : {T : Type 0} → Result T ChangeFault → Bool
 is_disk_fault (Ok x) = false
-is_disk_fault (Err (Refused refusal)) = false
-is_disk_fault (Err DiskFault) = true
+is_disk_fault (Err (changes.Refused refusal)) = false
+is_disk_fault (Err changes.DiskFault) = true
+is_disk_fault (Err changes.ReadFault) = false
+is_disk_fault (Err (changes.BadBytes wanted found)) = false
+
+abbrev pub is_unread : {T : Type 0} → Result T ChangeFault → Bool
+is_unread (Ok x) = false
+is_unread (Err (changes.Refused refusal)) = false
+is_unread (Err changes.DiskFault) = false
+is_unread (Err changes.ReadFault) = true
+is_unread (Err (changes.BadBytes wanted found)) = false
+
+abbrev pub is_misread : {T : Type 0} → Result T ChangeFault → Bool
+is_misread (Ok x) = false
+is_misread (Err (changes.Refused refusal)) = false
+is_misread (Err changes.DiskFault) = false
+is_misread (Err changes.ReadFault) = false
+is_misread (Err (changes.BadBytes wanted found)) = true
 
 abbrev pub fault_answer : AskFault → Answer
 fault_answer (NoContent id) = answers.Lacks (reply.AbsentContent id)
@@ -57,6 +79,7 @@ fault_answer (NoChangeset id) = answers.Lacks (reply.AbsentChangeset id)
 fault_answer NoPath = answers.Lacks reply.NoPath
 fault_answer NotADir = answers.Lacks reply.NotADir
 fault_answer NotAFile = answers.Lacks reply.NotAFile
+fault_answer NoPolicy = answers.Lacks reply.NoPolicy
 fault_answer (Collision id) = answers.NodeCollision id
 fault_answer ReadFault = answers.ReadFault
 fault_answer (BadBytes wanted found) = answers.BadBytes wanted found
@@ -89,6 +112,9 @@ reads_file (questions.Fsnode id dir) = false
 reads_file (questions.Unode id path) = false
 reads_file (questions.History id path) = false
 reads_file (questions.Copies id) = false
+reads_file (questions.PathLog id path) = false
+reads_file (questions.Deleted id dir) = false
+reads_file (questions.Policy number) = false
 
 abbrev pub is_read_fault : {T : Type 0} → Result T AskFault → Bool
 is_read_fault (Ok x) = false
@@ -97,6 +123,7 @@ is_read_fault (Err (NoChangeset id)) = false
 is_read_fault (Err NoPath) = false
 is_read_fault (Err NotADir) = false
 is_read_fault (Err NotAFile) = false
+is_read_fault (Err NoPolicy) = false
 is_read_fault (Err (Collision id)) = false
 is_read_fault (Err ReadFault) = true
 is_read_fault (Err (BadBytes wanted found)) = false
@@ -109,6 +136,7 @@ is_bad_bytes (Err (NoChangeset id)) = false
 is_bad_bytes (Err NoPath) = false
 is_bad_bytes (Err NotADir) = false
 is_bad_bytes (Err NotAFile) = false
+is_bad_bytes (Err NoPolicy) = false
 is_bad_bytes (Err (Collision id)) = false
 is_bad_bytes (Err ReadFault) = false
 is_bad_bytes (Err (BadBytes wanted found)) = true
@@ -122,6 +150,7 @@ is_early (Err (NoChangeset id)) = true
 is_early (Err NoPath) = true
 is_early (Err NotADir) = true
 is_early (Err NotAFile) = true
+is_early (Err NoPolicy) = true
 is_early (Err (Collision id)) = true
 is_early (Err ReadFault) = false
 is_early (Err (BadBytes wanted found)) = false

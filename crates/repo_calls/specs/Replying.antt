@@ -1,5 +1,6 @@
 -- How a repository answers the calls of one seat, whether it is served alone or beside others.
---     Fits ask granted, Shown question seen      the change is granted what it asks for, and the read shows it
+--     grant_for ask, IsGrant kind granted      what kind of thing a change is granted
+--     Fits call granted, Shown question seen      the call is granted what it asks for, and the read shows it
 --     kind_of question, IsOfKind kind seen      what kind of thing a read shows
 --     MakesNothing answer      the call made neither an entry nor a fault
 --     IsReplying replies      what is so of each such relation
@@ -8,35 +9,70 @@ use Rattle.std.specs.Prelude.{◌≢◌, ℕ, ◌-◌, ◌≤◌, Bool, IsTrue, 
 use Rattle.byte_fields.specs.Bytes.{Id}
 use Rattle.history_model.specs.History.{Entry}
 use Rattle.history_model.specs.Journal.{Header}
-use Rattle.reply_model.specs.After.{Relation, Call, Asks, Looks, Answer, Grants, Refuses, Shows, Lacks, Roots, DiskFault, ReadFault, BadBytes, NodeCollision, Memory}
-use Rattle.reply_model.specs.Reply.{most_stack, Ask, PutContent, PutWhole, PutChangeset, SetBookmark, LandDraft, Granted, ContentPut, WholePut, ChangesetPut, BookmarkSet, Landed, Question, HeadOf, ContentOf, ChangesetOf, LogFrom, FsnodeOf, UnodeOf, HistoryOf, CopiesOf, PathLogOf, DeletedOf, Seen, SeenHead, SeenBytes, SeenLog, SeenIds, SeenCopies}
+use Rattle.reply_model.specs.After.{Relation, Call, Asks, Joins, Looks, Derives, Answer, Grants, Refuses, Shows, Lacks, Roots, DiskFault, ReadFault, BadBytes, NodeCollision, Memory}
+use Rattle.reply_model.specs.Reply.{most_stack, Ask, PutContent, PutWhole, PutChangeset, SetBookmark, LandDraft, SetPolicy, Granted, ContentPut, WholePut, ChangesetPut, BookmarkSet, Landed, PolicySet, Question, HeadOf, ContentOf, ChangesetOf, LogFrom, FsnodeOf, UnodeOf, HistoryOf, CopiesOf, PathLogOf, DeletedOf, PolicyOf, Seen, SeenHead, SeenBytes, SeenLog, SeenIds, SeenCopies}
 
-abbrev pub Fits : Ask → Granted → Type 0
-Fits (PutContent bytes) (ContentPut x) = Unit {0}
-Fits (PutContent bytes) (WholePut x n) = ⊥
-Fits (PutContent bytes) (ChangesetPut x) = ⊥
-Fits (PutContent bytes) BookmarkSet = ⊥
-Fits (PutContent bytes) (Landed old ids) = ⊥
-Fits (PutWhole body pieces) (ContentPut x) = ⊥
-Fits (PutWhole body pieces) (WholePut x n) = Unit {0}
-Fits (PutWhole body pieces) (ChangesetPut x) = ⊥
-Fits (PutWhole body pieces) BookmarkSet = ⊥
-Fits (PutWhole body pieces) (Landed old ids) = ⊥
-Fits (PutChangeset bytes) (ContentPut x) = ⊥
-Fits (PutChangeset bytes) (WholePut x n) = ⊥
-Fits (PutChangeset bytes) (ChangesetPut x) = Unit {0}
-Fits (PutChangeset bytes) BookmarkSet = ⊥
-Fits (PutChangeset bytes) (Landed old ids) = ⊥
-Fits (SetBookmark caller name from to) (ContentPut x) = ⊥
-Fits (SetBookmark caller name from to) (WholePut x n) = ⊥
-Fits (SetBookmark caller name from to) (ChangesetPut x) = ⊥
-Fits (SetBookmark caller name from to) BookmarkSet = Unit {0}
-Fits (SetBookmark caller name from to) (Landed old ids) = ⊥
-Fits (LandDraft caller name draft moment) (ContentPut x) = ⊥
-Fits (LandDraft caller name draft moment) (WholePut x n) = ⊥
-Fits (LandDraft caller name draft moment) (ChangesetPut x) = ⊥
-Fits (LandDraft caller name draft moment) BookmarkSet = ⊥
-Fits (LandDraft caller name draft moment) (Landed old ids) = length ids ≤ most_stack
+-- what a change is granted: a content, a whole, a changeset, a move, a landing, or a policy
+pub data GrantKind : Type 0 where
+  ContentGrant : GrantKind
+  WholeGrant : GrantKind
+  ChangesetGrant : GrantKind
+  BookmarkGrant : GrantKind
+  LandingGrant : GrantKind
+  PolicyGrant : GrantKind
+
+abbrev pub grant_for : Ask → GrantKind
+grant_for (PutContent bytes) = ContentGrant
+grant_for (PutWhole body pieces) = WholeGrant
+grant_for (PutChangeset bytes) = ChangesetGrant
+grant_for (SetBookmark caller name from to) = BookmarkGrant
+grant_for (LandDraft caller name draft moment) = LandingGrant
+grant_for (SetPolicy caller text) = PolicyGrant
+
+abbrev pub IsGrant : GrantKind → Granted → Type 0
+IsGrant ContentGrant (ContentPut x) = Unit {0}
+IsGrant ContentGrant (WholePut x n) = ⊥
+IsGrant ContentGrant (ChangesetPut x) = ⊥
+IsGrant ContentGrant BookmarkSet = ⊥
+IsGrant ContentGrant (Landed old ids) = ⊥
+IsGrant ContentGrant (PolicySet n) = ⊥
+IsGrant WholeGrant (ContentPut x) = ⊥
+IsGrant WholeGrant (WholePut x n) = Unit {0}
+IsGrant WholeGrant (ChangesetPut x) = ⊥
+IsGrant WholeGrant BookmarkSet = ⊥
+IsGrant WholeGrant (Landed old ids) = ⊥
+IsGrant WholeGrant (PolicySet n) = ⊥
+IsGrant ChangesetGrant (ContentPut x) = ⊥
+IsGrant ChangesetGrant (WholePut x n) = ⊥
+IsGrant ChangesetGrant (ChangesetPut x) = Unit {0}
+IsGrant ChangesetGrant BookmarkSet = ⊥
+IsGrant ChangesetGrant (Landed old ids) = ⊥
+IsGrant ChangesetGrant (PolicySet n) = ⊥
+IsGrant BookmarkGrant (ContentPut x) = ⊥
+IsGrant BookmarkGrant (WholePut x n) = ⊥
+IsGrant BookmarkGrant (ChangesetPut x) = ⊥
+IsGrant BookmarkGrant BookmarkSet = Unit {0}
+IsGrant BookmarkGrant (Landed old ids) = ⊥
+IsGrant BookmarkGrant (PolicySet n) = ⊥
+IsGrant LandingGrant (ContentPut x) = ⊥
+IsGrant LandingGrant (WholePut x n) = ⊥
+IsGrant LandingGrant (ChangesetPut x) = ⊥
+IsGrant LandingGrant BookmarkSet = ⊥
+IsGrant LandingGrant (Landed old ids) = length ids ≤ most_stack
+IsGrant LandingGrant (PolicySet n) = ⊥
+IsGrant PolicyGrant (ContentPut x) = ⊥
+IsGrant PolicyGrant (WholePut x n) = ⊥
+IsGrant PolicyGrant (ChangesetPut x) = ⊥
+IsGrant PolicyGrant BookmarkSet = ⊥
+IsGrant PolicyGrant (Landed old ids) = ⊥
+IsGrant PolicyGrant (PolicySet n) = Unit {0}
+
+-- no other call is granted anything
+abbrev pub Fits : Call → Granted → Type 0
+Fits (Asks ask) granted = IsGrant (grant_for ask) granted
+Fits (Joins body) granted = IsGrant WholeGrant granted
+Fits (Looks question) granted = ⊥
+Fits (Derives id) granted = ⊥
 
 abbrev pub IsHead : Seen → Type 0
 IsHead (SeenHead head) = Unit {0}
@@ -93,6 +129,7 @@ kind_of (HistoryOf x p) = IdsKind
 kind_of (CopiesOf x) = CopiesKind
 kind_of (PathLogOf x p) = IdsKind
 kind_of (DeletedOf x p) = BytesKind
+kind_of (PolicyOf number) = BytesKind
 
 abbrev pub IsOfKind : SeenKind → Seen → Type 0
 IsOfKind HeadKind seen = IsHead seen
@@ -109,7 +146,7 @@ MakesNothing (Grants g) = ⊥
 MakesNothing (Refuses refusal) = Unit {0}
 MakesNothing (Shows seen) = Unit {0}
 MakesNothing (Lacks absent) = Unit {0}
-MakesNothing (Roots fs un) = Unit {0}
+MakesNothing (Roots fs un gone) = Unit {0}
 MakesNothing DiskFault = ⊥
 MakesNothing ReadFault = ⊥
 MakesNothing (BadBytes wanted found) = Unit {0}
@@ -117,7 +154,7 @@ MakesNothing (NodeCollision x) = Unit {0}
 MakesNothing Memory = Unit {0}
 
 pub record IsReplying (replies : Relation) : Type 0 where
-  pub fits : (header : Header) (h : List Entry) (who : ℕ) (ask : Ask) (granted : Granted) (new : List Entry) → replies header h who (Asks ask) (Grants granted) new → Fits ask granted
+  pub fits : (header : Header) (h : List Entry) (who : ℕ) (call : Call) (granted : Granted) (new : List Entry) → replies header h who call (Grants granted) new → Fits call granted
   pub shown : (header : Header) (h : List Entry) (who : ℕ) (question : Question) (seen : Seen) (new : List Entry) → replies header h who (Looks question) (Shows seen) new → Shown question seen
   -- want of memory might stand in place of an answer that made nothing
   pub memory : (header : Header) (h : List Entry) (who : ℕ) (call : Call) (answer : Answer) (new : List Entry) → MakesNothing answer → replies header h who call answer new → replies header h who call Memory new

@@ -27,6 +27,12 @@ pub enum Question<'a> {
     History(Id, &'a RepoPath),
     /// What a changeset sets as copies.
     Copies(Id),
+    /// The changesets of a chain that set a path, or have another file there than their first parent.
+    PathLog(Id, &'a RepoPath),
+    /// The deleted node of a path in a changeset's tree, of its root where there is no path.
+    Deleted(Id, Option<&'a RepoPath>),
+    /// The text of the policy that is held, or of the one that has this number in the log.
+    Policy(Option<u64>),
 }
 
 /// What a read sees.
@@ -35,7 +41,7 @@ pub enum Seen {
     Head(Option<Id>),
     Bytes(Vec<u8>),
     Log(LogPage),
-    /// The changesets that set a file, the newest first.
+    /// Changesets, the newest first.
     Ids(Vec<Id>),
     /// What a changeset sets as copies, by rising paths.
     Copies(Vec<CopiedPath>),
@@ -50,6 +56,12 @@ pub enum ChangeFault {
     /// A call of the disk failed. The record may be in the file or not, and nothing more is stored.
     #[error("the disk failed")]
     DiskFault,
+    /// The disk failed to read a content that was to be joined.
+    #[error("the disk failed to read")]
+    ReadFault,
+    /// The bytes in the file of a content that was to be joined are those of another one.
+    #[error("the content {wanted:?} has the bytes of {found:?}")]
+    BadBytes { wanted: Id, found: Id },
 }
 
 /// Why a read sees nothing.
@@ -70,6 +82,9 @@ pub enum AskFault {
     /// A directory is at the path where a file is wanted.
     #[error("no file is at this path")]
     NotAFile,
+    /// No policy is held, or the log has none under this number.
+    #[error("no policy")]
+    NoPolicy,
     /// Two different nodes have this id.
     #[error("two nodes have the id {id:?}")]
     Collision { id: Id },

@@ -5,6 +5,7 @@
 pub mod ask;
 pub mod calls;
 pub mod copies;
+pub mod denied;
 pub mod laws;
 pub mod log;
 pub mod refusal;
@@ -13,6 +14,7 @@ pub mod seat;
 pub use ask::{Ask, Granted, Landed};
 pub use calls::{AskFault, ChangeFault, Question, Seen};
 pub use copies::CopiedPath;
+pub use denied::DeniedPlace;
 pub use log::{LogEntry, LogPage};
 pub use refusal::Refusal;
 pub use seat::Seat;

@@ -10,6 +10,12 @@ pub enum LogEntry {
         id: Id,
         size: u64,
     },
+    /// Contents were joined, in this order; their length in bytes together.
+    Whole {
+        id: Id,
+        size: u64,
+        parts: Vec<Id>,
+    },
     /// A changeset was uploaded.
     Changeset {
         id: Id,
@@ -32,6 +38,11 @@ pub enum LogEntry {
         ids: Vec<Id>,
         /// Who landed it, told where a policy was held.
         caller: Option<BookName>,
+    },
+    /// A policy was set, and by whom; how many rules it has.
+    Policy {
+        caller: BookName,
+        rules: u64,
     },
 }
 

@@ -2,6 +2,7 @@
 ghost use Rattle.std.specs.Prelude.{◌≡◌};
 ghost use Rattle.repo_calls.specs.declared.refusal.Refusal.TheVariants.{Memory};
 
+use crate::denied::DeniedPlace;
 use object_id::Id;
 use repo_path::RepoPath;
 use std::alloc::{AllocError, AllocFailed};
@@ -32,6 +33,24 @@ pub enum Refusal {
     /// The changeset has two parents.
     #[error("two parents")]
     Merge,
+    /// These are no ids of contents to be joined: their length in bytes isn't a multiple of 32 from 32 to 2,048.
+    #[error("no ids: {length} bytes")]
+    BadParts {
+        length: u64,
+    },
+    /// The file has the first version, which can't store this.
+    #[error("the file has the first version")]
+    OldFormat,
+    /// No content has the id that is to be joined; the first such.
+    #[error("no content {id:?} to be joined")]
+    NoPiece {
+        id: Id,
+    },
+    /// What is to be joined was joined itself; the first such.
+    #[error("{id:?} was joined of others")]
+    NotAPiece {
+        id: Id,
+    },
     /// A parent isn't known; the first such.
     #[error("unknown parent {id:?}")]
     NoParent {
@@ -49,6 +68,11 @@ pub enum Refusal {
         path: RepoPath,
         wanted: u64,
         found: u64,
+    },
+    /// The trees of the two parents don't agree at a path that the changeset leaves as it is; the least such path.
+    #[error("the parents don't agree at {path:?}")]
+    Unresolved {
+        path: RepoPath,
     },
     /// Another changeset has this id.
     #[error("another changeset has the id {id:?}")]
@@ -84,6 +108,23 @@ pub enum Refusal {
     StackTooLong {
         count: u32,
     },
+    /// A changeset of the stack has two parents; the first such.
+    #[error("the changeset {id:?} of the stack has two parents")]
+    MergeInStack {
+        id: Id,
+    },
+    /// A changeset that the head has since the root has two parents; the first such.
+    #[error("the changeset {id:?} behind the head has two parents")]
+    MergeInRange {
+        id: Id,
+    },
+    /// The policy doesn't allow it to the caller here; the number of the rule that decides, from 0, or none where none speaks
+    /// of it.
+    #[error("not allowed at {place:?}")]
+    Denied {
+        place: DeniedPlace,
+        rule: Option<u64>,
+    },
     /// A path that the stack touches is comparable to one that was touched since the root; the least such pair.
     #[error("the path {left:?} clashes with {right:?}")]
     Clash {
@@ -94,6 +135,11 @@ pub enum Refusal {
     #[error("a landing of {length} bytes")]
     TooLarge {
         length: u64,
+    },
+    /// The text is no policy; the number of the first line that breaks the grammar, from 0.
+    #[error("no policy: wrong in line {line}")]
+    BadPolicy {
+        line: u64,
     },
     /// The entry's record doesn't fit: the journal's size and the payload's length, in bytes.
     #[error("full: {size} bytes, and {length} more don't fit")]

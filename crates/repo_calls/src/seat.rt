@@ -2,8 +2,8 @@
 ghost use Rattle.std.specs.Prelude.{◌≡◌, ℕ, List};
 ghost use Rattle.history_model.specs.History.{Entry};
 ghost use Rattle.history_model.specs.Journal.{Header};
-ghost use Rattle.reply_model.specs.After.{Relation, Answer, Asks, Looks};
-ghost use Rattle.repo_calls.specs.Calls.{ask_seen};
+ghost use Rattle.reply_model.specs.After.{Relation, Answer, Looks};
+ghost use Rattle.repo_calls.specs.Calls.{call_seen};
 ghost use Rattle.repo_calls.specs.Asking.{IsAnswer, question_seen, stored_answer};
 ghost use Rattle.repo_calls.specs.Replying.{IsReplying};
 
@@ -33,7 +33,7 @@ pub trait Seat {
 
     /// Makes a change.
     fn change(&mut self, alloc: Global, ask: &Ask) -> Result<Granted, ChangeFault>
-        ensures reply { replies (home self.old) (header self.old) (front self.old) (number self.old) (Asks (ask_seen ask.now)) (stored_answer result) (front self.new) }
+        ensures reply { replies (home self.old) (header self.old) (front self.old) (number self.old) (call_seen ask.now) (stored_answer result) (front self.new) }
         ensures header { header self.new ≡ header self.old }
         ensures number { number self.new ≡ number self.old }
         ensures home { home self.new ≡ home self.old };

@@ -4,7 +4,7 @@ use Rattle.std.specs.Prelude.{◌||◌, ◌&&◌, flat_map, sum_by, Option}
 use Rattle.std.specs.Option.{option_or, option_flatten}
 use Rattle.std.proofs.lemmas.List.{map-append}
 use Rattle.byte_fields.specs.Bytes.{Id, first_some, last_some}
-use Rattle.history_model.specs.History.{Body, Content, Whole, Change, Book, Land, Policy, Fault, Entry, with_id, each_id_once, is_stored, is_breaking, unnumbered, bodies, stored, is_down, changesets_in, known, length_in, content_len}
+use Rattle.history_model.specs.History.{Body, Content, Whole, Change, Book, Land, Policy, Fault, Entry, with_id, each_id_once, is_stored, is_breaking, unnumbered, bodies, stored, is_down, changesets_in, known, length_in, content_len, policy_text, policy_of}
 use Rattle.history_model.specs.Bookmark.{moved_to, head}
 use Rattle.history_model.specs.Journal.{Header, record_len, size}
 use Rattle.reply_model.specs.Reply.{Ask, is_ask, Judged, judge}
@@ -46,6 +46,9 @@ content_len-cleared h x = first_some-cleared (length_in x) h
 
 pub head-cleared : (h : List Entry) (name : List ℕ) → head (cleared h) name ≡ head h name
 head-cleared h name = ap option_flatten (last_some-cleared (moved_to name) h)
+
+pub policy_of-cleared : (h : List Entry) → policy_of (cleared h) ≡ policy_of h
+policy_of-cleared h = last_some-cleared policy_text h
 
 pub size-cleared : (h : List Entry) → size (cleared h) ≡ size h
 size-cleared h = ap (λ bs. 17 + sum_by record_len bs) (bodies-cleared h)

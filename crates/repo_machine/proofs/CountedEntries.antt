@@ -5,7 +5,7 @@ use Rattle.std.proofs.lemmas.List.Sums.{length-filter}
 use Rattle.history_model.specs.History.{Known}
 use Rattle.history_model.specs.History as model
 use Rattle.repo_machine.specs.declared.records.Record.{Record}
-use Rattle.repo_machine.specs.declared.records.Record.TheVariants.{Content, Change, Book, Land, Fault}
+use Rattle.repo_machine.specs.declared.records.Record.TheVariants.{Content, Change, Book, Land, Policy, Fault}
 use Rattle.repo_machine.specs.declared.records.Entry.{Entry}
 use Rattle.repo_machine.specs.Records.{body_of, entry_of, history_of}
 use Rattle.repo_machine.specs.Counting.{is_content, is_landing, is_content_record, is_landing_record, is_content_entry, is_landing_entry}
@@ -27,6 +27,7 @@ content_by ks (Content id length) = refl
 content_by ks (Change number) = refl
 content_by ks (Book movement) = refl
 content_by ks (Land landing) = refl
+content_by ks (Policy caller text) = refl
 content_by ks (Fault breaking) = refl
 
 landing_by : (ks : List Known) (r : Record) → is_landing_record r ≡ is_landing (body_of ks r)
@@ -34,6 +35,7 @@ landing_by ks (Content id length) = refl
 landing_by ks (Change number) = refl
 landing_by ks (Book movement) = refl
 landing_by ks (Land landing) = refl
+landing_by ks (Policy caller text) = refl
 landing_by ks (Fault breaking) = refl
 
 pub contents_counted : (ks : List Known) (es : List Entry) → count_by is_content_entry es ≡ count_by (λ (e : model.Entry). is_content e.body) (history_of ks es)

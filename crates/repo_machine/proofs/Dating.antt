@@ -1,7 +1,7 @@
 -- Whether a stack has a changeset of the second version, as it is gone through.
 --     dates cs      it has one
-use Rattle.std.proofs.Common.{◌≡◌, ℕ, ◌+◌, ◌<◌, ◌≤◌, Bool, true, false, cond, List, [], ◌∷◌, length, drop, sym, ap, ◌∙◌}
-use Rattle.std.specs.Prelude.{Option, None, Some, ◌||◌, slice_index_or}
+use Rattle.std.proofs.Common.{◌≡◌, ℕ, ◌+◌, ◌<◌, ◌≤◌, Bool, true, false, cond, List, ◌∷◌, length, drop, sym, ap, ◌∙◌}
+use Rattle.std.specs.Prelude.{None, Some, ◌||◌, slice_index_or}
 use Rattle.std.specs.Arc.{arc_value}
 use Rattle.std.specs.declared.sync.Arc.{Arc}
 use Rattle.std.specs.List.{list_any}

@@ -1,15 +1,15 @@
 -- What is so of each known changeset of a legal history is so of a fork's stack and range: they have no merge, and their copy sources are kept on another parent.
 --     no_merges      a fork passes the check for merges
 --     stack_keeps      the copy sources of its stack
-use Rattle.std.proofs.Common.{◌≡◌, ◌≤◌, le-ltb, zero, suc, ℕ, ◌+◌, Bool, true, false, cond, List, [], ◌∷◌, map, drop, refl, ap, ◌∙◌, length}
-use Rattle.std.specs.Prelude.{Contains, Option, None, Some, IsTrue, option_map, find, Ok, bytes_eq}
+use Rattle.std.proofs.Common.{◌≡◌, ◌≤◌, le-ltb, zero, suc, ℕ, ◌+◌, Bool, true, false, cond, List, [], ◌∷◌, drop, refl, ap, ◌∙◌, length}
+use Rattle.std.specs.Prelude.{Contains, Option, None, Some, option_map, find, Ok, bytes_eq}
 use Rattle.std.specs.List.{AllByRecursion, after_first, position_or_len}
 use Rattle.std.specs.Option.{option_map_or}
 use Rattle.byte_fields.specs.Bytes.{Id}
 use Rattle.byte_fields.proofs.Lists.{all_reverse, weaker}
 use Rattle.bonsai.specs.Making.{KeepsOnParent, KeepOnParents}
 use Rattle.bonsai.proofs.Rules.{keeps_on_parent}
-use Rattle.changeset_model.specs.Changeset.{Changeset, is_changeset, id_of}
+use Rattle.changeset_model.specs.Changeset.{Changeset, id_of}
 use Rattle.history_model.specs.History.{Entry, Known, known}
 use Rattle.history_model.specs.Chain.{first_parent, line_among, chain, changesets}
 use Rattle.history_model.specs.Pushrebase.{following}

@@ -9,7 +9,7 @@ use Rattle.repo_calls.specs.declared.refusal.Refusal.{Refusal}
 use Rattle.repo_machine.specs.Held.{Room, HasRoom}
 use Rattle.repo_machine.specs.Judged.{JudgedChange, Frames}
 use Rattle.repo_machine.specs.Entering.{IsNew, IsPrepared, Prevents, Enters, Judges}
-use Rattle.repo_machine.specs.Landings.{IsRefusal}
+use Rattle.repo_calls.specs.Refusing.{IsRefusal}
 use Rattle.repo_machine.proofs.Judging.{entered_made, prevented}
 
 module _ (header : Header) (h : List Entry) (room : Room) (who : ℕ) (ask : Ask) (asks : is_ask h ask ≡ true) (granted : Granted) where

@@ -12,7 +12,7 @@ use Rattle.std.proofs.lemmas.Map.Text.{is_eq-slice_cmp}
 use Rattle.byte_fields.specs.Bytes.{Id, last_of, last_some}
 use Rattle.byte_fields.proofs.Lists.{first_some-append, option_or-None}
 use Rattle.changeset_model.specs.Changeset.{Changeset, id_of}
-use Rattle.history_model.specs.History.{Body, Content, Change, Book, Land, Move, Landing, Entry, with_id, known, is_known, content_len, length_in}
+use Rattle.history_model.specs.History.{Body, Content, Change, Book, Land, Policy, Move, Landing, Entry, with_id, known, is_known, content_len, length_in, policy_of, policy_text}
 use Rattle.history_model.specs.Bookmark.{moved_to, head}
 use Rattle.reply_model.specs.After.{entry_by}
 use Rattle.reply_model.proofs.Parents.{brought}
@@ -20,6 +20,11 @@ use Rattle.reply_model.proofs.Lines.{known-append}
 use Rattle.changeset_store.proofs.Numbering.{not_some}
 use Rattle.changeset_store.proofs.KnownOnce.{is_known-once}
 use Rattle.reply_model.proofs.Parents.{last_some-push}
+
+-- ---- the policy
+
+pub policy-push : (h : List Entry) (who : ℕ) (body : Body) → policy_of (h ++ entry_by who body ∷ []) ≡ option_or (policy_text body) (policy_of h)
+policy-push h who body = last_some-push (λ e. policy_text e.body) h (entry_by who body)
 
 -- ---- heads
 
@@ -81,6 +86,9 @@ content_len-content h who x n y none = content_len-push h who (Content x n) y �
 
 pub known-content : (h : List Entry) (who : ℕ) (x : Id) (n : ℕ) → known (h ++ entry_by who (Content x n) ∷ []) ≡ known h
 known-content h who x n = known-append h (entry_by who (Content x n) ∷ []) ∙ append-nil (known h)
+
+pub known-policy : (h : List Entry) (who : ℕ) (caller text : List ℕ) → known (h ++ entry_by who (Policy caller text) ∷ []) ≡ known h
+known-policy h who caller text = known-append h (entry_by who (Policy caller text) ∷ []) ∙ append-nil (known h)
 
 pub known-move : (h : List Entry) (who : ℕ) (move : Move) → known (h ++ entry_by who (Book move) ∷ []) ≡ known h
 known-move h who move = known-append h (entry_by who (Book move) ∷ []) ∙ append-nil (known h)

@@ -10,14 +10,15 @@ use Rattle.history_model.specs.History.{Body, Content, Book, Entry, is_down, kno
 use Rattle.history_model.specs.Bookmark.{head}
 use Rattle.history_model.specs.Journal.{Header, payload_len, is_full}
 use Rattle.history_model.specs.Journal as journal
-use Rattle.reply_model.specs.Reply.{told, PutContent, SetBookmark, ContentPut, BookmarkSet, TooLong, NoChangeset, Moved, refuse_some, Full, Down, Ask, Granted, Refusal, Judged, by_ask, judge, refuse_if, unchanged, entered, put_content, ◌>>=◌}
+use Rattle.policy_model.specs.Rules.{bookmark_place}
+use Rattle.reply_model.specs.Reply.{told, denied_at, denial, PutContent, SetBookmark, ContentPut, BookmarkSet, TooLong, NoChangeset, Moved, refuse_some, Full, Down, Ask, Granted, Refusal, Judged, by_ask, judge, refuse_if, unchanged, entered, put_content, ◌>>=◌}
 use Rattle.reply_model.specs.After.{Answer, Asks, Grants, Refuses, Memory, nothing, Replies, entry_by, entries_of}
 use Rattle.repo_calls.specs.declared.refusal.Refusal as refusal
 use Rattle.repo_calls.specs.declared.refusal.Refusal.TheVariants as refusals
 use Rattle.repo_calls.specs.Calls.{refused}
 use Rattle.repo_machine.specs.Entering.{Prevents}
 use Rattle.repo_machine.specs.Judged.{JudgedChange, IsJudged}
-use Rattle.repo_machine.specs.Landings.{IsRefusal}
+use Rattle.repo_calls.specs.Refusing.{IsRefusal}
 
 -- ---- what is answered
 
@@ -76,8 +77,11 @@ module _ (header : Header) (h : List Entry) (caller name : List ℕ) (from to : 
   abbrev moving : Result Judged Refusal
   moving = cond (option_eq bytes_eq from to) (unchanged BookmarkSet) (entered header h BookmarkSet (Book (record { name = name; from = from; to = to; caller = told h caller })))
 
+  abbrev decided : Result (Unit {0}) Refusal
+  decided = refuse_some (denied_at h caller (bookmark_place name ∷ [])) denial
+
   abbrev from_head : Bool → Result Judged Refusal
-  from_head same = refuse_if (not same) (Moved (head h name)) >>= λ _. moving
+  from_head same = refuse_if (not same) (Moved (head h name)) >>= λ _. (decided >>= λ _. moving)
 
   abbrev to_target : Option Id → Result Judged Refusal
   to_target none = refuse_some none NoChangeset >>= λ _. from_head (option_eq bytes_eq (head h name) from)
@@ -91,11 +95,18 @@ module _ (header : Header) (h : List Entry) (caller name : List ℕ) (from to : 
   pub judged_moved : unknown ≡ None → option_eq bytes_eq (head h name) from ≡ false → judge header h (SetBookmark caller name from to) ≡ Err (Moved (head h name))
   judged_moved e other = known_target e ∙ ap from_head other
 
-  pub judged_same : unknown ≡ None → option_eq bytes_eq (head h name) from ≡ true → option_eq bytes_eq from to ≡ true → judge header h (SetBookmark caller name from to) ≡ unchanged BookmarkSet
-  judged_same e there same = known_target e ∙ ap from_head there ∙ ap (λ b. cond b (unchanged BookmarkSet) (entered header h BookmarkSet (Book (record { name = name; from = from; to = to; caller = told h caller })))) same
+  pub move_refused : unknown ≡ None → option_eq bytes_eq (head h name) from ≡ true → (e : refusal.Refusal) → IsRefusal decided e → IsRefusal (judge header h (SetBookmark caller name from to)) e
+  move_refused none there e (inl memory) = inl memory
+  move_refused none there e (inr (r, is, same)) = inr (r, known_target none ∙ ap from_head there ∙ ap (λ x. x >>= λ _. moving) is, same)
 
-  pub judged_moving : unknown ≡ None → option_eq bytes_eq (head h name) from ≡ true → option_eq bytes_eq from to ≡ false → judge header h (SetBookmark caller name from to) ≡ entered header h BookmarkSet (Book (record { name = name; from = from; to = to; caller = told h caller }))
-  judged_moving e there apart = known_target e ∙ ap from_head there ∙ ap (λ b. cond b (unchanged BookmarkSet) (entered header h BookmarkSet (Book (record { name = name; from = from; to = to; caller = told h caller })))) apart
+  allowed_move : unknown ≡ None → option_eq bytes_eq (head h name) from ≡ true → decided ≡ Ok tt → judge header h (SetBookmark caller name from to) ≡ moving
+  allowed_move e there allowed = known_target e ∙ ap from_head there ∙ ap (λ x. x >>= λ _. moving) allowed
+
+  pub judged_same : unknown ≡ None → option_eq bytes_eq (head h name) from ≡ true → decided ≡ Ok tt → option_eq bytes_eq from to ≡ true → judge header h (SetBookmark caller name from to) ≡ unchanged BookmarkSet
+  judged_same e there allowed same = allowed_move e there allowed ∙ ap (λ b. cond b (unchanged BookmarkSet) (entered header h BookmarkSet (Book (record { name = name; from = from; to = to; caller = told h caller })))) same
+
+  pub judged_moving : unknown ≡ None → option_eq bytes_eq (head h name) from ≡ true → decided ≡ Ok tt → option_eq bytes_eq from to ≡ false → judge header h (SetBookmark caller name from to) ≡ entered header h BookmarkSet (Book (record { name = name; from = from; to = to; caller = told h caller }))
+  judged_moving e there allowed apart = allowed_move e there allowed ∙ ap (λ b. cond b (unchanged BookmarkSet) (entered header h BookmarkSet (Book (record { name = name; from = from; to = to; caller = told h caller })))) apart
 
 -- ---- refusals
 

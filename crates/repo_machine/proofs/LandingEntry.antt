@@ -55,8 +55,8 @@ module _ (ks : List model.Known) (es : List Entry) (within : AllByRecursion (IsW
       (within_pushed ks es within (record { who = who; «record» = Land l }) seen same after grows more (subst (λ ks. AllByRecursion (λ n. n < length ks) l.numbers.items) grown fits))
 
 -- they can be added
-pub can_as : (header : Header) (h : List model.Entry) (name : List ℕ) (draft : Id) (moment : ℕ) (l : model.Landing) → IsLandable header h name draft moment l → CanAdd (model.known h) l.new
-can_as header h name draft moment l able =
+pub can_as : (header : Header) (h : List model.Entry) (caller name : List ℕ) (draft : Id) (moment : ℕ) (l : model.Landing) → IsLandable header h caller name draft moment l → CanAdd (model.known h) l.new
+can_as header h caller name draft moment l able =
     subst (CanAdd (model.known h)) (sym able.rewritten) (can_add (model.known h) able.fork_is.stack l.old moment able.old_known (subst (AreAlone (model.known h)) able.rewritten able.alone))
 
 pub outer_rules : (a b c : Bool) → (a && b && c) ≡ true → (a && c) ≡ true
@@ -70,6 +70,7 @@ granted_old none (reply.WholePut x n) = none
 granted_old none (reply.ChangesetPut x) = none
 granted_old none reply.BookmarkSet = none
 granted_old none (reply.Landed old ids) = old
+granted_old none (reply.PolicySet n) = none
 
 abbrev granted_ids : reply.Granted → List Id
 granted_ids (reply.ContentPut x) = []
@@ -77,6 +78,7 @@ granted_ids (reply.WholePut x n) = []
 granted_ids (reply.ChangesetPut x) = []
 granted_ids reply.BookmarkSet = []
 granted_ids (reply.Landed old ids) = ids
+granted_ids (reply.PolicySet n) = []
 
 pub old_landed : (a b : Id) (xs ys : List Id) → reply.Landed a xs ≡ reply.Landed b ys → b ≡ a
 old_landed a b xs ys e = sym (ap (granted_old a) e)

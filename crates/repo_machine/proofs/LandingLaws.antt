@@ -174,7 +174,7 @@ last_id : (cs : List Changeset) → (length cs ≡ 0 → ⊥) → (x : Id) × (o
 last_id [] some = absurd (some refl)
 last_id (c ∷ cs) some = last_some c cs
 
-module _ (header : Header) (h : List Entry) (who : ℕ) (l : Landing) (name : List ℕ) (draft : Id) (moment : ℕ) (able : IsLandable header h name draft moment l) (after : List Entry) (grows : after ≡ h ++ entry_by who (Land l) ∷ []) (legal : IsLegal header after) where
+module _ (header : Header) (h : List Entry) (who : ℕ) (l : Landing) (caller name : List ℕ) (draft : Id) (moment : ℕ) (able : IsLandable header h caller name draft moment l) (after : List Entry) (grows : after ≡ h ++ entry_by who (Land l) ∷ []) (legal : IsLegal header after) where
   last : (x : Id) × (option_map id_of (last_of l.new) ≡ Some x)
   last = last_id l.new (λ none. (let some = able.some in omega arith))
 

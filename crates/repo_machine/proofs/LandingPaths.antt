@@ -1,5 +1,5 @@
 -- The paths of a stack, as the code reads them, against those of the changesets since.
-use Rattle.std.proofs.Common.{◌≡◌, ◌<◌, List, [], length, refl, sym, ap, subst, ◌∙◌, arith}
+use Rattle.std.proofs.Common.{◌≡◌, ◌<◌, List, length, refl, sym, ap, subst, ◌∙◌, arith}
 use Rattle.std.specs.Prelude.{Option, Some, option_map, slice_index_or}
 use Rattle.std.specs.Borrow.{Bor}
 use Rattle.std.proofs.lemmas.List.{length-map}
@@ -11,7 +11,7 @@ use Rattle.path_conflict.specs.Places.{paths_of}
 use Rattle.path_conflict.specs.Best.{IsBest, pair_of}
 use Rattle.path_conflict.specs.declared.lesser.Met.{Met}
 use Rattle.repo_calls.specs.declared.refusal.Refusal.TheVariants as refusals
-use Rattle.repo_machine.specs.Landings.{IsRefusal}
+use Rattle.repo_calls.specs.Refusing.{IsRefusal}
 use Rattle.repo_machine.specs.Clashes.{edited_paths, apart_checked}
 use Rattle.repo_machine.proofs.LandingSteps.{refused_some}
 use Rattle.path_conflict.proofs.Kept.{path_at as at_place}

@@ -11,21 +11,20 @@ use Rattle.history_model.specs.Journal.{Header}
 use Rattle.history_model.specs.Repository.{Repository}
 use Rattle.reply_model.specs.Reply as reply
 use Rattle.reply_model.specs.Reply.{LandDraft, judge, refuse_if, ◌>>=◌}
-use Rattle.reply_model.specs.Opening.{nobody}
 use Rattle.reply_model.proofs.Parents.{grown, brought}
 use Rattle.changeset_store.specs.declared.fork.Fork as store
 use Rattle.changeset_store.specs.Fork.{IsFork, fork_between}
 use Rattle.repo_calls.specs.declared.refusal.Refusal.{Refusal}
-use Rattle.repo_calls.specs.declared.refusal.Refusal.TheVariants as refusals
 use Rattle.bonsai.specs.Making.{KeepOnParents}
 use Rattle.repo_machine.specs.Plans.{IsPlan}
 use Rattle.repo_machine.specs.Indexes.{AreIndexes}
-use Rattle.repo_machine.specs.Landings.{IsRefusal, IsLandingRefusal, forking, lengths_checked, merges_checked, paths_checked}
+use Rattle.repo_calls.specs.Refusing.{IsRefusal}
+use Rattle.repo_machine.specs.Landings.{IsLandingRefusal, forking, lengths_checked, merges_checked, policy_checked, paths_checked}
 use Rattle.changeset_store.proofs.KnownOnce.{is_known-once}
 use Rattle.repo_machine.proofs.Uploading.{known_as}
 use Rattle.repo_machine.proofs.Forks.{no_merges, stack_keeps}
 use Rattle.repo_machine.proofs.Putting.{legal_as}
-use Rattle.repo_machine.proofs.LandingSteps.{is_short, stack_in_line, range_in_line, none_refused, no_bookmark, fork_refused, lengths_refused, paths_refused}
+use Rattle.repo_machine.proofs.LandingSteps.{is_short, stack_in_line, range_in_line, none_refused, fork_refused, lengths_refused, policy_refused, paths_refused}
 use Rattle.reply_model.proofs.Parents.{head_known as from_some}
 
 fork_some_by : (there : Bool) (draft : Id) (found : Option Fork) (f : Fork) → (refuse_if (not there) (reply.NoChangeset draft) >>= λ _. ok_or found reply.NoRoot) ≡ Ok f → found ≡ Some f
@@ -43,7 +42,7 @@ known_by false draft found f e = absurd cc
 fork_known : (ks : List Known) (old draft : Id) (f : Fork) → forking ks old draft ≡ Ok f → is_known ks draft ≡ true
 fork_known ks old draft f e = known_by (is_known ks draft) draft (fork ks old draft) f e
 
-module _ {header : Header} {h : List Entry} {ks : List Known} {heads : List ℕ → Option Id} {lengths : Id → Option ℕ} {size : ℕ} {down : Bool} (k : AreIndexes header h ks heads lengths size down) (r : Repository) (is : ◌≡◌ {A = Repository} (record { header = header; history = h }) r) (up : is_down r.history ≡ false) (name : List ℕ) where
+module _ {header : Header} {h : List Entry} {ks : List Known} {heads : List ℕ → Option Id} {lengths : Id → Option ℕ} {size : ℕ} {down : Bool} (k : AreIndexes header h ks heads lengths size down) (r : Repository) (is : ◌≡◌ {A = Repository} (record { header = header; history = h }) r) (up : is_down r.history ≡ false) (caller name : List ℕ) where
   module _ (old : Id) (at : head r.history name ≡ Some old) where
     pub head_known : is_known ks old ≡ true
     head_known =
@@ -51,19 +50,16 @@ module _ {header : Header} {h : List Entry} {ks : List Known} {heads : List ℕ 
         ∙ from_some (brought h) (head h name) old (ap (λ r. head r.history name) is ∙ at) ((grown header h k.legal).heads name)
 
     module _ (draft : Id) where
-      pub no_head : head r.history name ≡ None → IsLandingRefusal r.header r.history name draft refusals.NoBookmark
-      no_head none moment = no_bookmark r.header r.history nobody name draft moment up none
-
-      pub fork_refused_as : (e : Refusal) → IsRefusal (forking ks old draft) e → IsLandingRefusal r.header r.history name draft e
-      fork_refused_as e refusal moment = fork_refused r.header r.history nobody name draft moment up old at e (subst (λ ks. IsRefusal (forking ks old draft) e) (known_as k r is) refusal)
+      pub fork_refused_as : (e : Refusal) → IsRefusal (forking ks old draft) e → IsLandingRefusal r.header r.history caller name draft e
+      fork_refused_as e refusal moment = fork_refused r.header r.history caller name draft moment up old at e (subst (λ ks. IsRefusal (forking ks old draft) e) (known_as k r is) refusal)
 
       module _ (f : store.Fork) (is_fork : IsFork ks f) (forks : forking ks old draft ≡ Ok (fork_between ks f)) where
         forks_as : forking (known r.history) old draft ≡ Ok (fork_between (known r.history) f)
         forks_as = subst (λ ks. forking ks old draft ≡ Ok (fork_between ks f)) (known_as k r is) forks
 
-        pub lengths_refused_as : (e : Refusal) → IsRefusal (lengths_checked (fork_between ks f)) e → IsLandingRefusal r.header r.history name draft e
+        pub lengths_refused_as : (e : Refusal) → IsRefusal (lengths_checked (fork_between ks f)) e → IsLandingRefusal r.header r.history caller name draft e
         lengths_refused_as e refusal moment =
-            lengths_refused r.header r.history nobody name draft moment up old at (fork_between (known r.history) f) forks_as e (subst (λ ks. IsRefusal (lengths_checked (fork_between ks f)) e) (known_as k r is) refusal)
+            lengths_refused r.header r.history caller name draft moment up old at (fork_between (known r.history) f) forks_as e (subst (λ ks. IsRefusal (lengths_checked (fork_between ks f)) e) (known_as k r is) refusal)
 
         module _ (short : lengths_checked (fork_between ks f) ≡ Ok tt) where
           short_as : lengths_checked (fork_between (known r.history) f) ≡ Ok tt
@@ -72,15 +68,20 @@ module _ {header : Header} {h : List Entry} {ks : List Known} {heads : List ℕ 
           in_line : merges_checked (fork_between (known r.history) f) ≡ Ok tt
           in_line = no_merges r.header r.history (legal_as k r is) f
 
-          pub paths_refused_as : (e : Refusal) → IsRefusal (paths_checked (fork_between ks f)) e → IsLandingRefusal r.header r.history name draft e
-          paths_refused_as e refusal moment =
-              paths_refused r.header r.history nobody name draft moment up old at (fork_between (known r.history) f) forks_as short_as in_line e (subst (λ ks. IsRefusal (paths_checked (fork_between ks f)) e) (known_as k r is) refusal)
+          pub policy_refused_as : (e : Refusal) → IsRefusal (policy_checked r.history caller (fork_between ks f)) e → IsLandingRefusal r.header r.history caller name draft e
+          policy_refused_as e refusal moment =
+              policy_refused r.header r.history caller name draft moment up old at (fork_between (known r.history) f) forks_as short_as in_line e (subst (λ ks. IsRefusal (policy_checked r.history caller (fork_between ks f)) e) (known_as k r is) refusal)
 
-          pub planned : (name' : List ℕ) → name' ≡ name → (stack : List Changeset) → stack ≡ (fork_between ks f).stack → (touched : List Path) → touched ≡ touched_paths (fork_between ks f).stack → paths_checked (fork_between ks f) ≡ Ok tt → IsPlan r.history name draft (record { name = name'; draft = draft; old = old; stack = stack; touched = touched })
-          planned name' named stack stack_is touched touched_is apart =
+          pub paths_refused_as : policy_checked r.history caller (fork_between ks f) ≡ Ok tt → (e : Refusal) → IsRefusal (paths_checked (fork_between ks f)) e → IsLandingRefusal r.header r.history caller name draft e
+          paths_refused_as allowed e refusal moment =
+              paths_refused r.header r.history caller name draft moment up old at (fork_between (known r.history) f) forks_as short_as in_line (subst (λ ks. policy_checked r.history caller (fork_between ks f) ≡ Ok tt) (known_as k r is) allowed) e (subst (λ ks. IsRefusal (paths_checked (fork_between ks f)) e) (known_as k r is) refusal)
+
+          pub planned : (caller' : List ℕ) → caller' ≡ caller → (name' : List ℕ) → name' ≡ name → (stack : List Changeset) → stack ≡ (fork_between ks f).stack → (touched : List Path) → touched ≡ touched_paths (fork_between ks f).stack → paths_checked (fork_between ks f) ≡ Ok tt → IsPlan r.history caller name draft (record { caller = caller'; name = name'; draft = draft; old = old; stack = stack; touched = touched })
+          planned caller' calling name' named stack stack_is touched touched_is apart =
               let apart_as = subst (λ ks. paths_checked (fork_between ks f) ≡ Ok tt) (known_as k r is) apart in
               let lengths = is_short (fork_between (known r.history) f) short_as in
               record {
+                callers = calling;
                 names = named;
                 drafts = refl;
                 head_is = at;

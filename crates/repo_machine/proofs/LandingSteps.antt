@@ -12,13 +12,13 @@ use Rattle.history_model.specs.Bookmark.{head}
 use Rattle.history_model.specs.Pushrebase.{Fork, fork, rewrite, moment_of}
 use Rattle.history_model.specs.Journal.{Header, payload_len, most_payload}
 use Rattle.reply_model.specs.Reply as reply
-use Rattle.reply_model.specs.Reply.{◌>>=◌, refuse_if, refuse_some, most_range, most_stack, is_merge, told, first_collision, LandDraft, Judged, judge, entered, enter_landing, land}
+use Rattle.reply_model.specs.Reply.{◌>>=◌, refuse_if, refuse_some, most_range, most_stack, is_merge, told, denial, denied_at, first_collision, LandDraft, Judged, judge, entered, enter_landing, land}
 use Rattle.reply_model.specs.After.{Refuses}
 use Rattle.repo_calls.specs.Calls.{refused}
 use Rattle.repo_calls.specs.declared.refusal.Refusal.{Refusal}
 use Rattle.repo_calls.specs.declared.refusal.Refusal.TheVariants as refusals
-use Rattle.reply_model.specs.Opening.{nobody}
-use Rattle.repo_machine.specs.Landings.{IsRefusal, IsLandingRefusal, Checked, forking, lengths_checked, merges_checked, paths_checked, payload_checked, collisions_checked}
+use Rattle.repo_calls.specs.Refusing.{IsRefusal}
+use Rattle.repo_machine.specs.Landings.{IsLandingRefusal, Checked, forking, lengths_checked, merges_checked, policy_checked, paths_checked, payload_checked, collisions_checked}
 use Rattle.repo_machine.proofs.Judging.{judged_up, refused_down}
 
 -- ---- lengths
@@ -164,8 +164,11 @@ module _ (header : Header) (h : List Entry) (caller name : List ℕ) (draft : Id
   abbrev after_paths : Id → Fork → Result Judged reply.Refusal
   after_paths old f = enter_landing header h (told h caller) name old draft (rewrite f.stack old moment) (moment_of f.stack moment)
 
+  abbrev after_policy : Id → Fork → Result Judged reply.Refusal
+  after_policy old f = paths_checked f >>= λ _. after_paths old f
+
   abbrev after_merges : Id → Fork → Result Judged reply.Refusal
-  after_merges old f = paths_checked f >>= λ _. after_paths old f
+  after_merges old f = policy_checked h caller f >>= λ _. after_policy old f
 
   abbrev after_lengths : Id → Fork → Result Judged reply.Refusal
   after_lengths old f = merges_checked f >>= λ _. after_merges old f
@@ -209,16 +212,20 @@ module _ (header : Header) (h : List Entry) (caller name : List ℕ) (draft : Id
         judged_merges : judge header h ask ≡ after_merges old f
         judged_merges = judged_fork ∙ ap (λ x. x >>= λ _. after_lengths old f) short ∙ ap (λ x. x >>= λ _. after_merges old f) in_line
 
-        pub paths_refused : (refusal : Refusal) → IsRefusal (paths_checked f) refusal → IsRefusal (judge header h ask) refusal
-        paths_refused refusal (inl memory) = inl memory
-        paths_refused refusal (inr (r, is, same)) = inr (r, judged_merges ∙ ap (λ x. x >>= λ _. after_paths old f) is, same)
+        pub policy_refused : (refusal : Refusal) → IsRefusal (policy_checked h caller f) refusal → IsRefusal (judge header h ask) refusal
+        policy_refused refusal (inl memory) = inl memory
+        policy_refused refusal (inr (r, is, same)) = inr (r, judged_merges ∙ ap (λ x. x >>= λ _. after_policy old f) is, same)
 
-        pub judged_planned : paths_checked f ≡ Ok tt → judge header h ask ≡ enter_landing header h (told h caller) name old draft (rewrite f.stack old moment) (moment_of f.stack moment)
-        judged_planned apart = judged_merges ∙ ap (λ x. x >>= λ _. after_paths old f) apart
+        pub paths_refused : policy_checked h caller f ≡ Ok tt → (refusal : Refusal) → IsRefusal (paths_checked f) refusal → IsRefusal (judge header h ask) refusal
+        paths_refused allowed refusal (inl memory) = inl memory
+        paths_refused allowed refusal (inr (r, is, same)) = inr (r, judged_merges ∙ ap (λ x. x >>= λ _. after_policy old f) allowed ∙ ap (λ x. x >>= λ _. after_paths old f) is, same)
+
+        pub judged_planned : paths_checked f ≡ Ok tt → judge header h ask ≡ (policy_checked h caller f >>= λ _. enter_landing header h (told h caller) name old draft (rewrite f.stack old moment) (moment_of f.stack moment))
+        judged_planned apart = judged_merges ∙ ap (λ x. policy_checked h caller f >>= λ _. (x >>= λ _. after_paths old f)) apart
 
 -- after a breaking fault
-pub down_as : (header : Header) (h : List Entry) (name : List ℕ) (draft : Id) (e : Refusal) → (e ≡ refusals.Down) × (is_down h ≡ true) → IsLandingRefusal header h name draft e
-down_as header h name draft e down moment = subst (IsRefusal (judge header h (LandDraft nobody name draft moment))) (sym down.0) (refused_down header h (LandDraft nobody name draft moment) down.1)
+pub down_as : (header : Header) (h : List Entry) (caller name : List ℕ) (draft : Id) (e : Refusal) → (e ≡ refusals.Down) × (is_down h ≡ true) → IsLandingRefusal header h caller name draft e
+down_as header h caller name draft e down moment = subst (IsRefusal (judge header h (LandDraft caller name draft moment))) (sym down.0) (refused_down header h (LandDraft caller name draft moment) down.1)
 
 -- entering it
 module _ (header : Header) (h : List Entry) (ask : reply.Ask) (landing : model.Landing) (judged : judge header h ask ≡ enter_landing header h landing.caller landing.name landing.old landing.draft landing.new landing.moment) where

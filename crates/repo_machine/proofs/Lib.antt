@@ -1,6 +1,12 @@
 pub mod Within
 pub mod Growing
 pub mod Judging
+pub mod Deciding
+pub mod HeldPolicy
+pub mod Framing
+pub mod Policing
+pub mod Asking
+pub mod Parts
 pub mod Entered
 pub mod Putting
 pub mod Moving

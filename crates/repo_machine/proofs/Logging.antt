@@ -13,7 +13,7 @@ use Rattle.history_model.specs.Repository.{Repository}
 use Rattle.reply_model.specs.Log.{LogLine, lines_of, log_lines}
 use Rattle.changeset_store.specs.Store.{changeset_at}
 use Rattle.repo_machine.specs.declared.records.Record.{Record}
-use Rattle.repo_machine.specs.declared.records.Record.TheVariants.{Content, Change, Book, Land, Fault}
+use Rattle.repo_machine.specs.declared.records.Record.TheVariants.{Content, Change, Book, Land, Policy, Fault}
 use Rattle.repo_machine.specs.declared.records.Entry.{Entry}
 use Rattle.repo_calls.specs.declared.log.LogEntry.{LogEntry}
 use Rattle.repo_calls.specs.Calls.{line_seen, lines_seen}
@@ -97,13 +97,14 @@ is_stored-record ks (Content id n) = refl
 is_stored-record ks (Change number) = refl
 is_stored-record ks (Book movement) = refl
 is_stored-record ks (Land landing) = refl
+is_stored-record ks (Policy caller text) = refl
 is_stored-record ks (Fault breaking) = refl
 
 bodies_by : (ks : List Known) (e : Entry) (es : List Entry) (b : Bool) (bs : List model.Body) → bs ≡ map (λ e. body_of ks e.record) (filter is_kept es) → cond b (body_of ks e.record ∷ bs) bs ≡ map (λ e. body_of ks e.record) (cond b (e ∷ filter is_kept es) (filter is_kept es))
 bodies_by ks e es true bs ih = ap (λ bs. body_of ks e.record ∷ bs) ih
 bodies_by ks e es false bs ih = ih
 
-bodies-history : (ks : List Known) (es : List Entry) → bodies (history_of ks es) ≡ map (λ e. body_of ks e.record) (filter is_kept es)
+pub bodies-history : (ks : List Known) (es : List Entry) → bodies (history_of ks es) ≡ map (λ e. body_of ks e.record) (filter is_kept es)
 bodies-history ks [] = refl
 bodies-history ks (e ∷ es) =
     ap (λ b. cond b (body_of ks e.record ∷ bodies (history_of ks es)) (bodies (history_of ks es))) (is_stored-record ks e.record)
@@ -121,6 +122,7 @@ line_by ks count (Content id n) kept later lines ih = ap (λ l. record_line ks (
 line_by ks count (Change number) kept later lines ih = ap (λ l. record_line ks (Change number) ∷ l) ih
 line_by ks count (Book movement) kept later lines ih = ap (λ l. record_line ks (Book movement) ∷ l) ih
 line_by ks count (Land landing) kept later lines ih = ap (λ l. record_line ks (Land landing) ∷ l) ih
+line_by ks count (Policy caller text) kept later lines ih = ap (λ l. record_line ks (Policy caller text) ∷ l) ih
 line_by ks count (Fault breaking) kept later lines ih = absurd kept
 
 lines_of-kept : (ks : List Known) (count : ℕ) (es : List Entry) (ns : List ℕ) → AllByRecursion (IsKeptAt count es) ns → lines_of (map (stored_of ks) (map (entry_at es) ns)) ≡ map (line_at ks es) ns
@@ -134,6 +136,7 @@ kept_record count (Content id n) kept within = tt
 kept_record count (Change number) kept within = within
 kept_record count (Book movement) kept within = tt
 kept_record count (Land landing) kept within = within
+kept_record count (Policy caller text) kept within = tt
 kept_record count (Fault breaking) kept within = absurd (cc)
 
 all_by : (count : ℕ) (before : List Entry) (e : Entry) (es : List Entry) (b : Bool) → is_kept e ≡ b → IsWithin count e → (later : List ℕ) → AllByRecursion (IsKeptAt count (before ++ e ∷ es)) later → AllByRecursion (IsKeptAt count (before ++ e ∷ es)) (cond b (length before ∷ later) later)
@@ -171,6 +174,10 @@ module _ (ks : List Known) (es : List Entry) (kept : List ℕ) (are : kept ≡ k
 
   pub total_is : length kept ≡ length (stored r.history)
   total_is = sym (ap length stored_as ∙ length-map (map (entry_at es) kept) (stored_of ks) ∙ length-map kept (entry_at es))
+
+-- as many places are kept as entries are stored
+pub count_is : (ks : List Known) (es : List Entry) (kept : List ℕ) → kept ≡ kept_from 0 es → (n : ℕ) → n ≡ length kept → n ≡ length (stored (history_of ks es))
+count_is ks es kept are n is = is ∙ sym (ap length (stored-history ks es) ∙ length-map (filter is_kept es) (stored_of ks) ∙ ap length (sym (ap (map (entry_at es)) are ∙ kept_are es)) ∙ length-map kept (entry_at es))
 
 -- a page tells as many entries as it has
 pub same_count : (ks : List Known) (es : List Entry) (lines : List LogEntry) (page : List ℕ) → lines_seen lines ≡ map (line_at ks es) page → length lines ≡ length page

@@ -13,7 +13,7 @@ use Rattle.bonsai.specs.Decodes.{Refuses}
 use Rattle.reply_model.specs.Reply.{Ask, judge, PutContent, PutChangeset, TooLong, BadEncoding, SelfConflict}
 use Rattle.repo_calls.specs.declared.refusal.Refusal as refusal
 use Rattle.repo_calls.specs.declared.refusal.Refusal.TheVariants as refusals
-use Rattle.repo_machine.specs.Landings.{IsRefusal}
+use Rattle.repo_calls.specs.Refusing.{IsRefusal}
 use Rattle.sha2.specs.Sha256.{sha256}
 use Rattle.repo_machine.specs.Judged.{Frames}
 use Rattle.repo_machine.specs.Faults.{fault_refusal}

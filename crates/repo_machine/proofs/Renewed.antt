@@ -99,11 +99,11 @@ module _ (left xs ys : List Path) (rises : IsRising left) (none : clash left (ri
 pub was_known : (g h : List Entry) (x : Id) → IsPrefix g h → is_known (known g) x ≡ true → is_known (known h) x ≡ true
 was_known g h x begins there = subst (λ h. is_known (known h) x ≡ true) begins.1 (known_grows g begins.0 x there)
 
-pub was_plan : (g h : List Entry) (name : List ℕ) (draft : Id) (plan : PlannedLanding) → IsPrefix g h → IsPlan g name draft plan → WasPlan h plan
-was_plan g h name draft plan begins p = record {
+pub was_plan : (g h : List Entry) (caller name : List ℕ) (draft : Id) (plan : PlannedLanding) → IsPrefix g h → IsPlan g caller name draft plan → WasPlan h plan
+was_plan g h caller name draft plan begins p = record {
   then = g;
   begins = begins;
-  planned = subst (λ n. IsPlan g n plan.draft plan) (sym p.names) (subst (λ d. IsPlan g name d plan) (sym p.drafts) p);
+  planned = subst (λ c. IsPlan g c plan.name plan.draft plan) (sym p.callers) (subst (λ n. IsPlan g caller n plan.draft plan) (sym p.names) (subst (λ d. IsPlan g caller name d plan) (sym p.drafts) p));
 }
 
 pub was_plan_later : (g h : List Entry) (plan : PlannedLanding) → IsPrefix g h → WasPlan g plan → WasPlan h plan

@@ -18,7 +18,7 @@ use Rattle.bonsai.specs.Decodes.{Refuses}
 use Rattle.reply_model.specs.Reply.{Ask, PutChangeset, ChangesetPut, Refusal, Judged, Merge, NoParent, Unresolved, unresolved_of, Collision, TooLong, BadEncoding, SelfConflict, judge, entered, unchanged, accepted, refuse_if, refuse_some, content_refusal, collides, ◌>>=◌}
 use Rattle.repo_calls.specs.declared.refusal.Refusal as refusal
 use Rattle.repo_calls.specs.declared.refusal.Refusal.TheVariants as refusals
-use Rattle.repo_machine.specs.Landings.{IsRefusal}
+use Rattle.repo_calls.specs.Refusing.{IsRefusal}
 use Rattle.repo_machine.specs.Faults.{fault_refusal}
 use Rattle.repo_machine.specs.Indexes.{AreIndexes}
 use Rattle.repo_machine.specs.Checking.{IsFound, parents_refusal, edit_refusal, contents_refusal, collision_refusal}

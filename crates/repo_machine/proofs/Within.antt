@@ -8,7 +8,7 @@ use Rattle.changeset_model.specs.Changeset.{Changeset}
 use Rattle.changeset_store.specs.Store.{changeset_at}
 use Rattle.changeset_store.proofs.Places.{changeset_at-append, changeset_at-last}
 use Rattle.repo_machine.specs.declared.records.Record.{Record}
-use Rattle.repo_machine.specs.declared.records.Record.TheVariants.{Content, Change, Book, Land, Fault}
+use Rattle.repo_machine.specs.declared.records.Record.TheVariants.{Content, Change, Book, Land, Policy, Fault}
 use Rattle.repo_machine.specs.declared.records.Entry.{Entry}
 use Rattle.repo_machine.specs.Records.{body_of, entry_of, history_of, RecordWithin, IsWithin}
 
@@ -20,6 +20,7 @@ body_of-append : (ks more : List model.Known) (r : Record) → RecordWithin (len
 body_of-append ks more (Content id n) within = refl
 body_of-append ks more (Change number) within = ap model.Change (changeset_at-append ks more number within)
 body_of-append ks more (Book movement) within = refl
+body_of-append ks more (Policy caller text) within = refl
 body_of-append ks more (Fault breaking) within = refl
 body_of-append ks more (Land l) within = ap (λ new. model.Land (record { name = l.name; old = l.old; draft = l.draft; new = new; moment = l.moment; caller = l.caller })) (changesets_at-append ks more l.numbers.items within)
 
@@ -32,6 +33,7 @@ record_stays : (n m : ℕ) → n ≤ m → (r : Record) → RecordWithin n r →
 record_stays n m more (Content id length) within = tt
 record_stays n m more (Change number) within = omega arith
 record_stays n m more (Book movement) within = tt
+record_stays n m more (Policy caller text) within = tt
 record_stays n m more (Fault breaking) within = tt
 record_stays n m more (Land landing) within = weaker (λ k. k < n) (λ k. k < m) (λ k below. omega arith) landing.numbers.items within
 

@@ -19,7 +19,7 @@ use Rattle.repo_machine.specs.Plans.{PlannedLanding, IsPlan}
 pub record WasPlan (h : List Entry) (plan : PlannedLanding) : Type 0 where
   pub then : List Entry
   pub begins : IsPrefix then h
-  pub planned : IsPlan then plan.name plan.draft plan
+  pub planned : IsPlan then plan.caller plan.name plan.draft plan
 
 abbrev pub since : List Known → Id → Id → List Changeset
 since ks old new = changesets (after_first (λ k. bytes_eq k.id old) (chain ks new))

@@ -10,7 +10,7 @@ use Rattle.changeset_model.specs.Codes.{coded_id}
 use Rattle.history_model.specs.Codes.{coded_body}
 use Rattle.history_model.specs.History.{Body, Entry}
 use Rattle.history_model.specs.Journal.{Header, IsPayload, framed}
-use Rattle.reply_model.specs.Reply.{Ask, is_ask, Granted, ContentPut, WholePut, ChangesetPut, BookmarkSet, Landed, judge}
+use Rattle.reply_model.specs.Reply.{Ask, is_ask, Granted, ContentPut, WholePut, ChangesetPut, BookmarkSet, Landed, PolicySet, judge}
 
 pub record JudgedChange : Type 0 where
   pub who : ℕ
@@ -30,21 +30,23 @@ pub record IsJudged (header : Header) (h : List Entry) (ask : Ask) (judged : Jud
 -- ---- as pairs and sums
 
 abbrev pub GrantedParts : Type 0
-GrantedParts = (Id ⊎ Id) ⊎ (Bool ⊎ ((Id × List Id) ⊎ (Id × ℕ)))
+GrantedParts = (Id ⊎ Id) ⊎ (Bool ⊎ ((Id × List Id) ⊎ ((Id × ℕ) ⊎ ℕ)))
 
 abbrev pub parts_of : Granted → GrantedParts
 parts_of (ContentPut id) = inl (inl id)
 parts_of (ChangesetPut id) = inl (inr id)
 parts_of BookmarkSet = inr (inl true)
 parts_of (Landed old ids) = inr (inr (inl (old, ids)))
-parts_of (WholePut id size) = inr (inr (inr (id, size)))
+parts_of (WholePut id size) = inr (inr (inr (inl (id, size))))
+parts_of (PolicySet number) = inr (inr (inr (inr number)))
 
 abbrev pub granted_of : GrantedParts → Granted
 granted_of (inl (inl id)) = ContentPut id
 granted_of (inl (inr id)) = ChangesetPut id
 granted_of (inr (inl b)) = BookmarkSet
 granted_of (inr (inr (inl t))) = Landed t.0 t.1
-granted_of (inr (inr (inr t))) = WholePut t.0 t.1
+granted_of (inr (inr (inr (inl t)))) = WholePut t.0 t.1
+granted_of (inr (inr (inr (inr number)))) = PolicySet number
 
 pub granted_of-parts_of : (g : Granted) → granted_of (parts_of g) ≡ g
 granted_of-parts_of (ContentPut id) = refl
@@ -52,9 +54,10 @@ granted_of-parts_of (ChangesetPut id) = refl
 granted_of-parts_of BookmarkSet = refl
 granted_of-parts_of (Landed old ids) = refl
 granted_of-parts_of (WholePut id size) = refl
+granted_of-parts_of (PolicySet number) = refl
 
 abbrev pub coded_granted : Coded Granted
-coded_granted = code_by GrantedParts (coded⊎ (coded⊎ coded_id coded_id) (coded⊎ coded_bool (coded⊎ (coded× coded_id (coded_list coded_id)) (coded× coded_id coded_ℕ)))) parts_of granted_of granted_of-parts_of
+coded_granted = code_by GrantedParts (coded⊎ (coded⊎ coded_id coded_id) (coded⊎ coded_bool (coded⊎ (coded× coded_id (coded_list coded_id)) (coded⊎ (coded× coded_id coded_ℕ) coded_ℕ)))) parts_of granted_of granted_of-parts_of
 
 abbrev pub coded_judged : Coded JudgedChange
 coded_judged =

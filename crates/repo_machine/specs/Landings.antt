@@ -1,11 +1,9 @@
 -- Landings.
---     IsRefusal wanted e      the machine's refusal is the one that the definitions have, or want of memory
---     IsLandingRefusal header h name draft e      so it is of a landing, at any moment
---     Steps view wanted result      what a step gives is what it gives in the definitions, or memory ran out
---     forking, lengths_checked, merges_checked, paths_checked, payload_checked, collisions_checked      the steps of `land`
---     IsLandable header h name draft moment landing      the landing is to be entered, if there is room;  IsLanded header h name draft moment judged      it is judged to be
+--     IsLandingRefusal header h caller name draft e      so it is of a landing, at any moment
+--     forking, lengths_checked, merges_checked, policy_checked, paths_checked, payload_checked, collisions_checked      the steps of `land`
+--     IsLandable header h caller name draft moment landing      the landing is to be entered, if there is room;  IsLanded header h caller name draft moment judged      it is judged to be
 --     IsLanding before after old draft ids      the trees after a landing
-use Rattle.std.specs.Prelude.{◌≡◌, ◌≤◌, ◌<◌, ◌==◌, ◌⊎◌, ℕ, true, not, nat_lt, cond, List, length, map, find, Contains, None, Some, option_map, ok_or, Result, Ok, Err}
+use Rattle.std.specs.Prelude.{◌≡◌, ◌≤◌, ◌<◌, ◌==◌, ℕ, true, not, nat_lt, cond, List, length, map, find, Contains, None, Some, option_map, ok_or, Result}
 use Rattle.std.specs.List.{list_any}
 use Rattle.byte_fields.specs.Bytes.{Id, last_of}
 use Rattle.changeset_model.specs.Path.{Path}
@@ -19,26 +17,16 @@ use Rattle.history_model.specs.Pushrebase.{fork, clash, rewrite, moment_of}
 use Rattle.history_model.specs.Pushrebase as pushrebase
 use Rattle.history_model.specs.Journal.{Header, payload_len, most_payload}
 use Rattle.reply_model.specs.Reply as reply
-use Rattle.reply_model.specs.Reply.{◌>>=◌, refuse_if, refuse_some, most_range, most_stack, is_merge, first_collision, LandDraft, judge, entered}
-use Rattle.reply_model.specs.Opening.{nobody}
-use Rattle.reply_model.specs.After.{Refuses}
+use Rattle.reply_model.specs.Reply.{◌>>=◌, refuse_if, refuse_some, most_range, most_stack, is_merge, first_collision, told, denied_at, LandDraft, judge, entered}
 use Rattle.changeset_store.specs.Grown.{AreAlone}
 use Rattle.repo_calls.specs.declared.refusal.Refusal.{Refusal}
-use Rattle.repo_calls.specs.declared.refusal.Refusal.TheVariants.{Memory}
-use Rattle.repo_calls.specs.Calls.{refused}
+use Rattle.repo_calls.specs.Refusing.{IsRefusal}
 use Rattle.repo_machine.specs.Judged.{JudgedChange}
 
 -- ---- steps
 
-abbrev pub IsRefusal : {Y : Type 0} → Result Y reply.Refusal → Refusal → Type 0
-IsRefusal wanted e = (e ≡ Memory) ⊎ ((r : reply.Refusal) × (wanted ≡ Err r) × (refused e ≡ Refuses r))
-
-abbrev pub IsLandingRefusal : Header → List Entry → List ℕ → Id → Refusal → Type 0
-IsLandingRefusal header h name draft e = (moment : ℕ) → IsRefusal (judge header h (LandDraft nobody name draft moment)) e
-
-abbrev pub Steps : {X Y : Type 0} → (X → Y) → Result Y reply.Refusal → Result X Refusal → Type 0
-Steps view wanted (Ok x) = wanted ≡ Ok (view x)
-Steps view wanted (Err e) = IsRefusal wanted e
+abbrev pub IsLandingRefusal : Header → List Entry → (caller name : List ℕ) → Id → Refusal → Type 0
+IsLandingRefusal header h caller name draft e = (moment : ℕ) → IsRefusal (judge header h (LandDraft caller name draft moment)) e
 
 abbrev pub Checked : Type 0
 Checked = Result (Unit {0}) reply.Refusal
@@ -59,6 +47,9 @@ merges_checked f = do
   _ ← refuse_some (option_map id_of (find is_merge f.stack)) reply.MergeInStack
   refuse_some (option_map id_of (find is_merge f.range)) reply.MergeInRange
 
+abbrev pub policy_checked : List Entry → List ℕ → pushrebase.Fork → Checked
+policy_checked h caller f = refuse_some (denied_at h caller (touched_paths f.stack)) reply.denial
+
 abbrev pub paths_checked : pushrebase.Fork → Checked
 paths_checked f = refuse_some (clash (touched_paths f.stack) (touched_paths f.range)) (λ pair. reply.Clash pair.0 pair.1)
 
@@ -70,7 +61,7 @@ collisions_checked ks new = refuse_some (first_collision ks new) reply.Collision
 
 -- ---- a landing
 
-pub record IsLandable (header : Header) (h : List Entry) (name : List ℕ) (draft : Id) (moment : ℕ) (landing : model.Landing) : Type 0 where
+pub record IsLandable (header : Header) (h : List Entry) (caller name : List ℕ) (draft : Id) (moment : ℕ) (landing : model.Landing) : Type 0 where
   pub names : landing.name ≡ name
   pub drafts : landing.draft ≡ draft
   pub head_is : head h name ≡ Some landing.old
@@ -79,16 +70,17 @@ pub record IsLandable (header : Header) (h : List Entry) (name : List ℕ) (draf
   pub forks : fork (known h) landing.old draft ≡ Some fork_is
   pub rewritten : landing.new ≡ rewrite fork_is.stack landing.old moment
   pub dated : landing.moment ≡ moment_of fork_is.stack moment
-  pub untold : landing.caller ≡ None
+  pub told_is : landing.caller ≡ told h caller
   pub some : 0 < length landing.new
   pub few : length landing.new ≤ most_stack
+  pub allowed : denied_at h caller (touched_paths fork_is.stack) ≡ None
   pub apart : clash (touched_paths fork_is.stack) (touched_paths fork_is.range) ≡ None
   pub alone : AreAlone (known h) landing.new
-  pub judged : judge header h (LandDraft nobody name draft moment) ≡ entered header h (reply.Landed landing.old (map id_of landing.new)) (Land landing)
+  pub judged : judge header h (LandDraft caller name draft moment) ≡ entered header h (reply.Landed landing.old (map id_of landing.new)) (Land landing)
 
-pub record IsLanded (header : Header) (h : List Entry) (name : List ℕ) (draft : Id) (moment : ℕ) (judged : JudgedChange) : Type 0 where
+pub record IsLanded (header : Header) (h : List Entry) (caller name : List ℕ) (draft : Id) (moment : ℕ) (judged : JudgedChange) : Type 0 where
   pub landing : model.Landing
-  pub able : IsLandable header h name draft moment landing
+  pub able : IsLandable header h caller name draft moment landing
   pub made_is : judged.made ≡ Some (Land landing)
   pub granted_is : judged.granted ≡ reply.Landed landing.old (map id_of landing.new)
 

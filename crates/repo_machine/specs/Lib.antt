@@ -17,3 +17,5 @@ pub mod Seats
 pub mod Clashes
 pub mod Again
 pub mod Prepared
+pub mod Asked
+pub mod Policies

@@ -2,15 +2,15 @@
 --     record_line ks record      where these changesets are the known ones. A fault has no line
 --     entry_at es n, line_at ks es n      the entry at a place, and what is told of it
 --     KeptWithin count record, IsKeptAt count es n      it is stored, and each changeset that it names has a number below this
-use Rattle.std.specs.Prelude.{ℕ, ◌<◌, false, List, [], map, length, get_or}
+use Rattle.std.specs.Prelude.{ℕ, ◌<◌, ◌==◌, false, List, [], map, length, count_by, get_or}
 use Rattle.std.specs.List.{AllByRecursion}
 use Rattle.changeset_model.specs.Changeset.{id_of}
 use Rattle.history_model.specs.History.{Known}
-use Rattle.reply_model.specs.Log.{LogLine, ContentLine, ChangesetLine, BookmarkLine, LandingLine}
+use Rattle.reply_model.specs.Log.{LogLine, ContentLine, ChangesetLine, BookmarkLine, LandingLine, PolicyLine}
 use Rattle.repo_events.specs.Entries.{move_of}
 use Rattle.changeset_store.specs.Store.{changeset_at}
 use Rattle.repo_machine.specs.declared.records.Record.{Record}
-use Rattle.repo_machine.specs.declared.records.Record.TheVariants.{Content, Change, Book, Land, Fault}
+use Rattle.repo_machine.specs.declared.records.Record.TheVariants.{Content, Change, Book, Land, Policy, Fault}
 use Rattle.repo_machine.specs.declared.records.Entry.{Entry}
 
 abbrev pub record_line : List Known → Record → LogLine
@@ -18,6 +18,7 @@ record_line ks (Content id length) = ContentLine id length
 record_line ks (Change number) = ChangesetLine (id_of (changeset_at ks number))
 record_line ks (Book movement) = BookmarkLine (move_of movement)
 record_line ks (Land landing) = LandingLine landing.caller landing.name landing.old landing.draft landing.moment (map id_of (map (changeset_at ks) landing.numbers.items))
+record_line ks (Policy caller text) = PolicyLine caller (count_by (λ b. b == 0x0A) text.items)
 -- none is asked for
 record_line ks (Fault breaking) = ContentLine [] 0
 
@@ -32,6 +33,7 @@ KeptWithin count (Content id length) = Unit {0}
 KeptWithin count (Change number) = number < count
 KeptWithin count (Book movement) = Unit {0}
 KeptWithin count (Land landing) = AllByRecursion (λ n. n < count) landing.numbers.items
+KeptWithin count (Policy caller text) = Unit {0}
 KeptWithin count (Fault breaking) = ⊥
 
 abbrev pub IsKeptAt : ℕ → List Entry → ℕ → Type 0

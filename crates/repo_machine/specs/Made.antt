@@ -1,14 +1,15 @@
 -- What a change makes, as an entry of the definitions.
 --     made_of made      the entry's body
---     IsReady made      there is memory for the numbers of a landing's changesets
-use Rattle.std.specs.Prelude.{◌≡◌, ◌≤◌, [], length, vec_capacity, Option, None, Some}
+--     IsReady made      there is memory for the numbers of a landing's changesets, and a policy was read
+use Rattle.std.specs.Prelude.{◌≡◌, ◌≤◌, [], length, vec_capacity, Option, None, Some, Ok}
 use Rattle.std.specs.Arc.{arc_value}
 use Rattle.history_model.specs.History as model
+use Rattle.policy_model.specs.Grammar.{parse}
 use Rattle.repo_events.specs.Entries.{move_of}
 use Rattle.changeset_store.specs.Shared.{values}
 use Rattle.repo_machine.specs.declared.judged.LandMade.{LandMade}
 use Rattle.repo_machine.specs.declared.judged.Made.{Made}
-use Rattle.repo_machine.specs.declared.judged.Made.TheVariants.{Content, Change, Book, Land}
+use Rattle.repo_machine.specs.declared.judged.Made.TheVariants.{Content, Change, Book, Land, Policy}
 
 abbrev pub landing_made : LandMade → model.Landing
 landing_made l = record { name = l.name; old = l.old; draft = l.draft; new = values l.new.items; moment = l.moment; caller = l.caller }
@@ -18,6 +19,7 @@ made_of (Content id length) = model.Content id length
 made_of (Change commit) = model.Change (arc_value commit)
 made_of (Book movement) = model.Book (move_of movement)
 made_of (Land landing) = model.Land (landing_made landing)
+made_of (Policy caller text rules) = model.Policy caller text.items
 
 abbrev pub HasNumbers : LandMade → Type 0
 HasNumbers l = (l.numbers.items ≡ []) × (length l.new.items ≤ vec_capacity l.numbers)
@@ -27,6 +29,8 @@ IsMadeReady (Content id length) = Unit {0}
 IsMadeReady (Change commit) = Unit {0}
 IsMadeReady (Book movement) = Unit {0}
 IsMadeReady (Land landing) = HasNumbers landing
+-- the rules are those of the text
+IsMadeReady (Policy caller text rules) = parse text.items ≡ Ok rules
 
 abbrev pub IsReady : Option Made → Type 0
 IsReady None = Unit {0}

@@ -1,8 +1,9 @@
 -- Changes that are made ready where no machine is at hand.
 --     IsRefusedAs ask e      it is refused so at each history at which no disk has failed
 --     IsReadyContent bytes id frame, IsReadyChangeset c frame      an upload that may be judged, with its record
---     IsReadyTo ask ready      this is ready of the change
---     asked_by p      the change;  IsPrepared p      what it has is ready of its change;  IsPreparedFor ask p      so it is, and this is the change
+--     IsReadyAsk ask ready      this is ready of the change;  IsReadyTo call ready      and of the call that is one
+--     IsReadyToJoin body ready      contents that are to be joined are refused so at each history at which no disk has failed
+--     asked_by p      the call that is the change;  IsPrepared p      what it has is ready of it;  IsPreparedFor call p      so it is, and this is the change
 use Rattle.std.specs.Prelude.{◌≡◌, ◌≤◌, ℕ, true, false, List, length, Some, Ok, Err}
 use Rattle.std.specs.Arc.{arc_value}
 use Rattle.sha2.specs.Sha256.{sha256}
@@ -12,13 +13,15 @@ use Rattle.changeset_model.specs.Decoding.{decoded}
 use Rattle.history_model.specs.History.{Content, Change, Entry, is_down}
 use Rattle.history_model.specs.Journal.{Header}
 use Rattle.reply_model.specs.Reply as reply
-use Rattle.reply_model.specs.Reply.{Ask, judge}
-use Rattle.reply_model.specs.After.{Refuses}
-use Rattle.repo_calls.specs.Calls.{ask_seen, refused}
+use Rattle.reply_model.specs.Reply.{Ask, parts_of, judge}
+use Rattle.reply_model.specs.After.{Refuses, Call, Asks, Joins, Looks, Derives}
+use Rattle.repo_calls.specs.Calls.{call_seen, refused}
 use Rattle.repo_calls.specs.declared.refusal.Refusal as refusals
 use Rattle.repo_machine.specs.declared.prepared.Prepared.{Prepared}
 use Rattle.repo_machine.specs.declared.prepared.Ready.{Ready}
 use Rattle.repo_machine.specs.declared.prepared.Ready.TheVariants as ready
+use Rattle.repo_machine.specs.declared.policies.ReadText.{ReadText}
+use Rattle.repo_machine.specs.Policies.{IsReadOf}
 use Rattle.repo_machine.specs.Judged.{Frames}
 
 pub record IsRefusedAs (ask : Ask) (e : refusals.Refusal) : Type 0 where
@@ -42,6 +45,7 @@ IsContentOf (reply.PutWhole body pieces) id frame = ⊥
 IsContentOf (reply.PutChangeset bytes) id frame = ⊥
 IsContentOf (reply.SetBookmark caller name from to) id frame = ⊥
 IsContentOf (reply.LandDraft caller name draft moment) id frame = ⊥
+IsContentOf (reply.SetPolicy caller text) id frame = ⊥
 
 abbrev pub IsChangesetOf : Ask → Changeset → List ℕ → Type 0
 IsChangesetOf (reply.PutContent bytes) c frame = ⊥
@@ -49,6 +53,7 @@ IsChangesetOf (reply.PutWhole body pieces) c frame = ⊥
 IsChangesetOf (reply.PutChangeset bytes) c frame = (spelling c ≡ bytes) × IsReadyChangeset c frame
 IsChangesetOf (reply.SetBookmark caller name from to) c frame = ⊥
 IsChangesetOf (reply.LandDraft caller name draft moment) c frame = ⊥
+IsChangesetOf (reply.SetPolicy caller text) c frame = ⊥
 
 abbrev pub IsNoUpload : Ask → Type 0
 IsNoUpload (reply.PutContent bytes) = ⊥
@@ -56,19 +61,48 @@ IsNoUpload (reply.PutWhole body pieces) = ⊥
 IsNoUpload (reply.PutChangeset bytes) = ⊥
 IsNoUpload (reply.SetBookmark caller name from to) = Unit {0}
 IsNoUpload (reply.LandDraft caller name draft moment) = Unit {0}
+IsNoUpload (reply.SetPolicy caller text) = ⊥
 
-abbrev pub IsReadyTo : Ask → Ready → Type 0
-IsReadyTo ask (ready.Refused refusal) = IsRefusedAs ask refusal
-IsReadyTo ask (ready.Content id frame) = IsContentOf ask id frame.items
-IsReadyTo ask (ready.Changeset framed) = IsChangesetOf ask (arc_value framed.commit) framed.frame.items
-IsReadyTo ask ready.Asked = IsNoUpload ask
+abbrev pub IsPolicyOf : Ask → ReadText → Type 0
+IsPolicyOf (reply.PutContent bytes) read = ⊥
+IsPolicyOf (reply.PutWhole body pieces) read = ⊥
+IsPolicyOf (reply.PutChangeset bytes) read = ⊥
+IsPolicyOf (reply.SetBookmark caller name from to) read = ⊥
+IsPolicyOf (reply.LandDraft caller name draft moment) read = ⊥
+IsPolicyOf (reply.SetPolicy caller text) read = IsReadOf caller text read
 
-abbrev pub asked_by : Prepared → Ask
-asked_by p = ask_seen p.ask.now
+abbrev pub IsReadyAsk : Ask → Ready → Type 0
+IsReadyAsk ask (ready.Refused refusal) = IsRefusedAs ask refusal
+IsReadyAsk ask (ready.Content id frame) = IsContentOf ask id frame.items
+IsReadyAsk ask (ready.Changeset framed) = IsChangesetOf ask (arc_value framed.commit) framed.frame.items
+IsReadyAsk ask (ready.Policy read) = IsPolicyOf ask read
+IsReadyAsk ask ready.Asked = IsNoUpload ask
+
+-- before anything is looked up
+pub record IsUnjoined (body : List ℕ) (e : refusals.Refusal) : Type 0 where
+  pub refusal : reply.Refusal
+  pub same : refused e ≡ Refuses refusal
+  pub always : (header : Header) (h : List Entry) → parts_of header h body ≡ Err refusal
+
+abbrev pub IsReadyToJoin : List ℕ → Ready → Type 0
+IsReadyToJoin body (ready.Refused refusal) = IsUnjoined body refusal
+IsReadyToJoin body (ready.Content id frame) = ⊥
+IsReadyToJoin body (ready.Changeset framed) = ⊥
+IsReadyToJoin body (ready.Policy read) = ⊥
+IsReadyToJoin body ready.Asked = ⊥
+
+abbrev pub IsReadyTo : Call → Ready → Type 0
+IsReadyTo (Asks ask) ready = IsReadyAsk ask ready
+IsReadyTo (Joins body) ready = IsReadyToJoin body ready
+IsReadyTo (Looks question) ready = ⊥
+IsReadyTo (Derives id) ready = ⊥
+
+abbrev pub asked_by : Prepared → Call
+asked_by p = call_seen p.ask.now
 
 abbrev pub IsPrepared : Prepared → Type 0
 IsPrepared p = IsReadyTo (asked_by p) p.ready
 
-pub record IsPreparedFor (ask : Ask) (p : Prepared) : Type 0 where
-  pub asks : asked_by p ≡ ask
+pub record IsPreparedFor (call : Call) (p : Prepared) : Type 0 where
+  pub asks : asked_by p ≡ call
   pub prepared : IsPrepared p

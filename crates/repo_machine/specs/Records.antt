@@ -9,7 +9,7 @@ use Rattle.repo_events.specs.Entries.{move_of}
 use Rattle.changeset_store.specs.Store.{changeset_at}
 use Rattle.repo_machine.specs.declared.records.LandRecord.{LandRecord}
 use Rattle.repo_machine.specs.declared.records.Record.{Record}
-use Rattle.repo_machine.specs.declared.records.Record.TheVariants.{Content, Change, Book, Land, Fault}
+use Rattle.repo_machine.specs.declared.records.Record.TheVariants.{Content, Change, Book, Land, Policy, Fault}
 use Rattle.repo_machine.specs.declared.records.Entry.{Entry}
 
 abbrev pub landing_of : List model.Known → LandRecord → model.Landing
@@ -20,6 +20,7 @@ body_of ks (Content id length) = model.Content id length
 body_of ks (Change number) = model.Change (changeset_at ks number)
 body_of ks (Book movement) = model.Book (move_of movement)
 body_of ks (Land landing) = model.Land (landing_of ks landing)
+body_of ks (Policy caller text) = model.Policy caller text.items
 body_of ks (Fault breaking) = model.Fault breaking
 
 abbrev pub entry_of : List model.Known → Entry → model.Entry
@@ -33,6 +34,7 @@ RecordWithin count (Content id length) = Unit {0}
 RecordWithin count (Change number) = number < count
 RecordWithin count (Book movement) = Unit {0}
 RecordWithin count (Land landing) = AllByRecursion (λ n. n < count) landing.numbers.items
+RecordWithin count (Policy caller text) = Unit {0}
 RecordWithin count (Fault breaking) = Unit {0}
 
 abbrev pub IsWithin : ℕ → Entry → Type 0
@@ -43,6 +45,7 @@ is_record_kept (Content id length) = true
 is_record_kept (Change number) = true
 is_record_kept (Book movement) = true
 is_record_kept (Land landing) = true
+is_record_kept (Policy caller text) = true
 is_record_kept (Fault breaking) = false
 
 abbrev pub is_kept : Entry → Bool

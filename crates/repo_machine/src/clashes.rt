@@ -5,7 +5,8 @@ ghost use Rattle.changeset_model.specs.Changeset.{touched_paths};
 ghost use Rattle.changeset_store.specs.Fork.{IsAncestor, IsFork, following_at, fork_between};
 ghost use Rattle.path_conflict.specs.Places.{paths_of, AreApart};
 ghost use Rattle.path_conflict.specs.Best.{IsBest};
-ghost use Rattle.repo_machine.specs.Landings.{Steps as Gives, paths_checked};
+ghost use Rattle.repo_calls.specs.Refusing.{Gives};
+ghost use Rattle.repo_machine.specs.Landings.{paths_checked};
 ghost use Rattle.repo_machine.specs.Clashes.{edited_paths, apart_checked};
 
 use ancestry::Steps;
@@ -18,33 +19,38 @@ use repo_path::RepoPath;
 use std::alloc::{AllocError, Global};
 use std::sync::ledger::Ledger;
 
-/// The paths that the stack touches, if none of them clashes with one that the range touches. A step is a comparison of two
-/// paths. There are at most three more than the binary digits of the number of these paths for each edit of the range.
-pub(crate) fn touched_apart<L: Ledger>(
+/// The paths that the stack touches.
+pub(crate) fn touched_paths_of(
     store: &ChangesetStore,
     alloc: Global,
     fork: &Fork,
-    steps: &mut Steps<L>,
-) -> Result<Vec<RepoPath>, Refusal>
+) -> Result<Vec<RepoPath>, AllocError>
     requires { IsFork store.now.known fork.now }
-    ensures touched { IfOk result (λ paths. paths.items ≡ touched_paths (fork_between store.now.known fork.now).stack) }
-    ensures apart { Gives (λ _. tt) (paths_checked (fork_between store.now.known fork.now)) result }
+    ensures { IfOk result (λ paths. paths.items ≡ touched_paths (fork_between store.now.known fork.now).stack) }
+{
+    let stack = store.stack(alloc, fork)?;
+    let of_stack = touched(alloc, stack.as_slice())?;
+    copies(alloc, of_stack.as_slice())
+}
+
+/// Refuses these paths that the stack touches, if one of them clashes with one that the range touches. A step is a comparison
+/// of two paths. There are at most three more than the binary digits of the number of these paths for each edit of the range.
+pub(crate) fn check_touched<L: Ledger>(
+    store: &ChangesetStore,
+    alloc: Global,
+    touched: &[RepoPath],
+    fork: &Fork,
+    steps: &mut Steps<L>,
+) -> Result<(), Refusal>
+    requires fork { IsFork store.now.known fork.now }
+    requires touched { touched.now ≡ touched_paths (fork_between store.now.known fork.now).stack }
+    ensures apart { Gives (λ done. done) (paths_checked (fork_between store.now.known fork.now)) result }
     ensures counted { steps.old ≤ steps.new }
     ensures cost { let f = fork_between store.now.known fork.now in (digits : ℕ) → length (touched_paths f.stack) < 2 ^ digits →
         steps.new ≤ steps.old + (digits + 3) * length (edited_paths f.range) }
 {
-    let stack = store.stack(alloc, fork)?;
-    let of_stack = touched(alloc, stack.as_slice())?;
-    check_apart(
-        store,
-        alloc,
-        of_stack.as_slice(),
-        fork.root,
-        fork.head,
-        steps,
-    )?;
-    let paths = copies(alloc, of_stack.as_slice())?;
-    Ok(paths)
+    let paths = borrowed(alloc, touched)?;
+    check_apart(store, alloc, paths.as_slice(), fork.root, fork.head, steps)
 }
 
 /// Refuses rising paths of which one clashes with a path that the changesets touch which follow an ancestor in a chain.
@@ -128,4 +134,18 @@ fn copies(alloc: Global, paths: &[&RepoPath]) -> Result<Vec<RepoPath>, AllocErro
         copies.push(path.copy(alloc)?)?;
     }
     Ok(copies)
+}
+
+/// The same paths, borrowed.
+pub(crate) fn borrowed<'a>(
+    alloc: Global,
+    paths: &'a [RepoPath],
+) -> Result<Vec<&'a RepoPath>, AllocError>
+    ensures { IfOk result (λ found. map (λ p. p.now) found.items ≡ paths.now) }
+{
+    let mut found = Vec::with_capacity(alloc, paths.len())?;
+    'paths: for path in paths {
+        found.push(path)?;
+    }
+    Ok(found)
 }

@@ -1,10 +1,8 @@
 //! Judging any change.
 ghost use Rattle.std.specs.Prelude.{◌≡◌, ◌≤◌, IfOk, IfErr};
-ghost use Rattle.reply_model.specs.Reply as reply;
 ghost use Rattle.reply_model.specs.Legal.{IsLegal};
-ghost use Rattle.repo_calls.specs.Calls.{ask_seen};
-ghost use Rattle.repo_machine.specs.Entering.{Judges};
-ghost use Rattle.repo_machine.specs.Landings.{IsRefusal};
+ghost use Rattle.repo_calls.specs.Calls.{call_seen};
+ghost use Rattle.repo_machine.specs.Asked.{JudgesCall, RefusesCall};
 
 use crate::judged::Judged;
 use crate::machine::Machine;
@@ -17,8 +15,8 @@ impl Machine {
     /// makes with its framed record, if it makes one. It adds nothing, and makes room for that entry and for one fault
     /// after it.
     pub fn judge(&mut self, alloc: Global, who: u64, ask: &Ask) -> Result<Judged, Refusal>
-        ensures ok { IfOk result (Judges self.old.header self.old.history self.new.room who (ask_seen ask.now)) }
-        ensures err { IfErr result (IsRefusal (reply.judge self.old.header self.old.history (ask_seen ask.now))) }
+        ensures ok { IfOk result (JudgesCall self.old.header self.old.history self.new.room who (call_seen ask.now)) }
+        ensures err { IfErr result (RefusesCall self.old.header self.old.history (call_seen ask.now)) }
         ensures header { self.new.header ≡ self.old.header }
         ensures history { self.new.history ≡ self.old.history }
         ensures keeps { self.old.room.entries ≤ self.new.room.entries }

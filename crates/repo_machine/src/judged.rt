@@ -2,7 +2,9 @@
 ghost use Rattle.std.specs.Prelude.{◌≡◌, None, [], option_map};
 ghost use Rattle.repo_calls.specs.Calls.{granted_seen};
 
+use crate::frame::Frame;
 use bonsai::Commit;
+use land_policy::Rules;
 use object_id::Id;
 use repo_calls::Granted;
 use repo_events::Move;
@@ -26,10 +28,18 @@ pub(crate) struct LandMade {
 /// What a change makes, ready to be entered without memory.
 #[derive(Drop)]
 pub(crate) enum Made {
-    Content { id: Id, length: u64 },
+    Content {
+        id: Id,
+        length: u64,
+    },
     Change(Arc<Commit>),
     Book(Move),
     Land(LandMade),
+    Policy {
+        caller: BookName,
+        text: Vec<u8>,
+        rules: Rules,
+    },
 }
 
 /// A change that was judged at a history: who asked for it, what it is granted, the entry that it makes, if it makes one,
@@ -39,7 +49,7 @@ pub struct Judged {
     pub(crate) who: u64,
     pub(crate) granted: Granted,
     pub(crate) made: Option<Made>,
-    pub(crate) frame: Vec<u8>,
+    pub(crate) frame: Frame,
 }
 
 impl Model for Judged {
@@ -53,7 +63,7 @@ impl Model for Judged {
 
     ghost use Rattle.repo_machine.specs.Made.{made_of, IsReady};
 
-    ghost view = { λ j. record { who = j.who; granted = granted_seen j.granted; made = option_map made_of j.made; frame = j.frame.items } };
+    ghost view = { λ j. record { who = j.who; granted = granted_seen j.granted; made = option_map made_of j.made; frame = j.frame } };
 
     ghost invariant = { λ j. IsReady j.made };
 }
@@ -67,7 +77,7 @@ impl Judged {
             who,
             granted,
             made: None,
-            frame: Vec::new(alloc),
+            frame: Frame::whole(Vec::new(alloc)),
         }
     }
 

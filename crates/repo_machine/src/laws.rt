@@ -8,17 +8,17 @@ ghost use Rattle.history_model.specs.Journal.{Header};
 ghost use Rattle.history_model.specs.Pushrebase.{rewrite, moment_of};
 ghost use Rattle.reply_model.specs.Reply.{LandDraft, told, judge, enter_landing};
 ghost use Rattle.repo_machine.specs.Again.{WasPlan};
-ghost use Rattle.repo_machine.specs.Plans.{PlannedLanding, RebasedLanding, IsPlan, WasPlanned};
+ghost use Rattle.repo_machine.specs.Plans.{PlannedLanding, RebasedLanding, IsPlan, WasPlanned, if_allowed};
 
 /// A plan is one at each longer history at which the bookmark has the planned head: it has the same fork there, so the
 /// same stack and the same range.
 pub fn plan_stays_at_its_head()
-    ensures { (g h : List Entry) (name : List ℕ) (draft : Id) (plan : PlannedLanding) → IsPrefix g h → IsPlan g name draft plan → head h name ≡ Some plan.old → IsPlan h name draft plan }
+    ensures { (g h : List Entry) (caller name : List ℕ) (draft : Id) (plan : PlannedLanding) → IsPrefix g h → IsPlan g caller name draft plan → head h name ≡ Some plan.old → IsPlan h caller name draft plan }
 {}
 
 /// A plan can be made again at each longer history.
 pub fn plan_can_be_made_again()
-    ensures { (g h : List Entry) (name : List ℕ) (draft : Id) (plan : PlannedLanding) → IsPrefix g h → IsPlan g name draft plan → WasPlan h plan }
+    ensures { (g h : List Entry) (caller name : List ℕ) (draft : Id) (plan : PlannedLanding) → IsPrefix g h → IsPlan g caller name draft plan → WasPlan h plan }
 {}
 
 /// What can be made again stays so as the history grows.
@@ -26,10 +26,11 @@ pub fn plan_can_be_made_again_later()
     ensures { (g h : List Entry) (plan : PlannedLanding) → IsPrefix g h → WasPlan g plan → WasPlan h plan }
 {}
 
-/// Where no disk failed, to land a planned draft is to enter its stack on the planned head, whoever asks and at any moment.
+/// Where no disk failed, to land a planned draft is to decide on its paths once more, by the policy that is held there, and to
+/// enter its stack on the planned head, at any moment.
 pub fn plan_is_what_is_judged()
-    ensures { (header : Header) (h : List Entry) (caller name : List ℕ) (draft : Id) (moment : ℕ) (plan : PlannedLanding) → IsPlan h name draft plan → is_down h ≡ false →
-        judge header h (LandDraft caller name draft moment) ≡ enter_landing header h (told h caller) name plan.old draft (rewrite plan.stack plan.old moment) (moment_of plan.stack moment) }
+    ensures { (header : Header) (h : List Entry) (caller name : List ℕ) (draft : Id) (moment : ℕ) (plan : PlannedLanding) → IsPlan h caller name draft plan → is_down h ≡ false →
+        judge header h (LandDraft caller name draft moment) ≡ if_allowed h caller plan.touched (enter_landing header h (told h caller) name plan.old draft (rewrite plan.stack plan.old moment) (moment_of plan.stack moment)) }
 {}
 
 /// What was planned stays planned as the history grows.

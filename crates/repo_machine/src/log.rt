@@ -1,5 +1,5 @@
 //! Pages of the log.
-ghost use Rattle.std.specs.Prelude.{◌≡◌, ◌+◌, ◌<◌, ◌^◌, length, map, take, drop, IfOk};
+ghost use Rattle.std.specs.Prelude.{◌≡◌, ◌==◌, ◌+◌, ◌<◌, ◌^◌, count_by, length, map, take, drop, IfOk};
 ghost use Rattle.std.specs.List.{AllByRecursion};
 ghost use Rattle.changeset_model.specs.Changeset.{id_of};
 ghost use Rattle.history_model.specs.History.{stored};
@@ -93,8 +93,19 @@ fn line_of(
             ids: ids_of(changesets, alloc, landing.numbers.as_slice())?,
             caller: copied(alloc, &landing.caller)?,
         }),
+        Record::Policy { caller, text } => Ok(LogEntry::Policy {
+            caller: caller.copy(alloc)?,
+            rules: lines_in(text.as_slice()),
+        }),
         Record::Fault { breaking: _ } => unreachable!(),
     }
+}
+
+// How many lines end in a text.
+fn lines_in(text: &[u8]) -> u64
+    ensures { result ≡ count_by (λ b. b == 0x0A) text.now }
+{
+    text.iter().filter(|b| **b == b'\n').count() as u64
 }
 
 // A caller who is told, in memory of its own.

@@ -5,6 +5,7 @@ ghost use Rattle.history_model.specs.Journal as journal;
 ghost use Rattle.history_model.specs.History.{is_down, stored};
 ghost use Rattle.bonsai.specs.Versions.{version_view};
 
+use crate::held_rules::HeldRules;
 use crate::place::Place;
 use crate::records::Entry;
 use bonsai::Version;
@@ -36,6 +37,8 @@ pub struct Machine {
     pub(crate) changesets: ChangesetStore,
     // Each bookmark that was ever named, with its head if it has one.
     pub(crate) heads: BTreeMap<BookName, Option<Id>>,
+    // The policy that is held.
+    pub(crate) held: Option<HeldRules>,
 }
 
 impl Model for Machine {
@@ -55,6 +58,7 @@ impl Model for Machine {
 
     ghost use Rattle.repo_machine.specs.Records.{history_of, kept_from, IsWithin};
     ghost use Rattle.repo_machine.specs.Indexes.{AreIndexes, AreAt};
+    ghost use Rattle.repo_machine.specs.Policies.{IsHeld};
 
     ghost view = { λ m. record {
       header = record { capacity = m.capacity; version = version_view m.version };
@@ -73,7 +77,8 @@ impl Model for Machine {
         (λ name. option_flatten (get_ordered ⟦<BookName as Ord>⟧.cmp m.heads name))
         (λ x. option_map (λ p. p.length) (get ⟦<Id as PartialEq>⟧.eq m.contents x)) m.size m.down ×
         AreAt (history_of m.changesets.known m.entries.items) (λ x. get ⟦<Id as PartialEq>⟧.eq m.contents x) ×
-        (m.kept.items ≡ kept_from 0 m.entries.items) };
+        (m.kept.items ≡ kept_from 0 m.entries.items) ×
+        IsHeld (history_of m.changesets.known m.entries.items) m.held };
 }
 
 impl Machine {
@@ -94,6 +99,7 @@ impl Machine {
             contents: HashMap::with_hasher(alloc, keys),
             changesets: ChangesetStore::new(alloc, keys),
             heads: BTreeMap::new(alloc),
+            held: None,
         }
     }
 

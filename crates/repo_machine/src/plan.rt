@@ -9,14 +9,16 @@ ghost use Rattle.history_model.specs.History.{is_known, is_down, known};
 ghost use Rattle.history_model.specs.Pushrebase.{Fork as Parted, fork as parting};
 ghost use Rattle.reply_model.specs.Legal.{IsLegal};
 ghost use Rattle.repo_machine.specs.Clashes.{edited_paths};
-ghost use Rattle.repo_machine.specs.Landings.{Steps as Gives, IsLandingRefusal, forking, lengths_checked};
-ghost use Rattle.repo_machine.specs.Plans.{IsPlan};
+ghost use Rattle.repo_calls.specs.Refusing.{Gives};
+ghost use Rattle.repo_machine.specs.Landings.{IsLandingRefusal, forking, lengths_checked};
+ghost use Rattle.repo_machine.specs.Plans.{IsPlan, IsAllowed};
 
-use crate::clashes::touched_apart;
+use crate::clashes::{check_touched, touched_paths_of};
 use crate::machine::Machine;
 use ancestry::Steps;
 use bonsai::Commit;
 use changeset_store::{ChangesetStore, Fork};
+use held_policy::check_landing;
 use object_id::Id;
 use repo_calls::Refusal;
 use repo_events::MOST_STACK;
@@ -33,6 +35,7 @@ const MOST_RANGE: u32 = 10_000;
 /// changesets it shares with the machine, and the paths that the stack touches.
 #[derive(Drop)]
 pub struct Plan {
+    pub(crate) caller: BookName,
     pub(crate) name: BookName,
     pub(crate) draft: Id,
     pub(crate) old: Id,
@@ -52,22 +55,29 @@ impl Model for Plan {
 
     ghost coded = { coded_planned };
 
-    ghost view = { λ p. record { name = p.name; draft = p.draft; old = p.old; stack = values p.stack.items; touched = (arc_value p.touched).items } };
+    ghost view = { λ p. record { caller = p.caller; name = p.name; draft = p.draft; old = p.old; stack = values p.stack.items; touched = (arc_value p.touched).items } };
 
     ghost invariant = { λ p. (length (values p.stack.items) ≤ most_stack) × KeepOnParents (values p.stack.items) };
 }
 
 impl Machine {
     /// Plans to land a draft on a bookmark: what follows the root in the draft's chain is to be put onto the bookmark's
-    /// head, if no path that it touches clashes with one touched since. At most 100 changesets are landed, over at most
-    /// 10,000 since the root.
-    pub fn plan(&self, alloc: Global, name: &BookName, draft: Id) -> Result<Plan, Refusal>
-        ensures ok { IfOk result (IsPlan self.now.history name.now draft) }
+    /// head, if the policy that is held allows the caller each path that it touches, and none clashes with one touched since.
+    /// At most 100 changesets are landed, over at most 10,000 since the root.
+    pub fn plan(
+        &self,
+        alloc: Global,
+        caller: &BookName,
+        name: &BookName,
+        draft: Id,
+    ) -> Result<Plan, Refusal>
+        ensures ok { IfOk result (IsPlan self.now.history caller.now name.now draft) }
+        ensures allowed { IfOk result (λ plan. IsAllowed self.now.history caller.now plan.touched) }
         ensures up { OnOk result (is_down self.now.history ≡ false) }
-        ensures err { IfErr result (IsLandingRefusal self.now.header self.now.history name.now draft) }
+        ensures err { IfErr result (IsLandingRefusal self.now.header self.now.history caller.now name.now draft) }
         ensures legal { IsLegal self.now.header self.now.history }
     {
-        on_own_count::<Brand>(self, alloc, name, draft, Blank::new(1))
+        on_own_count::<Brand>(self, alloc, caller, name, draft, Blank::new(1))
     }
 
     /// The same, with a count of steps, of which each is a comparison of two paths. There are at most three more than the
@@ -75,13 +85,15 @@ impl Machine {
     pub fn plan_counted<L: Ledger>(
         &self,
         alloc: Global,
+        caller: &BookName,
         name: &BookName,
         draft: Id,
         steps: &mut Steps<L>,
     ) -> Result<Plan, Refusal>
-        ensures ok { IfOk result (IsPlan self.now.history name.now draft) }
+        ensures ok { IfOk result (IsPlan self.now.history caller.now name.now draft) }
+        ensures allowed { IfOk result (λ plan. IsAllowed self.now.history caller.now plan.touched) }
         ensures up { OnOk result (is_down self.now.history ≡ false) }
-        ensures err { IfErr result (IsLandingRefusal self.now.header self.now.history name.now draft) }
+        ensures err { IfErr result (IsLandingRefusal self.now.header self.now.history caller.now name.now draft) }
         ensures legal { IsLegal self.now.header self.now.history }
         ensures counted { steps.old ≤ steps.new }
         ensures cost { (old : ModelId) (f : Parted) (digits : ℕ) → head_of self.now.history name.now ≡ Some old → parting (known self.now.history) old draft ≡ Some f →
@@ -93,11 +105,15 @@ impl Machine {
         };
         let fork = fork_from(&self.changesets, &old, &draft)?;
         check_lengths(&self.changesets, &fork)?;
-        let touched = touched_apart(&self.changesets, alloc, &fork, steps)?;
+        let touched = touched_paths_of(&self.changesets, alloc, &fork)?;
+        check_landing(self.rules(), alloc, caller, touched.as_slice())?;
+        check_touched(&self.changesets, alloc, touched.as_slice(), &fork, steps)?;
         let stack = self.changesets.shared_stack(alloc, &fork)?;
         let touched = Arc::new(alloc, touched)?;
+        let caller = caller.copy(alloc)?;
         let name = name.copy(alloc)?;
         Ok(Plan {
+            caller,
             name,
             draft,
             old,
@@ -111,6 +127,7 @@ impl Machine {
 fn on_own_count<L: Ledger>(
     machine: &Machine,
     alloc: Global,
+    caller: &BookName,
     name: &BookName,
     draft: Id,
     blank: Blank,
@@ -118,13 +135,14 @@ fn on_own_count<L: Ledger>(
     requires name { blank.name ≡ L.name }
     requires parts { blank.parts ≡ L.parts }
     requires some { 0 < blank.parts }
-    ensures ok { IfOk result (IsPlan machine.now.history name.now draft) }
+    ensures ok { IfOk result (IsPlan machine.now.history caller.now name.now draft) }
+    ensures allowed { IfOk result (λ plan. IsAllowed machine.now.history caller.now plan.touched) }
     ensures up { OnOk result (is_down machine.now.history ≡ false) }
-    ensures err { IfErr result (IsLandingRefusal machine.now.header machine.now.history name.now draft) }
+    ensures err { IfErr result (IsLandingRefusal machine.now.header machine.now.history caller.now name.now draft) }
     ensures legal { IsLegal machine.now.header machine.now.history }
 {
     let mut steps = Steps::<L>::new(blank);
-    machine.plan_counted(alloc, name, draft, &mut steps)
+    machine.plan_counted(alloc, caller, name, draft, &mut steps)
 }
 
 // Where the draft's chain parts from that of the head.

@@ -1,5 +1,5 @@
 //! Plans of landings that are made again, once the bookmark has another head.
-ghost use Rattle.std.specs.Prelude.{◌≡◌, ℕ, ◌+◌, ◌*◌, ◌^◌, ◌<◌, ◌≤◌, [], true, false, length, map, Some, IfOk, IfErr, IfSome, IfNone, OnOk};
+ghost use Rattle.std.specs.Prelude.{◌≡◌, ℕ, ◌+◌, ◌*◌, ◌^◌, ◌<◌, ◌≤◌, [], true, false, length, Some, IfOk, IfErr, IfSome, IfNone, OnOk};
 ghost use Rattle.byte_fields.specs.Bytes.{Id as ModelId};
 ghost use Rattle.changeset_model.specs.Path.{IsRising};
 ghost use Rattle.changeset_store.specs.Store.{number_in, known_at};
@@ -10,18 +10,19 @@ ghost use Rattle.history_model.specs.Pushrebase.{fork as parting};
 ghost use Rattle.reply_model.specs.Legal.{IsLegal};
 ghost use Rattle.repo_machine.specs.Again.{WasPlan, since, GoesOn, IsPlannedHead};
 ghost use Rattle.repo_machine.specs.Clashes.{edited_paths, apart_checked};
-ghost use Rattle.repo_machine.specs.Landings.{Steps as Gives, IsLandingRefusal};
-ghost use Rattle.repo_machine.specs.Plans.{IsPlan};
+ghost use Rattle.repo_calls.specs.Refusing.{Gives};
+ghost use Rattle.repo_machine.specs.Landings.{IsLandingRefusal};
+ghost use Rattle.repo_machine.specs.Plans.{IsPlan, IsAllowed};
 
-use crate::clashes::check_apart;
+use crate::clashes::{borrowed, check_apart};
 use crate::machine::Machine;
 use crate::plan::{Plan, check_lengths, fork_from};
 use ancestry::Steps;
 use changeset_store::{ChangesetStore, Fork};
+use held_policy::check_landing;
 use object_id::Id;
 use repo_calls::Refusal;
-use repo_path::RepoPath;
-use std::alloc::{AllocError, Global};
+use std::alloc::Global;
 use std::sync::ledger::Ledger;
 
 impl Machine {
@@ -35,9 +36,10 @@ impl Machine {
         steps: &mut Steps<L>,
     ) -> Result<Plan, Refusal>
         requires { WasPlan self.now.history plan }
-        ensures ok { IfOk result (IsPlan self.now.history plan.name plan.draft) }
+        ensures ok { IfOk result (IsPlan self.now.history plan.caller plan.name plan.draft) }
+        ensures allowed { IfOk result (λ again. IsAllowed self.now.history plan.caller again.touched) }
         ensures up { OnOk result (is_down self.now.history ≡ false) }
-        ensures err { IfErr result (IsLandingRefusal self.now.header self.now.history plan.name plan.draft) }
+        ensures err { IfErr result (IsLandingRefusal self.now.header self.now.history plan.caller plan.name plan.draft) }
         ensures legal { IsLegal self.now.header self.now.history }
         ensures counted { steps.old ≤ steps.new }
         // At most three more than the binary digits of the number of the stack's paths, for each new edit.
@@ -52,9 +54,10 @@ impl Machine {
         };
         let fork = fork_from(&self.changesets, &head, &plan.draft)?;
         let Some(planned) = planned_head(&self.changesets, &plan, &fork) else {
-            return self.plan_counted(alloc, &plan.name, plan.draft, steps);
+            return self.plan_counted(alloc, &plan.caller, &plan.name, plan.draft, steps);
         };
         check_lengths(&self.changesets, &fork)?;
+        check_landing(self.rules(), alloc, &plan.caller, plan.touched.as_slice())?;
         check_new(&self.changesets, alloc, &plan, planned, fork.head, steps)?;
         Ok(plan.on(head))
     }
@@ -101,22 +104,13 @@ fn check_new<L: Ledger>(
     check_apart(store, alloc, paths.as_slice(), planned, head, steps)
 }
 
-fn borrowed<'a>(alloc: Global, paths: &'a [RepoPath]) -> Result<Vec<&'a RepoPath>, AllocError>
-    ensures { IfOk result (λ found. map (λ p. p.now) found.items ≡ paths.now) }
-{
-    let mut found = Vec::with_capacity(alloc, paths.len())?;
-    'paths: for path in paths {
-        found.push(path)?;
-    }
-    Ok(found)
-}
-
 impl Plan {
     // The same plan on another head.
     fn on(self, head: Id) -> Plan
         ensures { result ≡ record self { old = head } }
     {
         let Plan {
+            caller,
             name,
             draft,
             old: _,
@@ -124,6 +118,7 @@ impl Plan {
             touched,
         } = self;
         Plan {
+            caller,
             name,
             draft,
             old: head,

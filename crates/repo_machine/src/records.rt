@@ -30,6 +30,8 @@ pub(crate) enum Record {
     Book(Move),
     /// A stack was landed.
     Land(LandRecord),
+    /// Who may land and move bookmarks from here on was set, and by whom.
+    Policy { caller: BookName, text: Vec<u8> },
     /// The disk failed. After a breaking fault nothing is stored.
     Fault { breaking: bool },
 }

@@ -141,7 +141,12 @@ pub(crate) fn path(alloc: Global, text: &str) -> Result<RepoPath, Fail> {
 
 /// The bookmark `main`.
 pub(crate) fn main_name(alloc: Global) -> Result<BookName, Fail> {
-    Ok(BookName::parse(alloc, "main")?)
+    name(alloc, "main")
+}
+
+/// The name of a bookmark or a caller that is spelled so.
+pub(crate) fn name(alloc: Global, text: &str) -> Result<BookName, Fail> {
+    Ok(BookName::parse(alloc, text)?)
 }
 
 /// The id of these digits.

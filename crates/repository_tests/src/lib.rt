@@ -3,6 +3,8 @@
 #![tactic(auto)]
 
 #[cfg(test)]
+mod acts;
+#[cfg(test)]
 mod changes;
 #[cfg(test)]
 mod dates;
@@ -16,6 +18,8 @@ mod landings;
 mod plans;
 #[cfg(test)]
 mod plans_again;
+#[cfg(test)]
+mod policies;
 #[cfg(test)]
 mod records;
 #[cfg(test)]

@@ -1,14 +1,13 @@
-//! Plans that are made again, after another seat moved `main` or landed on it. The ids are those of an independent
-//! computation.
+//! Plans that are made again, after another seat moved `main`, landed on it or set a policy. The ids are those of an
+//! independent computation.
 ghost use Rattle.std.specs.Prelude.{◌≡◌, ◌<◌};
-ghost use mathlib.Core.List.{IsPrefix};
 ghost use Rattle.repo_machine.specs.Again.{WasPlan};
 
-use crate::plans::move_from_there;
+use crate::acts::{Between, perform_both, read_between};
 use crate::rows::same;
-use crate::steps::{Run, id_at, id_in, new_run, run_lines};
+use crate::steps::{Run, new_run, run_lines};
 use ancestry::Steps;
-use bonsai::Commit;
+use bonsai::{Commit, Version};
 use object_id::Id;
 use repo_calls::Refusal;
 use repo_machine::{Machine, Plan};
@@ -19,31 +18,6 @@ use std::process::Abort;
 use std::sync::Arc;
 use std::sync::ledger::{Blank, Ledger};
 use std::test::Fail;
-
-fn land_there(alloc: Global, machine: &mut Machine, main: &BookName, draft: Id) -> Result<(), Fail>
-    ensures { IsPrefix machine.old.history machine.new.history }
-{
-    match machine.land(alloc, 2, main, draft, 0) {
-        Ok(_) => Ok(()),
-        Err(_) => Err(Fail::from("a landing")),
-    }
-}
-
-// What another seat does with `main`.
-fn act(
-    alloc: Global,
-    machine: &mut Machine,
-    main: &BookName,
-    lands: bool,
-    id: Option<Id>,
-) -> Result<(), Fail>
-    ensures { IsPrefix machine.old.history machine.new.history }
-{
-    match id {
-        Some(id) if lands => land_there(alloc, machine, main, id),
-        _ => move_from_there(alloc, machine, main, id),
-    }
-}
 
 fn plan_again<L: Ledger>(
     alloc: Global,
@@ -60,19 +34,18 @@ fn plan_again<L: Ledger>(
     machine.plan_again(alloc, plan, &mut steps)
 }
 
-// Plans to land a draft, has another seat do this, and plans again.
+// Plans to land a draft, has another seat act, and plans again.
 fn plan_twice(
     alloc: Global,
     machine: &mut Machine,
     main: &BookName,
-    draft: Id,
-    lands: bool,
-    id: Option<Id>,
+    caller: &BookName,
+    between: &Between,
 ) -> Result<Result<Plan, Refusal>, Fail> {
-    let Ok(plan) = machine.plan(alloc, main, draft) else {
+    let Ok(plan) = machine.plan(alloc, caller, main, between.draft) else {
         return Err(Fail::from("a plan"));
     };
-    act(alloc, machine, main, lands, id)?;
+    perform_both(alloc, machine, main, between)?;
     Ok(plan_again::<Brand>(alloc, machine, plan, Blank::new(1)))
 }
 
@@ -99,36 +72,30 @@ fn put_commits(alloc: Global, out: &mut String, commits: &[Arc<Commit>]) -> Resu
     }
 }
 
-// What a plan made again after this act tells.
-fn told_again(
-    alloc: Global,
-    run: &mut Run,
-    draft: Id,
-    lands: bool,
-    id: Option<Id>,
-) -> Result<String, Fail> {
-    let again = plan_twice(alloc, &mut run.machine, &run.main, draft, lands, id)?;
+// What a plan made again tells.
+fn told_again(alloc: Global, run: &mut Run, between: &Between) -> Result<String, Fail> {
+    let again = plan_twice(alloc, &mut run.machine, &run.main, &run.caller, between)?;
     tell(alloc, again)
 }
 
 // What a plan made anew tells.
 fn told_anew(alloc: Global, run: &Run, draft: Id) -> Result<String, Fail> {
-    tell(alloc, run.machine.plan(alloc, &run.main, draft))
+    tell(
+        alloc,
+        run.machine.plan(alloc, &run.caller, &run.main, draft),
+    )
 }
 
 // What is told by the plan made again by these words, and by the one that is made anew then.
 fn told(alloc: Global, run: &mut Run, words: &str) -> Result<(String, String), Fail> {
-    let (draft, rest) = words.split_once(" ").ok_or("a draft")?;
-    let (act, id) = rest.split_once(" ").unwrap_or((rest, "-"));
-    let draft = id_in(run, draft)?;
-    let id = id_at(run, id)?;
-    let again = told_again(alloc, run, draft, act == "land", id)?;
-    Ok((again, told_anew(alloc, run, draft)?))
+    let between = read_between(alloc, run, words)?;
+    let again = told_again(alloc, run, &between)?;
+    Ok((again, told_anew(alloc, run, between.draft)?))
 }
 
 fn run_row(rt: &impl Abort, alloc: Global, row: &str) -> Result<(), Fail> {
     let (words, wanted) = row.split_once(" = ").ok_or("a row")?;
-    let mut run = new_run(alloc, 65_536)?;
+    let mut run = new_run(alloc, 65_536, Version::Second)?;
     run_lines(rt, alloc, &mut run, CHANGESETS)?;
     let (again, anew) = told(alloc, &mut run, words)?;
     same(rt, again.as_str(), wanted, row);
@@ -148,19 +115,29 @@ line 0 1 0
 change 1 y:abc
 change 2 z:abc
 change 1 w:abc
-move 1";
+move 1
+as bob";
 
-// The draft that is planned, and what happens to `main` then.
+// The draft that is planned, and what happens then.
 const ROWS: &str = "\
-2 move 1 = 1 66018dae6dcd26aa7f15f755f702edd69b683e14a7531d0ba9293f9127fda14f
-2 land 3 = 1 7e621ad17dede990d4eddd19b9a5607531b55fa74dd4ef19426f7be5e69b4021
-2 move 6 = 1 aadf009f5739e394fefeb8b2c01cc7a7c573ef341933e3a62469dfd7eccf15f7
-2 move 4 = Clash { left: y, right: y }
-5 move 4 = Clash { left: y, right: y }
-2 move 0 = 1 640d00803ffd078abe99687f11f76e3949495f55dd88e999e6458f7adfdf79ac
-5 move 2 = 1 03897ca2179ea4705f3daebf2ae8c494fb1c7fcce8cc7319c88e15ab0f682245
-5 move 5 = AlreadyIn
-2 move - = NoBookmark";
+2 | move 1 | - = 1 66018dae6dcd26aa7f15f755f702edd69b683e14a7531d0ba9293f9127fda14f
+2 | land 3 | - = 1 7e621ad17dede990d4eddd19b9a5607531b55fa74dd4ef19426f7be5e69b4021
+2 | move 6 | - = 1 aadf009f5739e394fefeb8b2c01cc7a7c573ef341933e3a62469dfd7eccf15f7
+2 | move 4 | - = Clash { left: y, right: y }
+5 | move 4 | - = Clash { left: y, right: y }
+2 | move 0 | - = 1 640d00803ffd078abe99687f11f76e3949495f55dd88e999e6458f7adfdf79ac
+5 | move 2 | - = 1 03897ca2179ea4705f3daebf2ae8c494fb1c7fcce8cc7319c88e15ab0f682245
+5 | move 5 | - = AlreadyIn
+2 | move - | - = NoBookmark
+2 | policy allow * /; | - = 1 66018dae6dcd26aa7f15f755f702edd69b683e14a7531d0ba9293f9127fda14f
+2 | policy deny bob y;allow * /; | - = Denied { place: Path(y), rule: Some(0) }
+5 | policy deny * z;allow * /; | move 6 = Denied { place: Path(z), rule: Some(0) }
+5 | policy deny bob z;deny bob y;allow * /; | move 4 = Denied { place: Path(y), rule: Some(1) }
+2 | policy deny bob y;allow * /; | move 0 = Denied { place: Path(y), rule: Some(0) }
+2 | policy allow ann /; | land 3 = Denied { place: Path(y), rule: None }
+2 | policy deny bob y;allow ann /; | policy allow bob /; = 1 66018dae6dcd26aa7f15f755f702edd69b683e14a7531d0ba9293f9127fda14f
+5 | policy allow ann /; | move 5 = AlreadyIn
+2 | policy allow ann /; | move - = NoBookmark";
 
 #[test]
 fn a_plan_made_again_is_the_one_made_anew(rt: HostRuntime) -> Result<(), Fail> {

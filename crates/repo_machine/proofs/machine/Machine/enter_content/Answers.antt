@@ -7,6 +7,7 @@ use Rattle.repo_machine.proofs.Within.{history_pushed_same, within_pushed_same}
 use Rattle.repo_machine.proofs.Growing.{known-content, head-push, content_len-content}
 use Rattle.repo_machine.proofs.Entered.{enterable_as, legal_grown, indexes_grown, places_put, lengths_put}
 use Rattle.repo_machine.proofs.Kept.{kept_grown}
+use Rattle.repo_machine.proofs.HeldPolicy.{held_stays}
 use Rattle.repo_machine.proofs.machine.Machine.enter_content.Goals as goal
 
 pub returns-clause-legal : goal.returns-clause-legal
@@ -28,4 +29,5 @@ invariant_of-self c =
           (omega arith),
       places_put h c.args.who c.args.id _ _ _ c.self.invariant.2 c.in-Ok.ensures.updates.0 _ grows (ap (λ n. n + 5) k.size_is),
       kept_grown c.self.inside.entries.items _ c.self.invariant.3 _ _ c.push_reserved-2.ensures.items refl _ (omega (arith, c.len.ensures)) _ c.push_reserved.ensures.items,
+      held_stays h c.args.who (Content c.args.id c.args.length) refl c.self.inside.held c.self.invariant.4 _ grows,
     )

@@ -1,5 +1,5 @@
 use Rattle.std.proofs.Common.{◌≡◌, map, take}
-use Rattle.repo_machine.proofs.plan_again.borrowed.Given as goal
+use Rattle.repo_machine.proofs.clashes.borrowed.Given as goal
 
 -- those so far
 abbrev pub invariant-paths : goal.invariant-paths
