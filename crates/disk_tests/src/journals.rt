@@ -1,7 +1,7 @@
 //! The bytes of a journal, an append that a crash stops, and disks that fail.
 ghost use Rattle.std.specs.Prelude.{◌≡◌, ◌+◌, ◌≤◌, ◌<◌, ◌^◌, false, length, IfOk, IsTrue, OnOk};
 ghost use Rattle.disk_model.specs.Meaning.{IsLong};
-ghost use Rattle.changeset_model.specs.Version.{First};
+ghost use Rattle.changeset_model.specs.Version.{Second};
 ghost use Rattle.history_model.specs.Journal.{is_header};
 ghost use Rattle.repo_journal.specs.Groups.{IsGroup, grown};
 ghost use Rattle.repo_journal.specs.Sealing.{IsFramed};
@@ -14,18 +14,18 @@ use std::process::Abort;
 use std::test::Fail;
 
 // A new file of capacity 65,536.
-const FRESH: &[u8] = b"BONSAI\x00\x01\x00\x00\x00\x00\x00\x01\x00\x00\x00";
+const FRESH: &[u8] = b"BONSAI\x00\x02\x00\x00\x00\x00\x00\x01\x00\x00\x00";
 
 // The same once the content `abc` was appended.
 const WITH_ABC: &[u8] =
-    b"BONSAI\x00\x01\x00\x00\x00\x00\x00\x01\x00\x00\x01\x00\x00\x00\x04Babc\x00";
+    b"BONSAI\x00\x02\x00\x00\x00\x00\x00\x01\x00\x00\x01\x00\x00\x00\x04Babc\x00";
 
 // The same once the contents `abc` and `de` were sealed together.
 const WITH_BOTH: &[u8] =
-    b"BONSAI\x00\x01\x00\x00\x00\x00\x00\x01\x00\x00\x01\x00\x00\x00\x04Babc\x01\x00\x00\x00\x03Bde\x00";
+    b"BONSAI\x00\x02\x00\x00\x00\x00\x00\x01\x00\x00\x01\x00\x00\x00\x04Babc\x01\x00\x00\x00\x03Bde\x00";
 
 // What all begin with.
-const HEADER: &[u8] = b"BONSAI\x00\x01\x00\x00\x00\x00\x00\x01\x00\x00";
+const HEADER: &[u8] = b"BONSAI\x00\x02\x00\x00\x00\x00\x00\x01\x00\x00";
 
 const AT_START: Opening = Opening {
     moment: 0,
@@ -78,7 +78,7 @@ fn empty_disk(alloc: Global, room: u64) -> Result<MemDisk, AllocError> {
 }
 
 fn make_file<D: Disk>(disk: &mut D, capacity: u64) -> Result<(), Fail>
-    requires { IsTrue (is_header (record { capacity = capacity; version = First })) }
+    requires { IsTrue (is_header (record { capacity = capacity; version = Second })) }
 {
     Ok(init(disk, capacity)?)
 }
@@ -300,7 +300,7 @@ fn broken(
     let told = appended(rt, &mut repo, b"Babc")?;
     assert!(rt; told.as_str().starts_with("Err(DiskFault) 17 "));
     check_broken(rt, &repo);
-    assert_eq!(rt; read(rt, &mut repo, 0), Some(*b"BONSAI\x00\x01"));
+    assert_eq!(rt; read(rt, &mut repo, 0), Some(*b"BONSAI\x00\x02"));
     Ok(repo)
 }
 

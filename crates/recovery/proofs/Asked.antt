@@ -1,6 +1,6 @@
 -- What a payload's change makes.
 --     kept bytes made      what is made, if it has this payload
-use Rattle.std.proofs.Common.{◌≡◌, ℕ, Bool, true, false, cond, List, [], ◌∷◌, ◌++◌, length, map, drop, refl, sym, ap, subst, ◌∙◌, inl, inr, arith}
+use Rattle.std.proofs.Common.{◌≡◌, ℕ, Bool, true, false, cond, not, List, [], ◌∷◌, ◌++◌, length, map, drop, refl, sym, ap, subst, ◌∙◌, inl, inr}
 use Rattle.std.specs.Prelude.{Option, None, Some, Result, Ok, Err, OnOk, OnErr, IsSome, bytes_eq, is_some, unwrap_or}
 use Rattle.std.specs.List.{concat}
 use mathlib.Core.Bool.{true≢false}
@@ -14,23 +14,20 @@ use Rattle.byte_fields.specs.Reading.{keeping}
 use Rattle.byte_fields.proofs.FieldLemmas.{keeps}
 use Rattle.changeset_model.specs.Changeset.{Changeset, spelling}
 use Rattle.changeset_model.specs.Decoding.{decoded}
-use Rattle.history_model.specs.History.{Body, Whole, Book, Land, Move, Landing, Entry, is_stored, unnumbered, bodies, stored, is_down}
-use Rattle.history_model.specs.Journal.{Header, landing_mark, wrapped, payload, framed, held, IsPayload}
+use Rattle.history_model.specs.History.{Body, Whole, Policy, Move, Landing, Entry, is_stored, unnumbered, bodies, stored, is_down}
+use Rattle.history_model.specs.Journal.{Header, payload, framed, held, IsPayload}
 use Rattle.history_model.specs.Payload.{payload_body}
-use Rattle.history_model.specs.Pushrebase.{Fork, rewrite, moment_of}
 use Rattle.reply_model.specs.After.{entries_of}
-use Rattle.reply_model.specs.Legal.{IsLegal}
 use Rattle.reply_model.specs.Opening.{nobody, ask_of, made_by, next_entry}
 use Rattle.reply_model.specs.Reply as refusing
-use Rattle.reply_model.specs.Reply.{Ask, is_ask, ids_in, PutContent, PutWhole, PutChangeset, SetBookmark, LandDraft, Judged, Down, OldFormat, refuse_if, ◌>>=◌, told, judge}
+use Rattle.reply_model.specs.Reply.{Ask, is_ask, ids_in, PutContent, PutWhole, PutChangeset, SetBookmark, LandDraft, SetPolicy, Judged, Down, BadParts, OldFormat, is_parts_len, parts_of, refuse_if, ◌>>=◌, judge}
 use Rattle.reply_model.proofs.Histories.{bodies-append}
 use Rattle.reply_model.proofs.Granted.{MakesStored, judge_stored}
-use Rattle.opening_laws.proofs.Callers.{none_told, moves_for_any, lands_for_any}
 use Rattle.opening_laws.proofs.Made.{MadeBy, Fitting, MakesEach, judge_makes}
 use Rattle.repo_machine.specs.Judged.{JudgedChange, IsJudged, Frames}
 use Rattle.repo_machine.specs.Entering.{IsJudgedHere}
 use Rattle.repo_calls.specs.declared.refusal.Refusal.{Refusal}
-use Rattle.repo_machine.specs.Landings.{IsRefusal}
+use Rattle.repo_calls.specs.Refusing.{IsRefusal}
 use Rattle.recovery.specs.ReplayFaults.{refusal_fault}
 use Rattle.recovery.specs.declared.replay_fault.ReplayFault.{ReplayFault}
 use Rattle.recovery.specs.declared.replay_fault.ReplayFault.TheVariants.{BadPayload, Memory}
@@ -67,14 +64,8 @@ kept_other : (bytes : List ℕ) (made : Option Body) → ((body : Body) → made
 kept_other bytes None other = refl
 kept_other bytes (Some body) other = drops (has_payload bytes) body (has_payload bytes body) refl (λ e. other body refl ((bytes_eq-Decides (payload body (drop 1 bytes)) bytes).0 e))
 
--- whoever asks, where none makes one of this payload
-none_asked : (header : Header) (h : List Entry) (bytes : List ℕ) (ask given : Ask) (judged : JudgedChange) → IsJudged header h ask judged → judge header h given ≡ judge header h ask → (b : Bool) → is_ask h given ≡ b → kept bytes judged.made ≡ None
-    → asked_entry header h bytes given ≡ None
-none_asked header h bytes ask given judged is same false e none = ap (λ b. option_and_then (made_by header h bytes) (cond b (Some given) None)) e
-none_asked header h bytes ask given judged is same true e none =
-    ap (λ b. option_and_then (made_by header h bytes) (cond b (Some given) None)) e
-    ∙ ap (λ r. option_and_then (λ body. keeping (has_payload bytes) body) (option_and_then (λ (judged : Judged). judged.made) (result_ok r))) (same ∙ is.granted)
-    ∙ none
+other_asked : (header : Header) (h : List Entry) (bytes : List ℕ) (ask : Ask) (judged : JudgedChange) → IsJudged header h ask judged → kept bytes judged.made ≡ None → asked_entry header h bytes ask ≡ None
+other_asked header h bytes ask judged is none = asked_kept header h bytes ask judged is ∙ none
 
 -- ---- where it is refused
 
@@ -88,11 +79,10 @@ nothing_entered : (h : List Entry) (next : Option Body) (fault : ReplayFault) (a
 nothing_entered h next BadPayload after none same = (none, same)
 nothing_entered h next Memory after none same = same
 
-pub refused_asked : (header : Header) (h : List Entry) (bytes : List ℕ) (ask given : Ask) (e : Refusal) (after : List Entry) → judge header h given ≡ judge header h ask → IsRefusal (judge header h ask) e → after ≡ h
-    → Enters h (asked_entry header h bytes given) (Err (refusal_fault e)) after
+pub refused_asked : (header : Header) (h : List Entry) (bytes : List ℕ) (ask given : Ask) (e : Refusal) (after : List Entry) → given ≡ ask → IsRefusal (judge header h ask) e → after ≡ h → Enters h (asked_entry header h bytes given) (Err (refusal_fault e)) after
 refused_asked header h bytes ask given e after same is kept = elim is [
   | inl memory ↦ subst (λ e. Enters h (asked_entry header h bytes given) (Err (refusal_fault e)) after) (sym memory) kept
-  | inr refused ↦ nothing_entered h (asked_entry header h bytes given) (refusal_fault e) after (refused_by header h bytes given refused.0 (same ∙ refused.1) (is_ask h given) refl) kept
+  | inr refused ↦ nothing_entered h (asked_entry header h bytes given) (refusal_fault e) after (refused_by header h bytes given refused.0 (ap (judge header h) same ∙ refused.1) (is_ask h given) refl) kept
 ]
 
 -- ---- what each change makes
@@ -114,20 +104,12 @@ change_asked header h c judged read is =
     (λ body made. let m = makes_of header h (PutChangeset (spelling c)) judged is body made in
     ap (λ b. payload b (drop 1 (spelling c))) m.3 ∙ ap spelling (one_decoded (decoded (spelling c)) c m.0 read m.1))
 
+pub policy_asked : (header : Header) (h : List Entry) (caller text bytes : List ℕ) (judged : JudgedChange) → bytes ≡ payload (Policy caller text) [] → IsJudged header h (SetPolicy caller text) judged → asked_entry header h bytes (SetPolicy caller text) ≡ judged.made
+policy_asked header h caller text bytes judged spelled is =
+    asked_same header h bytes (SetPolicy caller text) judged is
+    (λ body made. ap (λ b. payload b (drop 1 bytes)) (makes_of header h (SetPolicy caller text) judged is body made).0 ∙ sym spelled)
+
 -- ---- a move or a landing, by its frame
-
--- a payload that tells a caller begins otherwise than one that tells none
-not_told : (caller : Option (List ℕ)) (rest other : List ℕ) (mark : ℕ) → wrapped caller rest ≡ mark ∷ other → (mark ≡ 0x41 → ⊥) → caller ≡ None
-not_told None rest other mark e differs = refl
-not_told (Some caller) rest other mark e differs = absurd (differs (ap (λ bytes. first_or bytes) (sym e)))
-  where
-    first_or : List ℕ → ℕ
-    first_or [] = 0x41
-    first_or (b ∷ bytes) = b
-
-some_made : (made : Option Body) → IsSome made → (body : Body) × (made ≡ Some body)
-some_made None some = absurd cc
-some_made (Some body) some = (body, refl)
 
 -- it has one payload
 abbrev HasOne : Body → Type 0
@@ -149,92 +131,73 @@ module _ (header : Header) (h : List Entry) (bytes : List ℕ) (ask : Ask) (judg
   not_framed : (IsSome judged.made × (judged.frame ≡ framed bytes) → ⊥) → kept bytes judged.made ≡ None
   not_framed other = kept_other bytes judged.made (λ body made e. let f = framed_payload body made in other (ap is_some made, f.1 ∙ ap framed (sym f.2 ∙ e)))
 
--- a move
-module _ (header : Header) (h : List Entry) (m : Move) (bytes : List ℕ) (judged : JudgedChange) (legal : IsLegal header h) (is : IsJudged header h (SetBookmark nobody m.name m.from m.to) judged) where
-  abbrev untold_move : Move
-  untold_move = record { name = m.name; from = m.from; to = m.to; caller = None }
+  framed_differs : (IsSome judged.made × (judged.frame ≡ framed bytes) → ⊥) → asked_entry header h bytes ask ≡ None
+  framed_differs other = other_asked header h bytes ask judged is (not_framed other)
 
-  move_made : (body : Body) → judged.made ≡ Some body → body ≡ Book untold_move
-  move_made body made =
-      makes_of header h (SetBookmark nobody m.name m.from m.to) judged is body made
-      ∙ ap (λ caller. Book (record { name = m.name; from = m.from; to = m.to; caller = caller })) (none_told header h nobody legal)
+-- a move
+module _ (header : Header) (h : List Entry) (caller : List ℕ) (m : Move) (bytes : List ℕ) (judged : JudgedChange) (who : caller ≡ unwrap_or m.caller nobody) (is : IsJudged header h (SetBookmark caller m.name m.from m.to) judged) where
+  abbrev move_ask : Ask
+  move_ask = SetBookmark caller m.name m.from m.to
+
+  move_asks : SetBookmark (unwrap_or m.caller nobody) m.name m.from m.to ≡ move_ask
+  move_asks = ap (λ caller. SetBookmark caller m.name m.from m.to) (sym who)
 
   move_once : (body : Body) → judged.made ≡ Some body → HasOne body
-  move_once body made inner other p = ap (λ b. payload b other) (move_made body made) ∙ sym (subst (λ b. IsPayload b inner) (move_made body made) p).2
+  move_once body made inner other p =
+      let e = (makes_of header h move_ask judged is body made).0 in
+      ap (λ b. payload b other) e ∙ sym (subst (λ b. IsPayload b inner) e p).2
 
-  move_untold : bytes ≡ payload (Book m) [] → IsSome judged.made × (judged.frame ≡ framed bytes) → m.caller ≡ None
-  move_untold spelled there =
-      let some = some_made judged.made there.0 in
-      let bytes_are = same_payload header h bytes (SetBookmark nobody m.name m.from m.to) judged is move_once there.1 some.0 some.1 in
-      not_told m.caller _ _ 0x4D (sym spelled ∙ sym bytes_are ∙ ap (λ b. payload b (drop 1 bytes)) (move_made some.0 some.1)) (λ e. omega arith)
-
-  pub move_asked : bytes ≡ payload (Book m) [] → IsSome judged.made × (judged.frame ≡ framed bytes) → asked_entry header h bytes (SetBookmark (unwrap_or m.caller nobody) m.name m.from m.to) ≡ judged.made
-  move_asked spelled there =
-      ap (λ caller. asked_entry header h bytes (SetBookmark (unwrap_or caller nobody) m.name m.from m.to)) (move_untold spelled there)
-      ∙ framed_asked header h bytes (SetBookmark nobody m.name m.from m.to) judged is move_once there.1
+  pub move_asked : IsSome judged.made × (judged.frame ≡ framed bytes) → asked_entry header h bytes (SetBookmark (unwrap_or m.caller nobody) m.name m.from m.to) ≡ judged.made
+  move_asked there = ap (asked_entry header h bytes) move_asks ∙ framed_asked header h bytes move_ask judged is move_once there.1
 
   pub move_differs : (IsSome judged.made × (judged.frame ≡ framed bytes) → ⊥) → asked_entry header h bytes (SetBookmark (unwrap_or m.caller nobody) m.name m.from m.to) ≡ None
-  move_differs other =
-      let given = SetBookmark (unwrap_or m.caller nobody) m.name m.from m.to in
-      let ask = SetBookmark nobody m.name m.from m.to in
-      none_asked header h bytes ask given judged is (moves_for_any header h (unwrap_or m.caller nobody) nobody m.name m.from m.to legal) (is_ask h given) refl (not_framed header h bytes ask judged is move_once other)
+  move_differs other = ap (asked_entry header h bytes) move_asks ∙ framed_differs header h bytes move_ask judged is move_once other
 
 -- a landing
-module _ (header : Header) (h : List Entry) (l : Landing) (moment : ℕ) (bytes : List ℕ) (judged : JudgedChange) (legal : IsLegal header h) (is : IsJudged header h (LandDraft nobody l.name l.draft moment) judged) where
-  abbrev landed_by : Id → Fork → Option (List ℕ) → Body
-  landed_by old f caller = Land (record { name = l.name; old = old; draft = l.draft; new = rewrite f.stack old moment; moment = moment_of f.stack moment; caller = caller })
+module _ (header : Header) (h : List Entry) (caller : List ℕ) (l : Landing) (moment : ℕ) (bytes : List ℕ) (judged : JudgedChange) (who : caller ≡ unwrap_or l.caller nobody) (at : moment ≡ unwrap_or l.moment 0) (is : IsJudged header h (LandDraft caller l.name l.draft moment) judged) where
+  abbrev landing_ask : Ask
+  landing_ask = LandDraft caller l.name l.draft moment
 
-  landing_made : (body : Body) → judged.made ≡ Some body → (old : Id) × (f : Fork) × (body ≡ landed_by old f None)
-  landing_made body made =
-      let m = makes_of header h (LandDraft nobody l.name l.draft moment) judged is body made in
-      (m.0, m.1, m.8 ∙ ap (landed_by m.0 m.1) (none_told header h nobody legal))
+  landing_asks : LandDraft (unwrap_or l.caller nobody) l.name l.draft (unwrap_or l.moment 0) ≡ landing_ask
+  landing_asks = (λ i. LandDraft (sym who i) l.name l.draft (sym at i))
 
   landing_once : (body : Body) → judged.made ≡ Some body → HasOne body
-  landing_once body made inner other p = let m = landing_made body made in ap (λ b. payload b other) m.2 ∙ sym (subst (λ b. IsPayload b inner) m.2 p).2
+  landing_once body made inner other p =
+      let e = (makes_of header h landing_ask judged is body made).8 in
+      ap (λ b. payload b other) e ∙ sym (subst (λ b. IsPayload b inner) e p).2
 
-  no_caller : (mark : Option ℕ) → landing_mark mark ≡ 0x41 → ⊥
-  no_caller None e = omega arith
-  no_caller (Some moment) e = omega arith
+  pub landing_asked : IsSome judged.made × (judged.frame ≡ framed bytes) → asked_entry header h bytes (LandDraft (unwrap_or l.caller nobody) l.name l.draft (unwrap_or l.moment 0)) ≡ judged.made
+  landing_asked there = ap (asked_entry header h bytes) landing_asks ∙ framed_asked header h bytes landing_ask judged is landing_once there.1
 
-  landing_untold : bytes ≡ payload (Land l) [] → IsSome judged.made × (judged.frame ≡ framed bytes) → l.caller ≡ None
-  landing_untold spelled there =
-      let some = some_made judged.made there.0 in
-      let m = landing_made some.0 some.1 in
-      let bytes_are = same_payload header h bytes (LandDraft nobody l.name l.draft moment) judged is landing_once there.1 some.0 some.1 in
-      let mark = moment_of m.1.stack moment in
-      not_told l.caller _ _ (landing_mark mark) (sym spelled ∙ sym bytes_are ∙ ap (λ b. payload b (drop 1 bytes)) m.2) (no_caller mark)
-
-  pub landing_asked : moment ≡ unwrap_or l.moment 0 → bytes ≡ payload (Land l) [] → IsSome judged.made × (judged.frame ≡ framed bytes) → asked_entry header h bytes (LandDraft (unwrap_or l.caller nobody) l.name l.draft (unwrap_or l.moment 0)) ≡ judged.made
-  landing_asked at spelled there =
-      (λ i. asked_entry header h bytes (LandDraft (unwrap_or (landing_untold spelled there i) nobody) l.name l.draft (sym at i)))
-      ∙ framed_asked header h bytes (LandDraft nobody l.name l.draft moment) judged is landing_once there.1
-
-  pub landing_differs : moment ≡ unwrap_or l.moment 0 → (IsSome judged.made × (judged.frame ≡ framed bytes) → ⊥) → asked_entry header h bytes (LandDraft (unwrap_or l.caller nobody) l.name l.draft (unwrap_or l.moment 0)) ≡ None
-  landing_differs at other =
-      let given = LandDraft (unwrap_or l.caller nobody) l.name l.draft moment in
-      let ask = LandDraft nobody l.name l.draft moment in
-      ap (λ moment. asked_entry header h bytes (LandDraft (unwrap_or l.caller nobody) l.name l.draft moment)) (sym at)
-      ∙ none_asked header h bytes ask given judged is (lands_for_any header h (unwrap_or l.caller nobody) nobody l.name l.draft moment legal) (is_ask h given) refl (not_framed header h bytes ask judged is landing_once other)
+  pub landing_differs : (IsSome judged.made × (judged.frame ≡ framed bytes) → ⊥) → asked_entry header h bytes (LandDraft (unwrap_or l.caller nobody) l.name l.draft (unwrap_or l.moment 0)) ≡ None
+  landing_differs other = ap (asked_entry header h bytes) landing_asks ∙ framed_differs header h bytes landing_ask judged is landing_once other
 
 -- ---- what no change makes
 
-abbrev made_in : Option Judged → Option Body
-made_in judged = option_and_then (λ (judged : Judged). judged.made) judged
+record Fails {A : Type 0} (r : Result A refusing.Refusal) : Type 0 where
+  refusal : refusing.Refusal
+  is : r ≡ Err refusal
+
+fails_first : {A B : Type 0} (r : Result A refusing.Refusal) (f : A → Result B refusing.Refusal) → Fails r → Fails (r >>= f)
+fails_first r f fails = record { refusal = fails.refusal; is = ap (λ r. r >>= f) fails.is }
+
+fails_then : {A B : Type 0} (r : Result A refusing.Refusal) (f : A → Result B refusing.Refusal) → ((x : A) → Fails (f x)) → Fails (r >>= f)
+fails_then (Ok x) f fails = fails x
+fails_then (Err e) f fails = record { refusal = e; is = refl }
+
+whole_fails : (header : Header) (h : List Entry) (given : List ℕ) (pieces : List (List ℕ)) → Fails (judge header h (PutWhole given pieces))
+whole_fails header h given pieces =
+    fails_then (refuse_if (is_down h) Down) _ (λ _.
+    fails_first (parts_of header h given) _ (
+    fails_then (refuse_if (not (is_parts_len (length given))) (BadParts (length given))) _ (λ _. record { refusal = OldFormat; is = refl })))
 
 pub no_whole : (file : List ℕ) (header : Header) (h : List Entry) (bytes : List ℕ) (x : Id) (n : ℕ) (parts : List Id) → payload_body bytes ≡ Ok (Whole x n parts) → next_entry file header h bytes ≡ None
 no_whole file header h bytes x n parts read =
     let given = concat parts in
     let pieces = map (held file 16 (bodies h)) (ids_in given) in
+    let fails = whole_fails header h given pieces in
     ap (λ r. option_and_then (made_by header h bytes) (option_and_then (keeping (is_ask h)) (option_and_then (ask_of file h bytes) (result_ok r)))) read
-    ∙ unmade given pieces (is_ask h (PutWhole given pieces))
-  where
-    never : (down : Bool) → option_and_then (λ body. keeping (has_payload bytes) body) (made_in (result_ok {T = Judged} {E = refusing.Refusal} (refuse_if down Down >>= λ _. Err OldFormat))) ≡ None
-    never true = refl
-    never false = refl
-
-    unmade : (given : List ℕ) (pieces : List (List ℕ)) (asks : Bool) → option_and_then (made_by header h bytes) (cond asks (Some (PutWhole given pieces)) None) ≡ None
-    unmade given pieces false = refl
-    unmade given pieces true = never (is_down h)
+    ∙ refused_by header h bytes (PutWhole given pieces) fails.refusal fails.is (is_ask h (PutWhole given pieces)) refl
 
 -- ---- what is entered
 

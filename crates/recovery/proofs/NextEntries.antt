@@ -10,7 +10,7 @@ use Rattle.changeset_model.proofs.Accepting.{keeping_ok}
 use Rattle.history_model.specs.History.{Body, Content, Whole, Change, Book, Land, Policy, Fault, Entry, is_stored, unnumbered}
 use Rattle.history_model.specs.Journal.{Header, most_payload, payload, payload_len, record_len, size}
 use Rattle.history_model.specs.Payload.{body as read_body, payload_body}
-use Rattle.reply_model.specs.Reply.{is_ask, Ask, PutContent, PutWhole, PutChangeset, SetBookmark, LandDraft, Judged, judge}
+use Rattle.reply_model.specs.Reply.{is_ask, Ask, PutContent, PutWhole, PutChangeset, SetBookmark, LandDraft, SetPolicy, Judged, judge}
 use Rattle.reply_model.specs.Opening.{ask_of, made_by, next_entry}
 use Rattle.reply_model.proofs.Histories.{size-push}
 use Rattle.opening_laws.proofs.Made.{MadeBy, MakesEach, Fitting, judge_makes}
@@ -54,6 +54,7 @@ put_is file h bytes other (Content x n) e = ap (λ o. content_of (unwrap_or o (P
     content_of (PutChangeset spelling) = spelling
     content_of (SetBookmark caller name from to) = name
     content_of (LandDraft caller name draft moment) = name
+    content_of (SetPolicy caller text) = text
 put_is file h bytes other (Whole x n parts) e = absurd cc
 put_is file h bytes other (Change c) e = absurd cc
 put_is file h bytes other (Book move) e = absurd cc
@@ -79,9 +80,11 @@ long_as file h bytes read body (PutWhole given pieces) e made same =
 long_as file h bytes read body (PutChangeset spelling) e made same =
     (ap (λ b. is_stored b) made.3, ap (λ b. payload_len b) made.3 ∙ sym (ap (λ b. length (payload b (drop 1 bytes))) made.3) ∙ ap (λ xs. length xs) same)
 long_as file h bytes read body (SetBookmark caller name from to) e made same =
-    (ap (λ b. is_stored b) made, ap (λ b. payload_len b) made ∙ sym (ap (λ b. length (payload b (drop 1 bytes))) made) ∙ ap (λ xs. length xs) same)
+    (ap (λ b. is_stored b) made.0, ap (λ b. payload_len b) made.0 ∙ sym (ap (λ b. length (payload b (drop 1 bytes))) made.0) ∙ ap (λ xs. length xs) same)
 long_as file h bytes read body (LandDraft caller name draft moment) e made same =
     (ap (λ b. is_stored b) made.8, ap (λ b. payload_len b) made.8 ∙ sym (ap (λ b. length (payload b (drop 1 bytes))) made.8) ∙ ap (λ xs. length xs) same)
+long_as file h bytes read body (SetPolicy caller text) e made same =
+    (ap (λ b. is_stored b) made.0, ap (λ b. payload_len b) made.0 ∙ sym (ap (λ b. length (payload b (drop 1 bytes))) made.0) ∙ ap (λ xs. length xs) same)
 
 -- with the entry the file is longer by the record
 pub next_size : (file : List ℕ) (header : Header) (h : List Entry) (bytes : List ℕ) (body : Body) → next_entry file header h bytes ≡ Some body → size (h ++ unnumbered body ∷ []) ≡ size h + 5 + length bytes

@@ -1,15 +1,16 @@
 //! The entry of one payload.
-ghost use Rattle.std.specs.Prelude.{◌≡◌, ◌↔◌, ◌++◌, ◌∷◌, ℕ, List, [], None, Some, Ok, Err, OnOk, OnErr, IsTrue, IsSome, unwrap_or};
+ghost use Rattle.std.specs.Prelude.{◌≡◌, ◌↔◌, ◌++◌, ◌∷◌, ℕ, List, [], None, Some, Ok, Err, IfOk, OnOk, OnErr, IsTrue, IsSome, unwrap_or};
+ghost use Rattle.std.specs.Option.{option_copied};
 ghost use Rattle.sha2.specs.Sha256.{sha256};
 ghost use Rattle.changeset_model.specs.Changeset.{spelling};
 ghost use Rattle.changeset_model.specs.Decoding.{decoded};
 ghost use Rattle.history_model.specs.History as model;
-ghost use Rattle.history_model.specs.History.{Book, Land, stored, unnumbered};
+ghost use Rattle.history_model.specs.History.{Book, Land, Policy, stored, unnumbered};
 ghost use Rattle.history_model.specs.Journal.{framed, payload as payload_of, IsPayload};
 ghost use Rattle.history_model.specs.Payload.{payload_body};
 ghost use Rattle.reply_model.specs.Legal.{IsLegal};
 ghost use Rattle.reply_model.specs.Opening.{next_entry, nobody};
-ghost use Rattle.reply_model.specs.Reply.{PutContent, PutChangeset, SetBookmark, LandDraft};
+ghost use Rattle.reply_model.specs.Reply.{PutContent, PutChangeset, SetBookmark, LandDraft, SetPolicy};
 ghost use Rattle.repo_events.specs.Entries.{body_of, landing_of, move_of};
 ghost use Rattle.repo_machine.specs.Entering.{IsJudgedHere};
 ghost use Rattle.repo_machine.specs.Held.{HasRoom};
@@ -21,7 +22,8 @@ use bonsai::{Commit, MOST_CONTENT};
 use object_id::Id;
 use repo_events::{Body, Landing, Move, decode_payload};
 use repo_machine::{Judged, Machine};
-use std::alloc::Global;
+use repo_path::{BookName, NameFault};
+use std::alloc::{AllocError, Global};
 
 /// The seat of entries that are read from a file.
 const NO_SEAT: u64 = 0;
@@ -64,8 +66,15 @@ fn enter_body(
         Body::Change(commit) => enter_changeset(alloc, machine, commit, payload),
         Body::Book(movement) => enter_move(alloc, machine, &movement, payload),
         Body::Land(landing) => enter_landing(alloc, machine, &landing, payload),
-        // No change makes one.
-        Body::Whole { .. } | Body::Policy { .. } => Err(ReplayFault::BadPayload),
+        Body::Policy { caller, text } => enter_policy(
+            alloc,
+            machine,
+            &caller,
+            text.as_slice(),
+            payload,
+        ),
+        // No change makes one yet.
+        Body::Whole { .. } => Err(ReplayFault::BadPayload),
     }
 }
 
@@ -113,14 +122,17 @@ fn enter_move(
     movement: &Move,
     payload: &[u8],
 ) -> Result<(), ReplayFault>
-    requires { payload.now ≡ payload_of (Book (move_of movement.now)) [] }
+    requires spelled { payload.now ≡ payload_of (Book (move_of movement.now)) [] }
+    requires legal { IsLegal machine.old.header machine.old.history }
     ensures enters { Enters machine.old.history (asked_entry machine.old.header machine.old.history payload.now (SetBookmark (unwrap_or movement.now.caller nobody) movement.now.name movement.now.from movement.now.to)) result machine.new.history }
     ensures header { machine.new.header ≡ machine.old.header }
     ensures legal { IsLegal machine.new.header machine.new.history }
 {
+    let caller = caller_of(alloc, movement.caller.as_ref())?;
     let judged = machine.judge_bookmark(
         alloc,
         NO_SEAT,
+        &caller,
         &movement.name,
         movement.from,
         movement.to,
@@ -138,18 +150,65 @@ fn enter_landing(
     landing: &Landing,
     payload: &[u8],
 ) -> Result<(), ReplayFault>
-    requires { payload.now ≡ payload_of (Land (landing_of landing.now)) [] }
+    requires spelled { payload.now ≡ payload_of (Land (landing_of landing.now)) [] }
+    requires legal { IsLegal machine.old.header machine.old.history }
     ensures enters { Enters machine.old.history (asked_entry machine.old.header machine.old.history payload.now (LandDraft (unwrap_or landing.now.caller nobody) landing.now.name landing.now.draft (unwrap_or landing.now.moment 0))) result machine.new.history }
     ensures header { machine.new.header ≡ machine.old.header }
     ensures legal { IsLegal machine.new.header machine.new.history }
 {
     // What is landed without a moment has no date of it, so any moment makes the same.
     let moment = landing.moment.unwrap_or(0);
-    let judged = machine.judge_landing(alloc, NO_SEAT, &landing.name, landing.draft, moment)?;
+    let caller = caller_of(alloc, landing.caller.as_ref())?;
+    let judged = machine.judge_landing(
+        alloc,
+        NO_SEAT,
+        &caller,
+        &landing.name,
+        landing.draft,
+        moment,
+    )?;
     if !makes_payload(&judged, payload) {
         return Err(ReplayFault::BadPayload);
     }
     enter_judged(machine, judged)
+}
+
+// Enters a policy that may be set there.
+fn enter_policy(
+    alloc: Global,
+    machine: &mut Machine,
+    caller: &BookName,
+    text: &[u8],
+    payload: &[u8],
+) -> Result<(), ReplayFault>
+    requires { payload.now ≡ payload_of (Policy caller.now text.now) [] }
+    ensures enters { Enters machine.old.history (asked_entry machine.old.header machine.old.history payload.now (SetPolicy caller.now text.now)) result machine.new.history }
+    ensures header { machine.new.header ≡ machine.old.header }
+    ensures legal { IsLegal machine.new.header machine.new.history }
+{
+    let judged = machine.judge_policy_of(alloc, NO_SEAT, caller, text)?;
+    enter_judged(machine, judged)
+}
+
+// Who asks where an entry tells this caller. What tells none was asked before there was a policy, by anyone.
+fn caller_of(alloc: Global, caller: Option<&BookName>) -> Result<BookName, AllocError>
+    ensures { IfOk result (λ name. name ≡ unwrap_or (option_copied caller.entry) nobody) }
+{
+    match caller {
+        Some(caller) => caller.copy(alloc),
+        None => nobody(alloc),
+    }
+}
+
+// The caller who stands for anyone.
+fn nobody(alloc: Global) -> Result<BookName, AllocError>
+    ensures { IfOk result (λ name. name ≡ nobody) }
+{
+    match BookName::parse(alloc, "anonymous") {
+        Ok(name) => Ok(name),
+        Err(NameFault::BadName { .. }) => unreachable!(),
+        Err(NameFault::Memory) => Err(AllocError),
+    }
 }
 
 // Whether an entry is made whose record has this payload.

@@ -1,9 +1,11 @@
 //! Why a payload wasn't entered.
 ghost use Rattle.std.specs.Prelude.{◌≡◌};
 ghost use Rattle.recovery.specs.ReplayFaults.{decode_fault, refusal_fault};
+ghost use Rattle.recovery.specs.declared.replay_fault.ReplayFault.TheVariants.{Memory};
 
 use repo_calls::Refusal;
 use repo_events::PayloadFault;
+use std::alloc::AllocError;
 use thiserror::Error;
 
 /// Why a payload wasn't entered.
@@ -15,6 +17,14 @@ pub enum ReplayFault {
     /// Memory ran out.
     #[error("memory ran out")]
     Memory,
+}
+
+impl From<AllocError> for ReplayFault {
+    ghost from_gives = { λ _ fault. fault ≡ Memory };
+
+    fn from(_e: AllocError) -> ReplayFault {
+        ReplayFault::Memory
+    }
 }
 
 impl From<Refusal> for ReplayFault {

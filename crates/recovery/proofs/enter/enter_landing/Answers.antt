@@ -4,25 +4,20 @@ use Rattle.std.proofs.lemmas.Result.{err_from_is_err_and}
 use mathlib.Core.Bool.{true≢false}
 use Rattle.repo_events.specs.Entries.{landing_of}
 use Rattle.reply_model.specs.Opening.{nobody}
-use Rattle.reply_model.specs.Reply.{LandDraft, judge}
-use Rattle.opening_laws.proofs.Callers.{lands_for_any}
+use Rattle.reply_model.specs.Reply.{LandDraft}
 use Rattle.recovery.proofs.Asked.{enters_as, landing_asked, landing_differs, refused_asked}
 use Rattle.recovery.proofs.enter.enter_landing.Goals as goal
 
 pub returns-in_err-judged-clause-enters : goal.returns-in_err-judged-clause-enters
 returns-in_err-judged-clause-enters c =
-    let p = err_from_is_err_and c.from_residual.result c.from_residual.ensures.1 in
-    let header = c.args.machine.now.header in
-    let h = c.args.machine.now.history in
+    let p = err_from_is_err_and c.from_residual-in_err-judged.result c.from_residual-in_err-judged.ensures.1 in
     let l = c.args.landing.now in
-    let who = unwrap_or l.caller nobody in
-    let moment = c.unwrap_or-moment.result in
-    rw (p.1, p.2) (refused_asked header h c.args.payload.now (LandDraft nobody l.name l.draft moment) (LandDraft who l.name l.draft (unwrap_or l.moment 0)) c.in_err-judged.field-0.0 c.judge_landing.new.self.history
-    (ap (λ moment. judge header h (LandDraft who l.name l.draft moment)) (sym c.unwrap_or-moment.ensures) ∙ lands_for_any header h who nobody l.name l.draft moment c.judge_landing.ensures.legal) c.in_err-judged.ensures.err c.judge_landing.ensures.history)
+    rw (p.1, p.2) (refused_asked c.args.machine.now.header c.args.machine.now.history c.args.payload.now (LandDraft c.in_ok-caller.caller l.name l.draft c.unwrap_or-moment.result) _ c.in_err-judged.field-0.0 c.judge_landing.new.self.history
+    (λ i. LandDraft (sym (c.in_ok-caller.ensures ∙ ap (λ o. unwrap_or o nobody) c.as_ref.ensures.value) i) l.name l.draft (sym c.unwrap_or-moment.ensures i)) c.in_err-judged.ensures.err c.judge_landing.ensures.history)
 
 pub returns-then-not-makes_payload-clause-enters : goal.returns-then-not-makes_payload-clause-enters
 returns-then-not-makes_payload-clause-enters c = (
-  landing_differs c.args.machine.now.header c.args.machine.now.history (landing_of c.args.landing.now) c.unwrap_or-moment.result c.args.payload.now c.in_ok-judged.judged c.judge_landing.ensures.legal c.in_ok-judged.ensures.ok.is_judged c.unwrap_or-moment.ensures
+  landing_differs c.args.machine.now.header c.args.machine.now.history c.in_ok-caller.caller (landing_of c.args.landing.now) c.unwrap_or-moment.result c.args.payload.now c.in_ok-judged.judged (c.in_ok-caller.ensures ∙ ap (λ o. unwrap_or o nobody) c.as_ref.ensures.value) c.unwrap_or-moment.ensures c.in_ok-judged.ensures.ok.is_judged
       (λ p. true≢false (sym (c.makes_payload.ensures.1 p) ∙ c.if-not-makes_payload.true)),
   c.judge_landing.ensures.history,
 )
@@ -30,5 +25,5 @@ returns-then-not-makes_payload-clause-enters c = (
 pub returns-clause-enters : goal.returns-clause-enters
 returns-clause-enters c =
     enters_as _ _ _ _ _ _
-    (landing_asked c.args.machine.now.header c.args.machine.now.history (landing_of c.args.landing.now) c.unwrap_or-moment.result c.args.payload.now c.in_ok-judged.judged c.judge_landing.ensures.legal c.in_ok-judged.ensures.ok.is_judged c.unwrap_or-moment.ensures c.requires (c.makes_payload.ensures.0 c.if-not-makes_payload.false))
+    (landing_asked c.args.machine.now.header c.args.machine.now.history c.in_ok-caller.caller (landing_of c.args.landing.now) c.unwrap_or-moment.result c.args.payload.now c.in_ok-judged.judged (c.in_ok-caller.ensures ∙ ap (λ o. unwrap_or o nobody) c.as_ref.ensures.value) c.unwrap_or-moment.ensures c.in_ok-judged.ensures.ok.is_judged (c.makes_payload.ensures.0 c.if-not-makes_payload.false))
     c.judge_landing.ensures.history c.enter_judged.ensures.enters
