@@ -6,10 +6,12 @@ use Rattle.std.proofs.lemmas.Slice.Eq.{bytes_eq-Decides}
 use Rattle.byte_fields.specs.Bytes.{Id}
 use Rattle.history_model.specs.History.{Entry, Known, known, is_known}
 use Rattle.history_model.specs.Chain.{line}
-use Rattle.history_model.specs.Past.{HaveOneParent}
+use Rattle.history_model.specs.Past.{HaveOneParent, past_on}
+use Rattle.history_model.proofs.Pasts.{past_is_its_line}
 use Rattle.history_model.specs.Journal.{Header}
 use Rattle.manifest_model.specs.Fsnode.{fsnode, fsnode_id}
 use Rattle.manifest_model.specs.Unode.{unode, unode_id}
+use Rattle.manifest_model.specs.Deleted.{deleted, deleted_id}
 use Rattle.manifest_laws.specs.Changes.{files_in}
 use Rattle.byte_fields.proofs.Booleans.{same_some}
 use Rattle.reply_model.specs.After.{Answers, Derives, nothing}
@@ -36,11 +38,11 @@ number_of ks x n e =
     let found = position-Some (λ k. bytes_eq k.id x) ks n (known_at [] 0) e in
     record { in_range = found.0; id = (bytes_eq-Decides (known_at ks n).id x).0 (ap (λ k. bytes_eq k.id x) (sym (stands_at ks n)) ∙ found.1) }
 
-on_line : (l : List Known) (roots : Roots) → Some roots ≡ roots_on l → (roots.fsnode ≡ fsnode_id (fsnode (files_in l) [])) × (roots.unode ≡ unode_id (unode l []))
+on_line : (l : List Known) (roots : Roots) → Some roots ≡ roots_on l → (roots.fsnode ≡ fsnode_id (fsnode (files_in l) [])) × (roots.unode ≡ unode_id (unode l [])) × (roots.deleted ≡ deleted_id (deleted (past_on l) []))
 on_line [] roots e = absurd cc
-on_line (c ∷ older) roots e = let same = same_some roots _ e in (ap (λ r. r.fsnode) same, ap (λ r. r.unode) same)
+on_line (c ∷ older) roots e = let same = same_some roots _ e in (ap (λ r. r.fsnode) same, ap (λ r. r.unode) same, ap (λ r. r.deleted) same)
 
-pub answered : (header : Header) (h : List Entry) (x : Id) (n : ℕ) (roots : Roots) → HaveOneParent (known h) → number_in (known h) x ≡ Some n → Some roots ≡ roots_on (line_at (known h) n) → Answers header h (Derives x) (after.Roots roots.fsnode roots.unode) nothing
+pub answered : (header : Header) (h : List Entry) (x : Id) (n : ℕ) (roots : Roots) → HaveOneParent (known h) → number_in (known h) x ≡ Some n → Some roots ≡ roots_on (line_at (known h) n) → Answers header h (Derives x) (after.Roots roots.fsnode roots.unode roots.deleted) nothing
 answered header h x n roots one e is =
     let ks = known h in
     let number = number_of ks x n e in
@@ -49,4 +51,5 @@ answered header h x n roots one e is =
       ap (is_known ks) (sym number.id) ∙ known_here ks n number.in_range,
       told.0 ∙ ap (λ y. fsnode_id (fsnode (files_in (line ks y)) [])) number.id ∙ ap (λ fs. fsnode_id (fsnode fs [])) (sym (files_on_line ks x one)),
       told.1 ∙ ap (λ y. unode_id (unode (line ks y) [])) number.id ∙ ap unode_id (sym (unode_on_line ks x one [])),
+      told.2 ∙ ap (λ y. deleted_id (deleted (past_on (line ks y)) [])) number.id ∙ ap (λ q. deleted_id (deleted q [])) (sym (past_is_its_line ks x one)),
     )

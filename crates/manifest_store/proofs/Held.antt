@@ -35,6 +35,7 @@ use Rattle.unode.specs.Lookup.{entries_in, entry_named as unode_named}
 use Rattle.unode.proofs.Named.{found_in as unode_found}
 use Rattle.node_table.specs.Table.{Nodes}
 use Rattle.node_table.specs.declared.roots.Roots.{Roots}
+use Rattle.derive_step.specs.declared.job.DirIds.{DirIds}
 use Rattle.derive_step.specs.Views.{Before}
 use Rattle.derive_step.specs.Jobs.{IsRight, nodes_at, roots_on, all_nodes_on}
 use Rattle.derive_step.proofs.Laws.{alone}
@@ -179,7 +180,7 @@ module _ (m : Nodes) (c : Known) (older : List Known) (right : IsRight (c ∷ ol
 
   -- ---- both nodes of directories
 
-  abbrev pub both : Path → Roots
+  abbrev pub both : Path → DirIds
   both d = record { fsnode = fs_node all d; unode = un_node all d }
 
   dir_there : (d : Path) → is_dir now d ≡ true → dir_under m (both d) ≡ Some (nodes_at all d)

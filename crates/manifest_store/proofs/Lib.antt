@@ -7,3 +7,10 @@ pub mod Settled
 pub mod Touching
 pub mod Reading
 pub mod Answered
+pub mod GoneNodes
+pub mod LogLinks
+pub mod Taken
+pub mod Levels
+pub mod Ways
+pub mod Changed
+pub mod Kept

@@ -44,10 +44,10 @@ apart_of (k ∷ ks) u = (false_from_ne_true (is_known ks k.id) u.0, apart_of ks 
 pub apart_back : (ks : List Known) → IsStore ks → AreApart (reverse ks)
 apart_back ks s = apart_of (reverse ks) (subst (λ js. AreOnce (reverse js)) (known_story ks s.ids s.once) (known_once (story ks)))
 
-abbrev links : List Known → List (Option ℕ)
+abbrev pub links : List Known → List (Option ℕ)
 links ks = reverse (parents_among (reverse ks))
 
-are_known : (ks : List Known) → IsStore ks → AreKnown ks (links ks)
+pub are_known : (ks : List Known) → IsStore ks → AreKnown ks (links ks)
 are_known ks s = record { apart = apart_back ks s; parents_known = s.parents; linked = reverse-reverse (parents_among (reverse ks)) }
 
 pub known_here : (ks : List Known) (n : ℕ) → n < length ks → is_known ks (known_at ks n).id ≡ true

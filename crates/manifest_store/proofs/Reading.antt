@@ -93,7 +93,7 @@ module _ (ks : List Known) (x : Id) (one : HaveOneParent ks) (there : is_known k
 
 -- ---- of a line whose nodes are held
 
-alone_on : (l : List Known) → IsRight l → (p : Path) → is_dir (files_in l) p ≡ true → tree_at l p ≡ None
+pub alone_on : (l : List Known) → IsRight l → (p : Path) → is_dir (files_in l) p ≡ true → tree_at l p ≡ None
 alone_on [] right p dir = refl
 alone_on (c ∷ older) right p dir = alone c older right p dir
 
@@ -234,6 +234,17 @@ module _ (ks : List Known) (t : Table) (a : AreManifests ks t) where
     un_none e =
         let d = none_told (un_node l p) (λ f. un_node l p) (is_dir (files_in l) p) (tree_at l p) (e ∙ un_told) in
         un_as ks (known_at ks n).id a.store.one_parent known_one p false false (file_is l p None d.1) d.0
+
+    -- ---- whether a file is there
+
+    pub un_found : (id : Id) → Some (UnodeFile id) ≡ walk (unode_entry_under t.nodes) (UnodeDir r.unode) p → (f : File) × (tree_at l p ≡ Some f) × (id ≡ un_node l p)
+    un_found id e = let d = file_told (un_node l p) (λ f. un_node l p) (is_dir (files_in l) p) (tree_at l p) id (e ∙ un_told) in (d.1, d.2, d.3)
+
+    pub un_no_file : (id : Id) → Some (UnodeDir id) ≡ walk (unode_entry_under t.nodes) (UnodeDir r.unode) p → tree_at l p ≡ None
+    un_no_file id e = alone_on l (a.right n less) p (dir_told (un_node l p) (λ f. un_node l p) (is_dir (files_in l) p) (tree_at l p) id (e ∙ un_told)).0
+
+    pub un_missing : None ≡ walk (unode_entry_under t.nodes) (UnodeDir r.unode) p → tree_at l p ≡ None
+    un_missing e = (none_told (un_node l p) (λ f. un_node l p) (is_dir (files_in l) p) (tree_at l p) (e ∙ un_told)).1
 
     -- by whatever entry is there
     pub entry_got : (entry : UnodeEntry) (id : Id) → id ≡ entry_id entry → Some entry ≡ walk (unode_entry_under t.nodes) (UnodeDir r.unode) p → map.get t.nodes id ≡ Some (unode_bytes (unode l p))

@@ -23,16 +23,16 @@ use Rattle.changeset_store.proofs.Places.{known_at-changeset}
 use Rattle.derive_step.specs.declared.job.Parent.{Parent}
 use Rattle.derive_step.specs.declared.job.Job.{Job}
 use Rattle.derive_step.specs.Touched.{is_above}
-use Rattle.derive_step.specs.Views.{Before, before_seen, nodes_before, roots_before}
+use Rattle.derive_step.specs.Views.{first_of, second_of, Before, before_seen, nodes_before, roots_before}
 use Rattle.derive_step.specs.Jobs.{IsRight, IsJobOf, nodes_on, roots_on}
 use Rattle.manifest_store.specs.Lines.{line_at}
 use Rattle.manifest_store.specs.Manifests.{AreManifests, HoldsAll}
-use Rattle.manifest_store.specs.Nodes.{dir_under, dir_from}
+use Rattle.manifest_store.specs.Nodes.{dir_under, dir_from, dir_ids}
 use Rattle.manifest_store.specs.Dirs.{IsFull, IsMore}
 use Rattle.manifest_store.specs.Parents.{root_in, IsParentIn, IsParentOf}
-use Rattle.manifest_store.specs.Jobs.{IsJobOn, is_ready}
+use Rattle.manifest_store.specs.Jobs.{AreDeletionsOf, IsJobOn, is_ready}
 use Rattle.manifest_store.proofs.Lines.{line_step, own_id}
-use Rattle.manifest_store.proofs.Held.{root_there, dirs_are, both}
+use Rattle.manifest_store.proofs.Held.{root_there, dirs_are}
 use Rattle.manifest_store.proofs.Gathered.{Dirs}
 use Rattle.manifest_laws.proofs.Reach.{prefix_push as prefix_snoc}
 
@@ -92,7 +92,7 @@ no_dir_above d p n is h =
 
 -- ---- a parent
 
-pub parent_is : (t : Table) (n : ℕ) (es : List (Path × FileChange)) (p : Parent) (r : Roots) → Some r ≡ map.get t.roots n → dir_under t.nodes r ≡ Some (before_seen p.root) → p.roots ≡ r
+pub parent_is : (t : Table) (n : ℕ) (es : List (Path × FileChange)) (p : Parent) (r : Roots) → Some r ≡ map.get t.roots n → dir_under t.nodes (dir_ids r) ≡ Some (before_seen p.root) → p.roots ≡ r
     → ((d : Path) → list_any (λ e. is_above d e.0) es ≡ true → IsFull t.nodes (before_seen p.root) p.dirs d) → IsParentIn t n es (Some p)
 parent_is t n es p r at under same full = record {
   roots = ap Some same ∙ at ∙ sym (ap (λ o. cond (is_some o) (map.get t.roots n) None) root);
@@ -100,7 +100,7 @@ parent_is t n es p r at under same full = record {
 }
   where
     root : root_in t n ≡ Some (before_seen p.root)
-    root = ap (option_and_then (dir_under t.nodes)) (sym at) ∙ under
+    root = ap (option_and_then (λ r. dir_under t.nodes (dir_ids r))) (sym at) ∙ under
 
     nodes : (d : Path) → ((length d == 0) || list_any (λ e. is_strict_prefix d e.0) es) ≡ true → nodes_before (Some p) d ≡ option_and_then (λ b. dir_from t.nodes b d) (root_in t n)
     nodes [] h = sym (ap (option_and_then (λ b. dir_from t.nodes b [])) root)
@@ -118,41 +118,47 @@ no_parent t n es none = record {
 -- ---- a job
 
 record Shows (m : Nodes) (l : List Known) (o : Option Roots) : Type 0 where
-  roots : cond (is_some (option_and_then (dir_under m) o)) o None ≡ roots_on l
-  nodes : (d : Path) → option_and_then (λ b. dir_from m b d) (option_and_then (dir_under m) o) ≡ nodes_on l d
+  roots : cond (is_some (option_and_then (λ r. dir_under m (dir_ids r)) o)) o None ≡ roots_on l
+  nodes : (d : Path) → option_and_then (λ b. dir_from m b d) (option_and_then (λ r. dir_under m (dir_ids r)) o) ≡ nodes_on l d
 
 shown : (m : Nodes) (l : List Known) → IsRight l → HoldsAll m l → (o : Option Roots) → o ≡ roots_on l → Shows m l o
 shown m [] right held o e = subst (Shows m []) (sym e) (record { roots = refl; nodes = λ d. refl })
 shown m (c ∷ older) right held o e =
     let there = root_there m c older right held in
     subst (Shows m (c ∷ older)) (sym e) (record {
-      roots = ap (λ x. cond (is_some x) (Some (both m c older right held [])) None) there;
+      roots = ap (λ x. cond (is_some x) (roots_on (c ∷ older)) None) there;
       nodes = λ d. ap (option_and_then (λ b. dir_from m b d)) there ∙ dirs_are m c older right held d [] refl;
     })
 
-module _ (ks : List Known) (t : Table) (a : AreManifests ks t) (n : ℕ) (less : n < length ks) (ready : is_ready ks t n ≡ true) (job : Job) (commit : arc_value job.commit ≡ changeset_at ks n) (parent : IsParentOf ks t n (changeset_at ks n).changes job.parent) where
+module _ (ks : List Known) (t : Table) (a : AreManifests ks t) (n : ℕ) (less : n < length ks) (ready : is_ready ks t n ≡ true) (job : Job) (commit : arc_value job.commit ≡ changeset_at ks n) (alone : second_of job.parents ≡ None) (parent : IsParentOf ks t n (changeset_at ks n).changes (first_of job.parents)) (moves : AreDeletionsOf (line_at ks n) job.deletions) where
   abbrev k : Known
   k = known_at ks n
 
-  job_by : (o : Option ℕ) → parent_at ks n ≡ o → option_map_or (is_settled t) o true ≡ true → MatchOption o (job.parent ≡ None) (λ p. IsParentIn t p (changeset_at ks n).changes job.parent) → IsJobOf k (option_map_or (line_at ks) o []) job
-  job_by None e settled none = record {
+  job_by : (o : Option ℕ) → parent_at ks n ≡ o → option_map_or (is_settled t) o true ≡ true → MatchOption o (first_of job.parents ≡ None) (λ p. IsParentIn t p (changeset_at ks n).changes (first_of job.parents)) → AreDeletionsOf (k ∷ option_map_or (line_at ks) o []) job.deletions → IsJobOf k (option_map_or (line_at ks) o []) job
+  job_by None e settled none of = record {
     right = subst IsRight (line_step ks a.store n less ∙ ap (λ o. k ∷ option_map_or (line_at ks) o []) e) (a.right n less);
     changeset = commit ∙ sym (known_at-changeset ks n);
     id = own_id ks a.store n less;
+    alone = alone;
     roots = ap roots_before none;
     nodes = λ d h. ap (λ p. nodes_before p d) none;
+    files = of.files;
+    held = of.held;
   }
-  job_by (Some p) e settled has =
+  job_by (Some p) e settled has of =
       let shows = shown t.nodes (line_at ks p) (a.right p (a.numbered p settled)) (a.held p settled) (map.get t.roots p) (a.roots p settled) in
       record {
         right = subst IsRight (line_step ks a.store n less ∙ ap (λ o. k ∷ option_map_or (line_at ks) o []) e) (a.right n less);
         changeset = commit ∙ sym (known_at-changeset ks n);
         id = own_id ks a.store n less;
+        alone = alone;
         roots = has.roots ∙ shows.roots;
         nodes = λ d h. has.nodes d (ap (λ c. is_renewed c d) (sym (known_at-changeset ks n)) ∙ h) ∙ shows.nodes d;
+        files = of.files;
+        held = of.held;
       }
 
   pub job_is : IsJobOn (line_at ks n) job
   job_is =
       let P : List Known → Type 0 = λ l. IsJobOn l job in
-      subst P (sym (line_step ks a.store n less)) (job_by (parent_at ks n) refl (and_parts (not (is_settled t n)) (option_map_or (is_settled t) (parent_at ks n) true) ready).1 parent)
+      subst P (sym (line_step ks a.store n less)) (job_by (parent_at ks n) refl (and_parts (not (is_settled t n)) (option_map_or (is_settled t) (parent_at ks n) true) ready).1 parent (subst (λ (l : List Known). AreDeletionsOf l job.deletions) (line_step ks a.store n less) moves))

@@ -6,3 +6,7 @@ pub mod Settling
 pub mod Nodes
 pub mod Dirs
 pub mod Parents
+pub mod PathLines
+pub mod Moves
+pub mod Levels
+pub mod Holding

@@ -13,10 +13,10 @@ use Rattle.node_table.specs.Table.{Table}
 use Rattle.changeset_store.specs.Store.{parent_at}
 use Rattle.derive_step.specs.declared.job.Parent.{Parent}
 use Rattle.derive_step.specs.Views.{Before, nodes_before, roots_before}
-use Rattle.manifest_store.specs.Nodes.{dir_under, dir_from}
+use Rattle.manifest_store.specs.Nodes.{dir_under, dir_from, dir_ids}
 
 abbrev pub root_in : Table → ℕ → Option Before
-root_in t n = option_and_then (dir_under t.nodes) (map.get t.roots n)
+root_in t n = option_and_then (λ r. dir_under t.nodes (dir_ids r)) (map.get t.roots n)
 
 pub record IsParentIn (t : Table) (n : ℕ) (es : List (Path × FileChange)) (parent : Option Parent) : Type 0 where
   pub roots : roots_before parent ≡ (if is_some (root_in t n) then map.get t.roots n else None)

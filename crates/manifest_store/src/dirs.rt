@@ -7,16 +7,16 @@ ghost use Rattle.changeset_model.specs.Path.{Path, elements, is_path};
 ghost use Rattle.derive_step.specs.Touched.{is_above};
 ghost use Rattle.derive_step.specs.Renewal.{before_of};
 ghost use Rattle.derive_step.specs.Views.{before_seen};
-ghost use Rattle.manifest_store.specs.Nodes.{child_under as child_in_table, dir_from};
+ghost use Rattle.manifest_store.specs.Nodes.{child_under as child_in_table, dir_from, dir_ids};
 ghost use Rattle.manifest_store.specs.Dirs.{AreDirs, AreFull, IsFull, IsMore, found};
 ghost use Rattle.manifest_store.specs.Parents.{IsParentIn};
 ghost use Rattle.manifest_store.specs.Reads.{dir_of};
 
-use crate::nodes::{child_roots, dir_under};
+use crate::nodes::{child_ids, dir_under};
 use crate::place::{front_of, parted};
 use bonsai::Edit;
-use derive_step::{DirNodes, Parent, text_above};
-use node_table::NodeTable;
+use derive_step::{DirIds, DirNodes, Parent, text_above};
+use node_table::{NodeTable, Roots};
 use repo_path::{RepoPath, has_elements, path_of};
 use std::alloc::{AllocError, Global};
 use std::collections::BTreeMap;
@@ -36,12 +36,22 @@ pub(crate) fn parent_nodes(
     let Some(roots) = table.roots(number) else {
         return Ok(None);
     };
-    let Some(root) = dir_under(alloc, table, &roots)? else {
+    let Some(root) = dir_under(alloc, table, &ids_of(&roots))? else {
         return Ok(None);
     };
     let mut dirs = BTreeMap::new(alloc);
     add_all_above(alloc, table, &root, edits, &mut dirs)?;
     Ok(Some(Parent { roots, root, dirs }))
+}
+
+// The ids of the root's fsnode and unode.
+fn ids_of(roots: &Roots) -> DirIds
+    ensures { result ≡ dir_ids roots.now }
+{
+    DirIds {
+        fsnode: roots.fsnode,
+        unode: roots.unode,
+    }
 }
 
 // Adds the directories above edits. Neighbours often lie in one directory.
@@ -159,7 +169,7 @@ fn child_under(
     let Some(nodes) = nodes else {
         return Ok(None);
     };
-    match child_roots(nodes, name) {
+    match child_ids(nodes, name) {
         Some(ids) => dir_under(alloc, table, &ids),
         None => Ok(None),
     }

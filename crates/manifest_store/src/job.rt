@@ -1,18 +1,24 @@
 //! The next job of a chain.
-ghost use Rattle.std.specs.Prelude.{◌≡◌, ◌<◌, ℕ, true, false, length, IfOk, IfSome, IfNone};
+ghost use Rattle.std.specs.Prelude.{◌≡◌, ◌<◌, ℕ, None, true, false, length, IfOk, IfSome, IfNone};
+ghost use Rattle.std.specs.Option.{option_and_then};
+ghost use Rattle.std.specs.FinMap as map;
 ghost use Rattle.bonsai.specs.View.{edits_view};
 ghost use Rattle.node_table.specs.Table.{is_settled};
 ghost use Rattle.changeset_store.specs.Fork.{IsAncestor};
 ghost use Rattle.manifest_store.specs.Lines.{line_at};
 ghost use Rattle.manifest_store.specs.Manifests.{AreManifests};
-ghost use Rattle.manifest_store.specs.Jobs.{IsJobOn, IsNext, is_ready as is_ready_in};
+ghost use Rattle.changeset_store.specs.Store.{changeset_at, parent_at};
+ghost use Rattle.derive_step.specs.Views.{first_of, second_of};
+ghost use Rattle.manifest_store.specs.Jobs.{AreDeletionsOf, IsJobOn, IsNext, is_ready as is_ready_in};
 ghost use Rattle.manifest_store.specs.Parents.{IsParentOf};
 
+use crate::deletions::deletions_from;
 use crate::dirs::parent_nodes;
 use crate::store::ManifestStore;
 use bonsai::Edit;
 use changeset_store::ChangesetStore;
-use derive_step::{Job, Parent};
+use derive_step::{Deletions, Job, Parent, Parents};
+use node_table::Roots;
 use std::alloc::{AllocError, Global};
 
 // The binary digits of a distance in a chain, which has at most 2,147,483,648 changesets.
@@ -96,11 +102,38 @@ impl ManifestStore {
         let commit = changesets.shared_at(number)?;
         let edits = commit.changeset().edits();
         let parent = self.parent_of(alloc, changesets, number, edits)?;
+        let deletions = self.deletions_of(alloc, changesets, number, edits)?;
         Ok(Job {
             number,
             commit,
-            parent,
+            parents: parents_of(parent),
+            deletions,
         })
+    }
+
+    // What a job with these edits has of the files that come and go.
+    fn deletions_of(
+        &self,
+        alloc: Global,
+        changesets: &ChangesetStore,
+        number: u32,
+        edits: &[Edit],
+    ) -> Result<Deletions, AllocError>
+        requires manifests { AreManifests changesets.now.known self.now }
+        requires known { number < length changesets.now.known }
+        requires ready { is_ready_in changesets.now.known self.now number ≡ true }
+        requires edits { edits_view edits.now ≡ (changeset_at changesets.now.known number).changes }
+        ensures { IfOk result (λ deletions. AreDeletionsOf (line_at changesets.now.known number) deletions) }
+    {
+        let roots = self.parent_roots(changesets, number);
+        deletions_from(alloc, &self.table, &roots, edits)
+    }
+
+    fn parent_roots(&self, changesets: &ChangesetStore, number: u32) -> Option<Roots>
+        requires { number < length changesets.now.known }
+        ensures { result ≡ option_and_then (λ p. map.get self.now.roots p) (parent_at changesets.now.known number) }
+    {
+        self.table.roots(changesets.parent(number)?)
     }
 
     // What a job with these edits needs of the parent, if there is one.
@@ -118,5 +151,16 @@ impl ManifestStore {
             Some(parent) => parent_nodes(alloc, &self.table, parent, edits),
             None => Ok(None),
         }
+    }
+}
+
+// No parent, or one.
+fn parents_of(parent: Option<Parent>) -> Parents
+    ensures first { first_of result ≡ parent }
+    ensures alone { second_of result ≡ None }
+{
+    match parent {
+        Some(parent) => Parents::One(parent),
+        None => Parents::Absent,
     }
 }

@@ -7,14 +7,14 @@ ghost use Rattle.history_model.specs.Past.{HaveOneParent};
 ghost use Rattle.history_model.specs.Journal.{Header};
 ghost use Rattle.reply_model.specs.After.{Answers, Derives, nothing};
 ghost use Rattle.reply_model.specs.After as after;
-ghost use Rattle.reply_model.specs.Reply.{Absent, SeenBytes, SeenIds, seen_fsnode, seen_unode, seen_history};
+ghost use Rattle.reply_model.specs.Reply.{Absent, SeenBytes, SeenIds, seen_deleted, seen_fsnode, seen_unode, seen_history, seen_path_log};
 ghost use Rattle.node_table.specs.Table.{Table};
 ghost use Rattle.node_table.specs.declared.roots.Roots.{Roots};
 ghost use Rattle.changeset_store.specs.Store.{number_in};
 ghost use Rattle.derive_step.specs.Jobs.{roots_on};
 ghost use Rattle.manifest_store.specs.Lines.{line_at, IsStore};
 ghost use Rattle.manifest_store.specs.Manifests.{AreManifests, AreRight};
-ghost use Rattle.manifest_store.specs.Reads.{fsnode_by, unode_by, history_by};
+ghost use Rattle.manifest_store.specs.Reads.{deleted_by, fsnode_by, unode_by, history_by, path_log_by};
 
 /// Where more changesets become known, those before keep their lines, so that their jobs and manifests stay right.
 pub fn manifests_stay_where_more_is_known()
@@ -28,11 +28,15 @@ pub fn what_is_read_is_what_is_seen()
     ensures no_fsnode { (h : List Entry) (x : Id) (d : Path) (absent : Absent) → fsnode_by (known h) x d ≡ Err absent → seen_fsnode h x d ≡ Err absent }
     ensures unode { (h : List Entry) (x : Id) (p : Path) (bytes : List ℕ) → unode_by (known h) x p ≡ Ok bytes → seen_unode h x p ≡ Ok (SeenBytes bytes) }
     ensures no_unode { (h : List Entry) (x : Id) (p : Path) (absent : Absent) → unode_by (known h) x p ≡ Err absent → seen_unode h x p ≡ Err absent }
+    ensures deleted { (h : List Entry) (x : Id) (p : Path) (bytes : List ℕ) → deleted_by (known h) x p ≡ Ok bytes → seen_deleted h x p ≡ Ok (SeenBytes bytes) }
+    ensures no_deleted { (h : List Entry) (x : Id) (p : Path) (absent : Absent) → deleted_by (known h) x p ≡ Err absent → seen_deleted h x p ≡ Err absent }
     ensures history { (h : List Entry) (x : Id) (p : Path) (ids : List Id) → history_by (known h) x p ≡ Ok ids → seen_history h x p ≡ Ok (SeenIds ids) }
     ensures no_history { (h : List Entry) (x : Id) (p : Path) (absent : Absent) → history_by (known h) x p ≡ Err absent → seen_history h x p ≡ Err absent }
+    ensures path_log { (h : List Entry) (x : Id) (p : Path) (ids : List Id) → path_log_by (known h) x p ≡ Ok ids → seen_path_log h x p ≡ Ok (SeenIds ids) }
+    ensures no_path_log { (h : List Entry) (x : Id) (p : Path) (absent : Absent) → path_log_by (known h) x p ≡ Err absent → seen_path_log h x p ≡ Err absent }
 {}
 
 /// Where no known changeset has two parents, the root nodes of one answer the request to derive its manifests.
 pub fn roots_are_what_is_answered()
-    ensures { (header : Header) (h : List Entry) (x : Id) (n : ℕ) (roots : Roots) → HaveOneParent (known h) → number_in (known h) x ≡ Some n → Some roots ≡ roots_on (line_at (known h) n) → Answers header h (Derives x) (after.Roots roots.fsnode roots.unode) nothing }
+    ensures { (header : Header) (h : List Entry) (x : Id) (n : ℕ) (roots : Roots) → HaveOneParent (known h) → number_in (known h) x ≡ Some n → Some roots ≡ roots_on (line_at (known h) n) → Answers header h (Derives x) (after.Roots roots.fsnode roots.unode roots.deleted) nothing }
 {}

@@ -2,16 +2,22 @@
 //! derived of one put in, and the reads of a settled changeset.
 #![tactic(auto)]
 
+mod deletions;
 mod dirs;
 pub mod fault;
 mod history;
+mod holding;
 mod job;
 pub mod laws;
+mod links;
+mod logs;
+mod moves;
 mod nodes;
 mod place;
 mod reads;
 mod settle;
 pub mod store;
+mod under;
 mod walk;
 
 pub use fault::ManifestFault;

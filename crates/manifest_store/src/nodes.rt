@@ -9,12 +9,12 @@ ghost use Rattle.fsnode.specs.Views.{fsnode_seen};
 ghost use Rattle.unode.specs.Parts.{entry_seen as unode_entry_seen, children_seen as unode_children_seen};
 ghost use Rattle.unode.specs.Views.{manifest_seen};
 ghost use Rattle.derive_step.specs.Views.{before_seen};
-ghost use Rattle.manifest_store.specs.Nodes.{fsnode_under as fsnode_in_table, manifest_under as manifest_in_table, dir_under as dir_in_table, child_roots as roots_of_child};
+ghost use Rattle.manifest_store.specs.Nodes.{fsnode_under as fsnode_in_table, manifest_under as manifest_in_table, dir_under as dir_in_table, child_ids as ids_of_child};
 
-use derive_step::DirNodes;
+use derive_step::{DirIds, DirNodes};
 use fsnode::{FsChild, FsEntry, Fsnode};
 use node_fields::NodeFault;
-use node_table::{NodeTable, Roots};
+use node_table::NodeTable;
 use object_id::Id;
 use std::alloc::{AllocError, Global};
 use unode::{Unode, UnodeChild, UnodeEntry, UnodeManifest};
@@ -59,7 +59,7 @@ pub(crate) fn manifest_under(
 pub(crate) fn dir_under(
     alloc: Global,
     table: &NodeTable,
-    ids: &Roots,
+    ids: &DirIds,
 ) -> Result<Option<DirNodes>, AllocError>
     ensures { IfOk result (λ nodes. option_map before_seen nodes ≡ dir_in_table table.now.nodes ids.now) }
 {
@@ -77,8 +77,8 @@ pub(crate) fn dir_under(
 }
 
 /// The ids of the nodes of a directory in this one.
-pub(crate) fn child_roots(nodes: &DirNodes, name: &str) -> Option<Roots>
-    ensures { result ≡ roots_of_child (before_seen nodes.now) name.now }
+pub(crate) fn child_ids(nodes: &DirNodes, name: &str) -> Option<DirIds>
+    ensures { result ≡ ids_of_child (before_seen nodes.now) name.now }
 {
     let FsEntry::Directory { id, .. } = fs_entry(&nodes.fsnode, name)? else {
         return None;
@@ -86,7 +86,7 @@ pub(crate) fn child_roots(nodes: &DirNodes, name: &str) -> Option<Roots>
     let UnodeEntry::Directory(unode) = unode_entry(&nodes.unode, name)? else {
         return None;
     };
-    Some(Roots { fsnode: id, unode })
+    Some(DirIds { fsnode: id, unode })
 }
 
 /// The entry of a name in an fsnode.

@@ -4,11 +4,13 @@ ghost use Rattle.byte_fields.specs.Bytes.{Id as IdBytes};
 ghost use Rattle.manifest_model.specs.Unode.{UnodeEntry as ModelEntry, UnodeDir};
 ghost use Rattle.fsnode.specs.Parts.{entry_seen as fs_entry_seen};
 ghost use Rattle.unode.specs.Parts.{entry_seen};
-ghost use Rattle.manifest_store.specs.Nodes.{entry_of as entry_of_fs, fs_entry_under, unode_entry_under, walk as walked};
+ghost use Rattle.deleted_node.specs.Parts.{entry_seen as deleted_entry_seen};
+ghost use Rattle.manifest_store.specs.Nodes.{entry_of as entry_of_fs, deleted_entry_under, fs_entry_under, unode_entry_under, walk as walked};
 ghost use Rattle.manifest_store.specs.Dirs.{left};
 ghost use Rattle.manifest_store.specs.Reads.{dir_of};
 
 use crate::place::parted;
+use deleted_node::DeletedEntry;
 use fsnode::FsEntry;
 use node_table::NodeTable;
 use object_id::Id;
@@ -55,6 +57,32 @@ impl<'a> Tree for Unodes<'a> {
             Some(bytes) => unode::entry_in(bytes, name),
             None => None,
         }
+    }
+}
+
+/// The deleted nodes of a table. Each has its entries, as a directory.
+#[derive(Clone, Copy)]
+pub(crate) struct DeletedNodes<'a> {
+    pub(crate) table: &'a NodeTable,
+}
+
+impl<'a> Tree for DeletedNodes<'a> {
+    ghost look = { λ t x n. deleted_entry_under t.table.now.nodes x n };
+
+    fn entry(&self, dir: &Id, name: &str) -> Option<UnodeEntry> {
+        match self.table.get(dir) {
+            Some(bytes) => entry_of_deleted(deleted_node::entry_in(bytes, name)),
+            None => None,
+        }
+    }
+}
+
+fn entry_of_deleted(entry: Option<DeletedEntry>) -> Option<UnodeEntry>
+    ensures { option_map entry_seen result ≡ option_map UnodeDir (option_map deleted_entry_seen entry) }
+{
+    match entry {
+        Some(entry) => Some(UnodeEntry::Directory(entry.id)),
+        None => None,
     }
 }
 
