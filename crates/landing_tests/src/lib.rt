@@ -1,7 +1,10 @@
-//! A landing that was planned on a repository in a file, between whose plan and entry another seat moves the bookmark.
+//! Landings on a repository in a file: one that was planned, between whose plan and entry another seat moves the bookmark or
+//! sets a policy, and those that a policy decides on.
 #![tactic(auto)]
 
 #[cfg(test)]
 mod moves;
+#[cfg(test)]
+mod policies;
 #[cfg(test)]
 mod repository;

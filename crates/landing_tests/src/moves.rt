@@ -1,9 +1,9 @@
-//! Seat 1 plans a landing on `main`, seat 2 moves `main`, and seat 1 enters what it planned. The ids and digits are those
-//! of an independent computation.
+//! Seat 1 plans a landing on `main`, seat 2 moves `main` and may set a policy, and seat 1 enters what it planned. The ids and
+//! digits are those of an independent computation.
 ghost use mathlib.Core.List.{IsPrefix};
 ghost use Rattle.repo_machine.specs.Plans.{WasPlanned};
 
-use crate::repository::{id, make_changes, new_repository, store};
+use crate::repository::{Names, id, make_changes, names_of, new_repository, store};
 use blob_disk::MemDisk;
 use object_id::Id;
 use repo_calls::Ask;
@@ -14,15 +14,15 @@ use std::alloc::Global;
 use std::process::Abort;
 use std::test::Fail;
 
-const ROOT: &str = "ffb74880ae0d3038b6e6e402ea0840634c79efb3c927e280d44f36567ece7169";
+pub(crate) const ROOT: &str = "ffb74880ae0d3038b6e6e402ea0840634c79efb3c927e280d44f36567ece7169";
 
 // It sets `x`, and `main` stands there.
 const HEAD: &str = "6f0fd4791e9901030b778dc51bebc28effb042f328726c7f1689026f5b9c68c8";
 
 // It sets `p` upon the root.
-const DRAFT: &str = "e8795b6f358309976a85a48b88590a7b77ffcdc1ce55d29a761853d4ff0669f0";
+pub(crate) const DRAFT: &str = "e8795b6f358309976a85a48b88590a7b77ffcdc1ce55d29a761853d4ff0669f0";
 
-const CHANGES: &str = "\
+pub(crate) const CHANGES: &str = "\
 content abc
 change 4301000001610000000000000000000000000000000000000000
 change 430101ffb74880ae0d3038b6e6e402ea0840634c79efb3c927e280d44f36567ece7169000161000000000000000000000000000000000000000100017801000000000000000003ba7816bf8f01cfea414140de5dae2223b00361a396177a9cb410ff61f20015ad
@@ -32,6 +32,12 @@ main 6f0fd4791e9901030b778dc51bebc28effb042f328726c7f1689026f5b9c68c8";
 // The draft upon the head, as the eighth entry after two moves.
 const LANDED: &str = "8 landed 8cbb3b3397243d01a0b36181700e1e2aeb37da1bdb3904478b305a9f9b55b8de";
 
+// The same as the ninth, after a policy that allows it.
+const ALLOWED: &str = "9 landed 8cbb3b3397243d01a0b36181700e1e2aeb37da1bdb3904478b305a9f9b55b8de";
+
+// Nothing after a policy that doesn't.
+const DENIED: &str = "8 Denied { place: Path(p), rule: Some(0) }";
+
 // Nothing after the first move, since the second is to where `main` stands.
 const MOVED: &str = "6 moved ffb74880ae0d3038b6e6e402ea0840634c79efb3c927e280d44f36567ece7169";
 
@@ -39,16 +45,36 @@ const MOVED: &str = "6 moved ffb74880ae0d3038b6e6e402ea0840634c79efb3c927e280d44
 fn move_main(
     alloc: Global,
     state: &mut RepoState<MemDisk>,
-    main: &BookName,
+    names: &Names,
     from: &str,
     to: &str,
 ) -> Result<(), Fail>
     ensures { IsPrefix state.old.history state.new.history }
 {
     let ask = Ask::SetBookmark {
-        name: main,
+        caller: &names.caller,
+        name: &names.main,
         from: id(from),
         to: id(to),
+    };
+    store(alloc, state, &ask)
+}
+
+// Sets this policy for seat 2, unless it is empty.
+fn set_policy(
+    alloc: Global,
+    state: &mut RepoState<MemDisk>,
+    caller: &BookName,
+    policy: &str,
+) -> Result<(), Fail>
+    ensures { IsPrefix state.old.history state.new.history }
+{
+    if policy.is_empty() {
+        return Ok(());
+    }
+    let ask = Ask::SetPolicy {
+        caller,
+        text: policy.as_bytes(),
     };
     store(alloc, state, &ask)
 }
@@ -61,18 +87,20 @@ fn enter(alloc: Global, state: &mut RepoState<MemDisk>, rebased: Rebased) -> Res
     Ok(state.exchange(1, rebased))
 }
 
-// Moves `main` to the root and from there to this head, and enters what was planned.
+// Moves `main` to the root and from there to this head, sets a policy, and enters what was planned.
 fn enter_after_moves(
     alloc: Global,
     state: &mut RepoState<MemDisk>,
-    main: &BookName,
+    names: &Names,
     last: &str,
+    policy: &str,
     rebased: Rebased,
 ) -> Result<Exchanged, Fail>
     requires { WasPlanned state.old.history rebased }
 {
-    move_main(alloc, state, main, HEAD, ROOT)?;
-    move_main(alloc, state, main, ROOT, last)?;
+    move_main(alloc, state, names, HEAD, ROOT)?;
+    move_main(alloc, state, names, ROOT, last)?;
+    set_policy(alloc, state, &names.caller, policy)?;
     enter(alloc, state, rebased)
 }
 
@@ -80,15 +108,16 @@ fn enter_after_moves(
 fn land_between(
     alloc: Global,
     state: &mut RepoState<MemDisk>,
-    main: &BookName,
+    names: &Names,
     draft: Id,
     last: &str,
+    policy: &str,
 ) -> Result<Exchanged, Fail> {
-    let Ok(plan) = state.plan(alloc, main, draft) else {
+    let Ok(plan) = state.plan(alloc, &names.caller, &names.main, draft) else {
         return Err(Fail::from("a plan"));
     };
     let rebased = plan.rebased(alloc, 0)?;
-    enter_after_moves(alloc, state, main, last, rebased)
+    enter_after_moves(alloc, state, names, last, policy, rebased)
 }
 
 // How many entries there are, and what was told.
@@ -96,44 +125,54 @@ fn told(alloc: Global, entries: u64, exchanged: &Exchanged) -> Result<String, Fa
     let (word, id) = match exchanged {
         Exchanged::Landed(landed) => ("landed", landed.ids.last().copied()),
         Exchanged::HeadMoved { found } => ("moved", *found),
-        Exchanged::Refused(_) => ("refused", None),
+        Exchanged::Refused(refusal) => {
+            return Ok(format!(in alloc; "{entries} {refusal:?}")?);
+        }
     };
     let id = id.ok_or("an id")?.to_hex(alloc)?;
     Ok(format!(in alloc; "{entries} {word} {id}")?)
 }
 
-fn main_name(alloc: Global) -> Result<BookName, Fail> {
-    Ok(BookName::parse(alloc, "main")?)
-}
-
 fn attempt_in(
     alloc: Global,
     state: &mut RepoState<MemDisk>,
-    main: &BookName,
+    names: &Names,
     last: &str,
+    policy: &str,
 ) -> Result<String, Fail> {
-    make_changes(alloc, state, main, CHANGES)?;
+    make_changes(alloc, state, names, CHANGES)?;
     let draft = id(DRAFT).ok_or("a draft")?;
-    let exchanged = land_between(alloc, state, main, draft, last)?;
+    let exchanged = land_between(alloc, state, names, draft, last, policy)?;
     told(alloc, state.history_length(), &exchanged)
 }
 
-fn attempt(alloc: Global, last: &str) -> Result<String, Fail> {
-    let main = main_name(alloc)?;
+fn attempt(alloc: Global, last: &str, policy: &str) -> Result<String, Fail> {
+    let names = names_of(alloc, "anonymous")?;
     let mut state = new_repository(alloc)?;
-    attempt_in(alloc, &mut state, &main, last)
+    attempt_in(alloc, &mut state, &names, last, policy)
 }
 
-fn check(rt: &(impl Abort + Alloc<A = Global>), last: &str, wanted: &str) -> Result<(), Fail> {
-    let told = attempt(rt.alloc(), last)?;
+fn check(
+    rt: &(impl Abort + Alloc<A = Global>),
+    last: &str,
+    policy: &str,
+    wanted: &str,
+) -> Result<(), Fail> {
+    let told = attempt(rt.alloc(), last, policy)?;
     assert_eq!(rt; told.as_str(), wanted);
     Ok(())
 }
 
 #[test]
 fn a_plan_is_entered_where_main_has_its_head_again(rt: HostRuntime) -> Result<(), Fail> {
-    check(&rt, HEAD, LANDED)?;
-    check(&rt, ROOT, MOVED)
+    check(&rt, HEAD, "", LANDED)?;
+    check(&rt, ROOT, "", MOVED)
+}
+
+#[test]
+fn a_policy_decides_on_what_was_planned_before(rt: HostRuntime) -> Result<(), Fail> {
+    check(&rt, HEAD, "allow * /\n", ALLOWED)?;
+    check(&rt, HEAD, "deny * p\nallow * /\n", DENIED)
 }
 
 // How many entries are sealed before and after all of them are to be, and whether that was done.
@@ -146,9 +185,9 @@ fn seal_all(alloc: Global, state: &mut RepoState<MemDisk>) -> Result<String, Fai
 }
 
 fn changes_sealed(alloc: Global) -> Result<String, Fail> {
-    let main = main_name(alloc)?;
+    let names = names_of(alloc, "anonymous")?;
     let mut state = new_repository(alloc)?;
-    make_changes(alloc, &mut state, &main, CHANGES)?;
+    make_changes(alloc, &mut state, &names, CHANGES)?;
     seal_all(alloc, &mut state)
 }
 

@@ -37,6 +37,21 @@ fn open_file<D: Disk>(alloc: Global, keys: RandomState, disk: D) -> Result<RepoS
     Ok(RepoState::new(alloc, machine, journal, disk))
 }
 
+/// The bookmark `main`, and who moves it and lands on it.
+#[derive(Drop)]
+pub(crate) struct Names {
+    pub(crate) main: BookName,
+    pub(crate) caller: BookName,
+}
+
+/// The name `main`, and this caller's.
+pub(crate) fn names_of(alloc: Global, caller: &str) -> Result<Names, Fail> {
+    Ok(Names {
+        main: BookName::parse(alloc, "main")?,
+        caller: BookName::parse(alloc, caller)?,
+    })
+}
+
 /// A new repository of 65,536 bytes at most.
 pub(crate) fn new_repository(alloc: Global) -> Result<RepoState<MemDisk>, Fail> {
     let mut disk = new_disk(alloc)?;
@@ -54,12 +69,12 @@ pub(crate) fn id(digits: &str) -> Option<Id> {
 pub(crate) fn make_changes(
     alloc: Global,
     state: &mut RepoState<MemDisk>,
-    main: &BookName,
+    names: &Names,
     script: &str,
 ) -> Result<(), Fail> {
     for line in script.lines() {
         let (word, rest) = line.split_once(" ").ok_or("a line")?;
-        make_change(alloc, state, main, word, rest)?;
+        make_change(alloc, state, names, word, rest)?;
     }
     Ok(())
 }
@@ -67,7 +82,7 @@ pub(crate) fn make_changes(
 fn make_change(
     alloc: Global,
     state: &mut RepoState<MemDisk>,
-    main: &BookName,
+    names: &Names,
     word: &str,
     rest: &str,
 ) -> Result<(), Fail> {
@@ -79,7 +94,8 @@ fn make_change(
         }
         _ => {
             let ask = Ask::SetBookmark {
-                name: main,
+                caller: &names.caller,
+                name: &names.main,
                 from: None,
                 to: id(rest),
             };

@@ -10,7 +10,7 @@ use Rattle.changeset_model.specs.Changeset.{Changeset, CopySource, copies_of, sp
 use Rattle.history_model.specs.History.{Entry, content_len, stored, whole_parts, known, changeset_of}
 use Rattle.history_model.specs.Journal.{Header}
 use Rattle.reply_model.specs.Reply as reply
-use Rattle.reply_model.specs.Reply.{◌>>=◌, ContentOf, ChangesetOf, CopiesOf, LogFrom, SeenLog, page_len, Seen, SeenBytes, SeenCopies, seen_copies, Absent, AbsentContent, AbsentChangeset}
+use Rattle.reply_model.specs.Reply.{◌>>=◌, ContentOf, ChangesetOf, CopiesOf, LogFrom, PolicyOf, policy_asked, SeenLog, page_len, Seen, SeenBytes, SeenCopies, seen_copies, Absent, AbsentContent, AbsentChangeset}
 use Rattle.reply_model.specs.Log.{log_lines}
 use Rattle.repo_calls.specs.declared.log.LogPage.{LogPage}
 use Rattle.repo_calls.specs.Calls.{lines_seen, refused}
@@ -61,6 +61,7 @@ module _ (header : Header) (h : List Entry) (x : Id) where
   copies_not_seen asked.NoPath a = (refl, lacks reply.NoPath (changeset_of (known h) x) a.1)
   copies_not_seen asked.NotADir a = (refl, lacks reply.NotADir (changeset_of (known h) x) a.1)
   copies_not_seen asked.NotAFile a = (refl, lacks reply.NotAFile (changeset_of (known h) x) a.1)
+  copies_not_seen asked.NoPolicy a = (refl, lacks reply.NoPolicy (changeset_of (known h) x) a.1)
   copies_not_seen (asked.Collision id) a = absurd a.1
   copies_not_seen asked.ReadFault a = absurd a
   copies_not_seen (asked.BadBytes wanted found) a = absurd a
@@ -74,6 +75,14 @@ copies_lack header h x fault why = (fault_answer fault, refl, by why)
     by (inl memory) = subst (λ f. Answers header h (Looks (CopiesOf x)) (fault_answer f) nothing) (sym memory) refl
     by (inr lacks) = subst (λ f. Answers header h (Looks (CopiesOf x)) (fault_answer f) nothing) (sym lacks.0) (refl, sym lacks.1)
 
+-- ---- policies
+
+pub policy_answered : (header : Header) (h : List Entry) (number : Option ℕ) (text bytes : List ℕ) → policy_asked h number ≡ Some text → bytes ≡ text → Answers header h (Looks (PolicyOf number)) (Shows (SeenBytes bytes)) nothing
+policy_answered header h number text bytes asked same = (refl, ap (λ b. Ok (SeenBytes b)) same ∙ sym (ap (λ o. ok_or o reply.NoPolicy >>= λ text. Ok (SeenBytes text)) asked))
+
+pub no_policy : (header : Header) (h : List Entry) (number : Option ℕ) → policy_asked h number ≡ None → Answers header h (Looks (PolicyOf number)) (fault_answer asked.NoPolicy) nothing
+no_policy header h number none = (refl, sym (ap (λ o. ok_or o reply.NoPolicy >>= λ text. Ok (SeenBytes text)) none))
+
 -- ---- refusals
 
 -- want of memory is no refusal of the definitions
@@ -83,9 +92,14 @@ refused_as (refusals.TooLong n) = inl (_, refl)
 refused_as (refusals.BadEncoding at) = inl (_, refl)
 refused_as (refusals.SelfConflict short long) = inl (_, refl)
 refused_as refusals.Merge = inl (_, refl)
+refused_as (refusals.BadParts n) = inl (_, refl)
+refused_as refusals.OldFormat = inl (_, refl)
+refused_as (refusals.NoPiece x) = inl (_, refl)
+refused_as (refusals.NotAPiece x) = inl (_, refl)
 refused_as (refusals.NoParent x) = inl (_, refl)
 refused_as (refusals.NoContent path x) = inl (_, refl)
 refused_as (refusals.WrongSize path wanted found) = inl (_, refl)
+refused_as (refusals.Unresolved path) = inl (_, refl)
 refused_as (refusals.Collision x) = inl (_, refl)
 refused_as (refusals.NoChangeset x) = inl (_, refl)
 refused_as (refusals.Moved found) = inl (_, refl)
@@ -94,8 +108,12 @@ refused_as refusals.NoRoot = inl (_, refl)
 refused_as (refusals.TooFarBehind distance) = inl (_, refl)
 refused_as refusals.AlreadyIn = inl (_, refl)
 refused_as (refusals.StackTooLong count) = inl (_, refl)
+refused_as (refusals.MergeInStack x) = inl (_, refl)
+refused_as (refusals.MergeInRange x) = inl (_, refl)
+refused_as (refusals.Denied place rule) = inl (_, refl)
 refused_as (refusals.Clash left right) = inl (_, refl)
 refused_as (refusals.TooLarge n) = inl (_, refl)
+refused_as (refusals.BadPolicy line) = inl (_, refl)
 refused_as (refusals.Full size n) = inl (_, refl)
 refused_as refusals.Memory = inr refl
 

@@ -9,7 +9,7 @@ use Rattle.history_model.specs.History.{Entry, Land, is_down, known, is_known}
 use Rattle.history_model.specs.Bookmark.{head}
 use Rattle.history_model.specs.Pushrebase.{Fork, fork, clash, rewrite, moment_of}
 use Rattle.history_model.specs.Journal.{Header, payload_len, most_payload, size, is_full}
-use Rattle.reply_model.specs.Reply.{LandDraft, Refusal, Down, Full, Collision, NoChangeset, NoBookmark, NoRoot, TooFarBehind, AlreadyIn, StackTooLong, MergeInStack, MergeInRange, is_merge, told, Clash, TooLarge, Granted, Landed, Judged, ◌>>=◌, refuse_if, refuse_some, entered, first_collision, most_range, most_stack, land, judge}
+use Rattle.reply_model.specs.Reply.{LandDraft, Refusal, Down, Full, Collision, NoChangeset, NoBookmark, NoRoot, TooFarBehind, AlreadyIn, StackTooLong, MergeInStack, MergeInRange, is_merge, told, denial, denied_at, Clash, TooLarge, Granted, Landed, Judged, ◌>>=◌, refuse_if, refuse_some, entered, first_collision, most_range, most_stack, land, judge}
 use Rattle.opening_laws.proofs.Made.{at_most, not_refused}
 use Rattle.reply_model.proofs.Parents.{none_refused as was_none, was_some}
 
@@ -40,6 +40,7 @@ pub record IsGranted (header : Header) (h : List Entry) (caller name : List ℕ)
   pub forks : fork (known h) old draft ≡ Some fork_is
   pub some : 0 < length fork_is.stack
   pub few : length fork_is.stack ≤ most_stack
+  pub allowed : denied_at h caller (touched_paths fork_is.stack) ≡ None
   pub apart : clash (touched_paths fork_is.stack) (touched_paths fork_is.range) ≡ None
   pub alone : first_collision (known h) (rewrite fork_is.stack old moment) ≡ None
   pub judged_is : judged ≡ record { granted = granted_of (landing_of h caller name old draft moment fork_is); made = Some (Land (landing_of h caller name old draft moment fork_is)) }
@@ -56,6 +57,7 @@ land_says header h caller name draft moment =
     through P (refuse_if (nat_lt most_stack (length f.stack)) (StackTooLong (length f.stack))) _ (λ v d.
     through P (refuse_some (option_map id_of (find is_merge f.stack)) MergeInStack) _ (λ _ _.
     through P (refuse_some (option_map id_of (find is_merge f.range)) MergeInRange) _ (λ _ _.
+    through P (refuse_some (denied_at h caller (touched_paths f.stack)) denial) _ (λ y k.
     through P (refuse_some (clash (touched_paths f.stack) (touched_paths f.range)) (λ pair. Clash pair.0 pair.1)) _ (λ w e.
     let l = landing_of h caller name old draft moment f in
     through P (refuse_if (nat_lt most_payload (payload_len (Land l))) (TooLarge (payload_len (Land l)))) _ (λ _ _.
@@ -69,12 +71,13 @@ land_says header h caller name draft moment =
         forks = was_some (fork (known h) old draft) NoRoot f b;
         some = is_some (length f.stack) AlreadyIn u c;
         few = at_most most_stack (length f.stack) (StackTooLong (length f.stack)) v d;
+        allowed = was_none (denied_at h caller (touched_paths f.stack)) denial y k;
         apart = was_none (clash (touched_paths f.stack) (touched_paths f.range)) (λ pair. Clash pair.0 pair.1) w e;
         alone = was_none (first_collision (known h) (rewrite f.stack old moment)) Collision x g;
         judged_is = refl;
         is_entered = ap (λ r. r >>= λ _. Ok (record { granted = granted_of l; made = Some (Land l) })) i;
       };
-    }))))))))))))
+    })))))))))))))
 
 pub judge_says : (header : Header) (h : List Entry) (caller name : List ℕ) (draft : Id) (moment : ℕ) → SaidOf (IsGranted header h caller name draft moment) (judge header h (LandDraft caller name draft moment))
 judge_says header h caller name draft moment = (through (IsGranted header h caller name draft moment) (refuse_if (is_down h) Down) _ (λ _ _. land_says header h caller name draft moment)).said

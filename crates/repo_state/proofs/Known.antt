@@ -13,7 +13,10 @@ use Rattle.changeset_model.specs.Changeset.{Changeset, edit_bytes, spelling, is_
 use Rattle.history_model.specs.History.{Body, Content, Whole, Change, Book, Land, Policy, Fault, Entry, Known, bodies, is_stored, changesets_in, with_id, each_id_once, known}
 use Rattle.history_model.specs.Chain.{line, changesets}
 use Rattle.history_model.specs.Journal.{Header, is_header, payload_len, record_len, size, landing_mark, moment_bytes, wrapped}
+use Rattle.history_model.proofs.Pasts.{past_is_its_line}
+use Rattle.manifest_model.specs.Deleted.{deleted, is_deleted}
 use Rattle.manifest_laws.specs.Bounds.{changesets_of}
+use Rattle.manifest_laws.proofs.GoneRules.{deleted_kept}
 use Rattle.manifest_laws.proofs.Bounds.{all_line, line_ids, line_clear, files_counted}
 use Rattle.manifest_laws.proofs.Lists.{behind_long}
 use Rattle.byte_fields.proofs.Lists.{all_reverse}
@@ -167,6 +170,9 @@ is_right header h x limits legal =
       rules = line_rules h x (λ c. is_changeset c ≡ true) (all_rules header h legal);
       ids = line_ids h x;
       counted = files_counted h x (all_rules header h legal) (omega (arith, whole));
+      deletions = λ d.
+          (ap (λ past. is_deleted (deleted past d)) (sym (past_is_its_line (known h) x (known_one_parent header h legal)))
+          ∙ deleted_kept h x (all_rules header h legal) d (omega (arith, whole)));
     }
 
 pub are_right : (header : Header) (h : List Entry) → is_header header ≡ true → IsLegal header h → AreRight (known h)

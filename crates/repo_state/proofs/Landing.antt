@@ -17,8 +17,6 @@ use Rattle.reply_model.specs.Legal.{MayFollow, GoesOn, IsLegal}
 use Rattle.reply_model.proofs.Histories.{IsLegal-push}
 use Rattle.reply_model.proofs.Parents.{brought, grown}
 use Rattle.opening_laws.proofs.Rules.{known_keep, uploadable_of_next}
-use Rattle.opening_laws.proofs.Callers.{lands_for_any, none_told}
-use Rattle.reply_model.specs.Opening.{nobody}
 use Rattle.changeset_store.proofs.KnownOnce.{is_known-once}
 use Rattle.repo_machine.specs.Landings.{IsLandable, IsLanding}
 use Rattle.repo_machine.proofs.LandingEntry.{old_landed, ids_landed}
@@ -43,7 +41,7 @@ module _ (header : Header) (h : List Entry) (who : ℕ) (caller name : List ℕ)
   both : IsLegal header h × MayFollow header h (Land landing)
   both = (IsLegal-push header h (entry_by who (Land landing))).0 (subst (IsLegal header) grows legal)
 
-  able : IsLandable header h name draft moment landing
+  able : IsLandable header h caller name draft moment landing
   able = record {
     names = refl;
     drafts = refl;
@@ -53,16 +51,17 @@ module _ (header : Header) (h : List Entry) (who : ℕ) (caller name : List ℕ)
     forks = g.forks;
     rewritten = refl;
     dated = refl;
-    untold = none_told header h caller both.0;
+    told_is = refl;
     some = (let long = length-rewrite g.fork_is.stack g.old moment in let some = g.some in omega arith);
     few = (let long = length-rewrite g.fork_is.stack g.old moment in let few = g.few in omega arith);
+    allowed = g.allowed;
     apart = g.apart;
     alone = all_alone (known h) landing.new (known_rules header h both.0) (weaker _ KeepsRules (λ c u. u.keeps) landing.new (uploadable_of_next header h (Land landing) both.0 refl both.1)) g.alone;
-    judged = lands_for_any header h nobody caller name draft moment both.0 ∙ is ∙ sym g.is_entered;
+    judged = is ∙ sym g.is_entered;
   }
 
   pub trees : (old : Id) (ids : List Id) → old ≡ landing.old → ids ≡ map id_of landing.new → IsLanding (known h) (known new) old draft ids
-  trees old ids same are = lands header h who landing name draft moment able new grows legal old ids same are
+  trees old ids same are = lands header h who landing caller name draft moment able new grows legal old ids same are
 
 granted_trees : (header : Header) (h : List Entry) (who : ℕ) (caller name : List ℕ) (draft : Id) (moment : ℕ) (old : Id) (ids : List Id) (made : Made) (new : List Entry) → made.fault ≡ None → judge header h (LandDraft caller name draft moment) ≡ Ok (record { granted = Landed old ids; made = made.entry }) → new ≡ h ++ entries_of who made → IsLegal header new → IsLanding (known h) (known new) old draft ids
 granted_trees header h who caller name draft moment old ids made new alone is grows legal =

@@ -9,6 +9,7 @@ pub mod Entering
 pub mod Sealing
 pub mod Contents
 pub mod Answered
+pub mod Asked
 pub mod Storing
 pub mod Looking
 pub mod Heads

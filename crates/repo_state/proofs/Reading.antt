@@ -15,8 +15,10 @@ use Rattle.changeset_model.specs.Path.{Path}
 use Rattle.history_model.specs.History.{Entry, Known, known, is_known}
 use Rattle.history_model.specs.Journal.{Header}
 use Rattle.history_model.specs.Tree.{files_of, is_file, is_dir}
+use Rattle.history_model.specs.Past.{past}
+use Rattle.manifest_model.specs.Deleted.{has_deleted, path_log}
 use Rattle.reply_model.specs.Reply as reply
-use Rattle.reply_model.specs.Reply.{Seen, SeenBytes, SeenIds, Absent, AbsentChangeset, present, refuse_if, ◌>>=◌, Question, FsnodeOf, UnodeOf, HistoryOf, Sees}
+use Rattle.reply_model.specs.Reply.{Seen, SeenBytes, SeenIds, Absent, AbsentChangeset, present, refuse_if, ◌>>=◌, Question, FsnodeOf, UnodeOf, HistoryOf, PathLogOf, DeletedOf, Sees}
 use Rattle.reply_model.specs.After as answers
 use Rattle.reply_model.specs.After.{Answers, AsksManifest, Looks, Derives, nothing}
 use Rattle.node_table.specs.Table.{Table, is_settled, with_nodes, settled_with}
@@ -33,7 +35,7 @@ use Rattle.manifest_store.specs.declared.fault.ManifestFault.TheVariants as read
 use Rattle.manifest_store.specs.Jobs.{IsJobOn, IsDoneOn, IsNextJob, is_ready, settled_by}
 use Rattle.manifest_store.specs.Lines.{line_at}
 use Rattle.manifest_store.specs.Manifests.{AreManifests}
-use Rattle.manifest_store.specs.Reads.{IsAbsence, dir_of, fsnode_by, unode_by, history_by, fsnode_at, unode_at, history_at}
+use Rattle.manifest_store.specs.Reads.{IsAbsence, dir_of, fsnode_by, unode_by, history_by, deleted_by, path_log_by, fsnode_at, unode_at, history_at, deleted_at, path_log_at}
 use Rattle.manifest_store.specs.Settling.{IsCollision}
 use Rattle.manifest_store.proofs.Answered.{answered}
 use Rattle.manifest_store.proofs.Lines.{itself}
@@ -143,7 +145,7 @@ none_is_settled ks t x are next = ap (λ o. option_map_or (is_settled t) o false
 
 -- the roots in the table, where some are there
 pub roots_told : (header : Header) (h : List Entry) (x : Id) (t : Table) → AreManifests (known h) t → (n : ℕ) → number_in (known h) x ≡ Some n → (o : Option Roots) → ((ks : List Known) → AreManifests ks t → IfSome o (λ r. Some r ≡ roots_on (line_at ks n)))
-    → IfSome o (λ r. Answers header h (Derives x) (answers.Roots r.fsnode r.unode) nothing)
+    → IfSome o (λ r. Answers header h (Derives x) (answers.Roots r.fsnode r.unode r.deleted) nothing)
 roots_told header h x t are n numbered None told = tt
 roots_told header h x t are n numbered (Some r) told = answered header h x n r are.store.one_parent numbered (told (known h) are)
 
@@ -165,6 +167,10 @@ through_one f (Err e) x = refl
 unknown_by : {X : Type 0} (b : Bool) (e : Absent) (p : Result (Unit {0}) Absent) (then : Unit {0} → Result X Absent) → b ≡ false → ((refuse_if (not b) e >>= λ _. p) >>= then) ≡ Err e
 unknown_by true e p then h = absurd (true≢false h)
 unknown_by false e p then h = refl
+
+unknown_at : {X : Type 0} (b : Bool) (e : Absent) (then : Unit {0} → Result X Absent) → b ≡ false → (refuse_if (not b) e >>= then) ≡ Err e
+unknown_at true e then h = absurd (true≢false h)
+unknown_at false e then h = refl
 
 -- a read of a known changeset's manifests, and what is seen of it
 record IsRead (h : List Entry) (x : Id) (q : Question) {X : Type 0} (f : X → Seen) (read : Result X Absent) : Type 0 where
@@ -192,6 +198,7 @@ module _ (header : Header) (h : List Entry) (x : Id) (q : Question) {X : Type 0}
   not_derived asked.NoPath a = absurd (let e = a.1 in cc)
   not_derived asked.NotADir a = absurd (let e = a.1 in cc)
   not_derived asked.NotAFile a = absurd (let e = a.1 in cc)
+  not_derived asked.NoPolicy a = absurd (let e = a.1 in cc)
   not_derived (asked.Collision id) a = (refl, r.asks, a.2)
   not_derived asked.ReadFault a = absurd a
   not_derived (asked.BadBytes wanted found) a = absurd a
@@ -218,6 +225,20 @@ history_read h x p = record {
   unknown = λ e. unknown_by (is_known (known h) x) (AbsentChangeset x) _ _ e;
 }
 
+deleted_read : (h : List Entry) (x : Id) (p : Path) → IsRead h x (DeletedOf x p) SeenBytes (deleted_by (known h) x p)
+deleted_read h x p = record {
+  asks = tt;
+  sees = λ result e. e ∙ sym (through_two SeenBytes (refuse_if (not (is_known (known h) x)) (AbsentChangeset x)) (refuse_if (not (has_deleted (past (known h) x) p)) reply.NoPath) _);
+  unknown = λ e. unknown_at (is_known (known h) x) (AbsentChangeset x) _ e;
+}
+
+log_read : (h : List Entry) (x : Id) (p : Path) → IsRead h x (PathLogOf x p) SeenIds (path_log_by (known h) x p)
+log_read h x p = record {
+  asks = tt;
+  sees = λ result e. e ∙ sym (through_two SeenIds (refuse_if (not (is_known (known h) x)) (AbsentChangeset x)) (refuse_if (length (path_log (past (known h) x) p) == 0) reply.NoPath) _);
+  unknown = λ e. unknown_at (is_known (known h) x) (AbsentChangeset x) _ e;
+}
+
 same_place : (o : Option (Bor Path)) → dir_of o ≡ place_of o
 same_place None = refl
 same_place (Some p) = refl
@@ -238,12 +259,24 @@ module _ (header : Header) (h : List Entry) (x : Id) (n : ℕ) (numbered : numbe
   pub unode_absent : (fault : ManifestFault) → IsAbsence fault (unode_at (known h) n (dir_of dir)) → Answers header h (Looks (UnodeOf x (place_of dir))) (fault_answer (manifest_fault fault)) nothing
   unode_absent fault e = absent_as header h x _ SeenBytes (unode_by (known h) x (place_of dir)) (unode_read h x (place_of dir)) fault (at_place (unode_by (known h)) (IsAbsence fault) e)
 
+  pub deleted_saw : (bytes : List ℕ) → deleted_at (known h) n (dir_of dir) ≡ Ok bytes → Answers header h (Looks (DeletedOf x (place_of dir))) (answers.Shows (SeenBytes bytes)) nothing
+  deleted_saw bytes e = saw header h x _ SeenBytes (deleted_by (known h) x (place_of dir)) (deleted_read h x (place_of dir)) bytes (at_place (deleted_by (known h)) (λ r. r ≡ Ok bytes) e)
+
+  pub deleted_absent : (fault : ManifestFault) → IsAbsence fault (deleted_at (known h) n (dir_of dir)) → Answers header h (Looks (DeletedOf x (place_of dir))) (fault_answer (manifest_fault fault)) nothing
+  deleted_absent fault e = absent_as header h x _ SeenBytes (deleted_by (known h) x (place_of dir)) (deleted_read h x (place_of dir)) fault (at_place (deleted_by (known h)) (IsAbsence fault) e)
+
 module _ (header : Header) (h : List Entry) (x : Id) (n : ℕ) (numbered : number_in (known h) x ≡ Some n) (p : Path) where
   pub history_saw : (ids : List Id) → history_at (known h) n p ≡ Ok ids → Answers header h (Looks (HistoryOf x p)) (answers.Shows (SeenIds ids)) nothing
   history_saw ids e = saw header h x _ SeenIds (history_by (known h) x p) (history_read h x p) ids (subst (λ y. history_by (known h) y p ≡ Ok ids) (found_id h x n numbered) e)
 
   pub history_absent : (fault : ManifestFault) → IsAbsence fault (history_at (known h) n p) → Answers header h (Looks (HistoryOf x p)) (fault_answer (manifest_fault fault)) nothing
   history_absent fault e = absent_as header h x _ SeenIds (history_by (known h) x p) (history_read h x p) fault (subst (λ y. IsAbsence fault (history_by (known h) y p)) (found_id h x n numbered) e)
+
+  pub log_saw : (ids : List Id) → path_log_at (known h) n p ≡ Ok ids → Answers header h (Looks (PathLogOf x p)) (answers.Shows (SeenIds ids)) nothing
+  log_saw ids e = saw header h x _ SeenIds (path_log_by (known h) x p) (log_read h x p) ids (subst (λ y. path_log_by (known h) y p ≡ Ok ids) (found_id h x n numbered) e)
+
+  pub log_absent : (fault : ManifestFault) → IsAbsence fault (path_log_at (known h) n p) → Answers header h (Looks (PathLogOf x p)) (fault_answer (manifest_fault fault)) nothing
+  log_absent fault e = absent_as header h x _ SeenIds (path_log_by (known h) x p) (log_read h x p) fault (subst (λ y. IsAbsence fault (path_log_by (known h) y p)) (found_id h x n numbered) e)
 
 pub fsnode_not_derived : (header : Header) (h : List Entry) (x : Id) (d : Path) (fault : AskFault) → Answers header h (Derives x) (fault_answer fault) nothing → Answers header h (Looks (FsnodeOf x d)) (fault_answer fault) nothing
 fsnode_not_derived header h x d fault a = not_derived header h x _ SeenBytes _ (fsnode_read h x d) fault a
@@ -253,6 +286,12 @@ unode_not_derived header h x p fault a = not_derived header h x _ SeenBytes _ (u
 
 pub history_not_derived : (header : Header) (h : List Entry) (x : Id) (p : Path) (fault : AskFault) → Answers header h (Derives x) (fault_answer fault) nothing → Answers header h (Looks (HistoryOf x p)) (fault_answer fault) nothing
 history_not_derived header h x p fault a = not_derived header h x _ SeenIds _ (history_read h x p) fault a
+
+pub deleted_not_derived : (header : Header) (h : List Entry) (x : Id) (p : Path) (fault : AskFault) → Answers header h (Derives x) (fault_answer fault) nothing → Answers header h (Looks (DeletedOf x p)) (fault_answer fault) nothing
+deleted_not_derived header h x p fault a = not_derived header h x _ SeenBytes _ (deleted_read h x p) fault a
+
+pub log_not_derived : (header : Header) (h : List Entry) (x : Id) (p : Path) (fault : AskFault) → Answers header h (Derives x) (fault_answer fault) nothing → Answers header h (Looks (PathLogOf x p)) (fault_answer fault) nothing
+log_not_derived header h x p fault a = not_derived header h x _ SeenIds _ (log_read h x p) fault a
 
 -- ---- a chain is settled a changeset at a time
 

@@ -9,18 +9,20 @@ use Rattle.history_model.specs.Journal.{Header, Stands}
 use Rattle.landing_core.specs.Steps.{IsMadeFirst, Goes, Shows as Holds}
 use Rattle.landing_core.proofs.Down.{down-stored, down-fault, down-breaking}
 use Rattle.landing_core.proofs.Serving.{served_goes}
-use Rattle.reply_model.specs.Reply.{Ask, Granted, Question, HeadOf, ContentOf, ChangesetOf, LogFrom, FsnodeOf, UnodeOf, HistoryOf, CopiesOf, PathLogOf, DeletedOf, judge}
+use Rattle.reply_model.specs.Reply.{Ask, Granted, Question, HeadOf, ContentOf, ChangesetOf, LogFrom, FsnodeOf, UnodeOf, HistoryOf, CopiesOf, PathLogOf, DeletedOf, PolicyOf, judge}
 use Rattle.reply_model.specs.After.{Call, Asks, Looks, Answer, Grants, Refuses, Shows, Lacks, Roots, DiskFault, ReadFault, BadBytes, NodeCollision, Memory, Made, nothing, only_fault, Answers, Replies, entry_by, entries_of}
 use Rattle.reply_model.proofs.Granted.{MakesStored, judge_stored}
 use Rattle.reply_model.proofs.Stored.{granted_is_up}
 use Rattle.core_model.proofs.Cores.{one_more}
-use Rattle.repo_calls.specs.Calls.{refused}
+use Rattle.repo_calls.specs.Calls.{call_seen, refused}
+use Rattle.repo_calls.specs.declared.ask.Ask as calls
 use Rattle.repo_calls.specs.declared.refusal.Refusal.{Refusal}
-use Rattle.repo_state.specs.Alone.{RepliesAlone, as_one}
-use Rattle.repo_state.specs.Cores.{StoresAlone}
+use Rattle.repo_state.specs.Alone.{RepliesAlone, as_one, wanted}
+use Rattle.repo_state.specs.Cores.{StoresAlone, StoresCallAlone}
 use Rattle.repo_state.specs.Images.{sealed_part, LeavesSeal, LeavesChange}
 use Rattle.repo_state.specs.State.{IsSealedAlone, after_seal}
 use Rattle.repo_state.proofs.Answered.{refused_by}
+use Rattle.repo_state.proofs.Asked.{refused_ask, refuses_nothing}
 use Rattle.repo_state.proofs.Chains.{leaves_map}
 use Rattle.repo_state.proofs.GroupParts.{part_grows, part_whole}
 use Rattle.repo_state.proofs.Stands.{bodies-fault, stands-same}
@@ -34,15 +36,15 @@ calm_alone r calm = record { made = r.made; answers = r.answers; new_is = r.new_
 none_made : {made : Made} → made ≡ nothing → made.fault ≢ Some true
 none_made e some = absurd (let same = sym (ap (λ (made : Made). made.fault) e) ∙ some in cc)
 
-pub refused_alone : {header : Header} {h : List Entry} {ask : Ask} {new : List Entry} (e : Refusal) → Replies header h 0 (Asks ask) (refused e) new → RepliesAlone header h 0 (Asks ask) (refused e) new × (new ≡ h)
-refused_alone {header} {h} {ask} {new} e =
-    refused_by (λ answer. Replies header h 0 (Asks ask) answer new → RepliesAlone header h 0 (Asks ask) answer new × (new ≡ h))
-    (λ refusal r. (calm_alone r (none_made r.answers.0), unchanged r r.answers.0))
-    (λ r. (calm_alone r (none_made r.answers), unchanged r r.answers))
+pub refused_alone : {header : Header} {h : List Entry} {call : Call} {new : List Entry} (e : Refusal) → Replies header h 0 call (refused e) new → RepliesAlone header h 0 call (refused e) new × (new ≡ h)
+refused_alone {header} {h} {call} {new} e =
+    refused_by (λ answer. Replies header h 0 call answer new → RepliesAlone header h 0 call answer new × (new ≡ h))
+    (λ refusal r. by r (refuses_nothing header h call refusal r.made r.answers))
+    (λ r. by r (wanted header h call r.made r.answers))
     e
   where
-    unchanged : {answer : Answer} (r : Replies header h 0 (Asks ask) answer new) → r.made ≡ nothing → new ≡ h
-    unchanged r none = r.new_is ∙ ap (λ made. h ++ entries_of 0 made) none ∙ append-nil h
+    by : {answer : Answer} (r : Replies header h 0 call answer new) → r.made ≡ nothing → RepliesAlone header h 0 call answer new × (new ≡ h)
+    by r none = (calm_alone r (none_made none), r.new_is ∙ ap (λ made. h ++ entries_of 0 made) none ∙ append-nil h)
 
 -- a read makes nothing, or a fault that isn't breaking
 looked : (header : Header) (h : List Entry) (q : Question) (answer : Answer) (made : Made) → Answers header h (Looks q) answer made → (made ≡ nothing) ⊎ (made ≡ only_fault false)
@@ -50,7 +52,7 @@ looked header h q (Grants g) made a = absurd a
 looked header h q (Refuses r) made a = absurd a
 looked header h q (Shows s) made a = inl a.0
 looked header h q (Lacks b) made a = inl a.0
-looked header h q (Roots f u) made a = absurd a
+looked header h q (Roots f u g) made a = absurd a
 looked header h q DiskFault made a = absurd a
 looked header h (HeadOf m) ReadFault made a = absurd a
 looked header h (ContentOf c) ReadFault made a = inr a.0
@@ -62,6 +64,7 @@ looked header h (HistoryOf c p) ReadFault made a = absurd a
 looked header h (CopiesOf c) ReadFault made a = absurd a
 looked header h (PathLogOf c p) ReadFault made a = absurd a
 looked header h (DeletedOf c p) ReadFault made a = absurd a
+looked header h (PolicyOf n) ReadFault made a = absurd a
 looked header h (HeadOf m) (BadBytes w f) made a = absurd a
 looked header h (ContentOf c) (BadBytes w f) made a = inl a.0
 looked header h (ChangesetOf c) (BadBytes w f) made a = absurd a
@@ -72,6 +75,7 @@ looked header h (HistoryOf c p) (BadBytes w f) made a = absurd a
 looked header h (CopiesOf c) (BadBytes w f) made a = absurd a
 looked header h (PathLogOf c p) (BadBytes w f) made a = absurd a
 looked header h (DeletedOf c p) (BadBytes w f) made a = absurd a
+looked header h (PolicyOf n) (BadBytes w f) made a = absurd a
 looked header h q (NodeCollision z) made a = inl a.0
 looked header h q Memory made a = inl a
 
@@ -194,7 +198,7 @@ module _ {header : Header} {h : List Entry} {ask : Ask} {granted : Granted} {fro
         let e = made_it in
         record {
           made = record { entry = Some e.body; fault = Some true };
-          answers = (refl, granted, Some e.body, e.judged, inr refl);
+          answers = (refl, granted, e.judged);
           new_is = ap (λ (g : List Entry). g ++ entry_by 0 (Fault true) ∷ []) e.grows ∙ append_assoc h (entry_by 0 e.body ∷ []) (entry_by 0 (Fault true) ∷ []);
           made_first = λ _. search;
         }
@@ -224,7 +228,7 @@ module _ {header : Header} {h : List Entry} {ask : Ask} {granted : Granted} {fro
 
 -- ---- or it is refused
 
-pub refused_core : {header : Header} {h : List Entry} {ask : Ask} {new : List Entry} (n : ℕ) (e : Refusal) → IsSealedAlone h n → n ≤ length (bodies h) → Replies header h 0 (Asks ask) (refused e) new → StoresAlone header h n ask (refused e) new n
+refused_core : {header : Header} {h : List Entry} {ask : Ask} {new : List Entry} (n : ℕ) (e : Refusal) → IsSealedAlone h n → n ≤ length (bodies h) → Replies header h 0 (Asks ask) (refused e) new → StoresAlone header h n ask (refused e) new n
 refused_core {header} {h} {ask} {new} n e all most =
     refused_by (λ answer. Replies header h 0 (Asks ask) answer new → StoresAlone header h n ask answer new n)
     (λ refusal r. λ s shows may. served_goes header h n 0 ask (Refuses refusal) new s r (λ p. absurd cc) whole shows may)
@@ -233,6 +237,9 @@ refused_core {header} {h} {ask} {new} n e all most =
   where
     whole : is_down h ≡ false → n ≡ length (bodies h)
     whole up = (let least = all.0 up in omega arith)
+
+pub refused_core_call : {header : Header} {h : List Entry} (ask : calls.Ask) {new : List Entry} (n : ℕ) (e : Refusal) → IsSealedAlone h n → n ≤ length (bodies h) → Replies header h 0 (call_seen ask) (refused e) new → StoresCallAlone header h n (call_seen ask) (refused e) new n
+refused_core_call {header} {h} ask {new} n e all most r = let a = refused_ask header h 0 ask e new r in (a.ask, a.asks, refused_core n e all most a.replies)
 
 -- ---- what is told of the seal, of the values before the change
 

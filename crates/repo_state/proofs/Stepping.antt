@@ -8,11 +8,11 @@ use Rattle.history_model.specs.Journal.{Header}
 use Rattle.history_model.specs.Pushrebase.{rewrite}
 use Rattle.reply_model.specs.Reply as reply
 use Rattle.reply_model.specs.Reply.{LandDraft}
-use Rattle.reply_model.specs.Opening.{nobody}
 use Rattle.reply_model.specs.After as answers
-use Rattle.reply_model.specs.After.{Answer, Asks, Replies, entry_by}
+use Rattle.reply_model.specs.After.{Call, Answer, Asks, Replies, entry_by}
 use Rattle.reply_model.proofs.Stored.{is_down-stored}
-use Rattle.repo_calls.specs.Calls.{granted_seen, refused}
+use Rattle.repo_calls.specs.Calls.{call_seen, denied_path, granted_seen, refused}
+use Rattle.repo_calls.specs.declared.ask.Ask as calls_asked
 use Rattle.repo_calls.specs.declared.ask.Granted as calls
 use Rattle.repo_state.specs.State.{entered_answer}
 use Rattle.repo_calls.specs.declared.refusal.Refusal as refusal
@@ -25,9 +25,10 @@ use Rattle.landing_core.proofs.Exchanged.{landed_goes, moved_goes, refused_goes}
 use Rattle.landing_core.proofs.Sealed.{seal_goes, cut_goes}
 use Rattle.landing_core.proofs.Others.{plan_goes, fault_goes, opened_shows}
 use Rattle.repo_machine.proofs.Judging.{refused_down}
+use Rattle.repo_state.proofs.Asked.{granted_ask, refused_ask}
 use Rattle.repo_state.proofs.Storing.{refused_replies}
 use Rattle.repo_state.specs.Exchanging.{Exchanges}
-use Rattle.repo_state.specs.Cores.{Stores, asked_landing, ExchangesSo, SealsSo, Plans, LooksSo}
+use Rattle.repo_state.specs.Cores.{Stores, StoresCall, asked_landing, ExchangesSo, SealsSo, Plans, LooksSo}
 use Rattle.repo_state.proofs.Opening.{stored_count}
 use Rattle.repo_state.specs.declared.exchanged.Exchanged.{Exchanged}
 use Rattle.repo_state.specs.declared.exchanged.Exchanged.TheVariants.{Landed, HeadMoved, Refused}
@@ -40,9 +41,14 @@ no_fault (refusals.TooLong n) = λ p. absurd cc
 no_fault (refusals.BadEncoding at) = λ p. absurd cc
 no_fault (refusals.SelfConflict short long) = λ p. absurd cc
 no_fault refusals.Merge = λ p. absurd cc
+no_fault (refusals.BadParts n) = λ p. absurd cc
+no_fault refusals.OldFormat = λ p. absurd cc
+no_fault (refusals.NoPiece x) = λ p. absurd cc
+no_fault (refusals.NotAPiece x) = λ p. absurd cc
 no_fault (refusals.NoParent x) = λ p. absurd cc
 no_fault (refusals.NoContent path x) = λ p. absurd cc
 no_fault (refusals.WrongSize path wanted found) = λ p. absurd cc
+no_fault (refusals.Unresolved path) = λ p. absurd cc
 no_fault (refusals.Collision x) = λ p. absurd cc
 no_fault (refusals.NoChangeset x) = λ p. absurd cc
 no_fault (refusals.Moved found) = λ p. absurd cc
@@ -51,20 +57,30 @@ no_fault refusals.NoRoot = λ p. absurd cc
 no_fault (refusals.TooFarBehind distance) = λ p. absurd cc
 no_fault refusals.AlreadyIn = λ p. absurd cc
 no_fault (refusals.StackTooLong count) = λ p. absurd cc
+no_fault (refusals.MergeInStack x) = λ p. absurd cc
+no_fault (refusals.MergeInRange x) = λ p. absurd cc
+no_fault (refusals.Denied place rule) = λ p. absurd cc
 no_fault (refusals.Clash left right) = λ p. absurd cc
 no_fault (refusals.TooLarge n) = λ p. absurd cc
+no_fault (refusals.BadPolicy line) = λ p. absurd cc
 no_fault (refusals.Full size n) = λ p. absurd cc
 no_fault refusals.Memory = λ p. absurd cc
 
-pub refused_stores : (header : Header) (h : List Entry) (n who : ℕ) (ask : reply.Ask) (e : refusal.Refusal) (new : List Entry) → Replies header h who (Asks ask) (refused e) new → Stores header h n who ask (refused e) new
+refused_stores : (header : Header) (h : List Entry) (n who : ℕ) (ask : reply.Ask) (e : refusal.Refusal) (new : List Entry) → Replies header h who (Asks ask) (refused e) new → Stores header h n who ask (refused e) new
 refused_stores header h n who ask e new r = λ s shows may. stored_goes header h n who ask (refused e) new s (no_fault e) r shows may
 
-pub granted_stores : (header : Header) (h : List Entry) (n who : ℕ) (ask : reply.Ask) (granted : reply.Granted) (new : List Entry) → Replies header h who (Asks ask) (answers.Grants granted) new → Stores header h n who ask (answers.Grants granted) new
+granted_stores : (header : Header) (h : List Entry) (n who : ℕ) (ask : reply.Ask) (granted : reply.Granted) (new : List Entry) → Replies header h who (Asks ask) (answers.Grants granted) new → Stores header h n who ask (answers.Grants granted) new
 granted_stores header h n who ask granted new r = λ s shows may. stored_goes header h n who ask (answers.Grants granted) new s (λ p. absurd cc) r shows may
 
-pub entered_stores : (header : Header) (h : List Entry) (n who : ℕ) (ask : reply.Ask) (result : Result calls.Granted refusal.Refusal) (new : List Entry) → Replies header h who (Asks ask) (entered_answer result) new → Stores header h n who ask (entered_answer result) new
-entered_stores header h n who ask (Ok granted) new r = granted_stores header h n who ask (granted_seen granted) new r
-entered_stores header h n who ask (Err e) new r = refused_stores header h n who ask e new r
+pub granted_call : (header : Header) (h : List Entry) (n who : ℕ) (call : Call) (granted : reply.Granted) (new : List Entry) → Replies header h who call (answers.Grants granted) new → StoresCall header h n who call (answers.Grants granted) new
+granted_call header h n who call granted new r = let a = granted_ask header h who call granted new r in (a.ask, a.asks, granted_stores header h n who a.ask granted new a.replies)
+
+pub refused_call : (header : Header) (h : List Entry) (n who : ℕ) (ask : calls_asked.Ask) (e : refusal.Refusal) (new : List Entry) → Replies header h who (call_seen ask) (refused e) new → StoresCall header h n who (call_seen ask) (refused e) new
+refused_call header h n who ask e new r = let a = refused_ask header h who ask e new r in (a.ask, a.asks, refused_stores header h n who a.ask e new a.replies)
+
+pub entered_call : (header : Header) (h : List Entry) (n who : ℕ) (ask : calls_asked.Ask) (result : Result calls.Granted refusal.Refusal) (new : List Entry) → Replies header h who (call_seen ask) (entered_answer result) new → StoresCall header h n who (call_seen ask) (entered_answer result) new
+entered_call header h n who ask (Ok granted) new r = granted_call header h n who (call_seen ask) (granted_seen granted) new r
+entered_call header h n who ask (Err e) new r = refused_call header h n who ask e new r
 
 -- ---- planned landings
 
@@ -74,9 +90,14 @@ some_refusal (refusals.TooLong n) p = absurd p
 some_refusal (refusals.BadEncoding at) p = absurd p
 some_refusal (refusals.SelfConflict short long) p = absurd p
 some_refusal refusals.Merge p = absurd p
+some_refusal (refusals.BadParts n) p = absurd p
+some_refusal refusals.OldFormat p = absurd p
+some_refusal (refusals.NoPiece x) p = absurd p
+some_refusal (refusals.NotAPiece x) p = absurd p
 some_refusal (refusals.NoParent x) p = absurd p
 some_refusal (refusals.NoContent path x) p = absurd p
 some_refusal (refusals.WrongSize path wanted found) p = absurd p
+some_refusal (refusals.Unresolved path) p = absurd p
 some_refusal (refusals.Collision x) p = (reply.Collision x, refl)
 some_refusal (refusals.NoChangeset x) p = absurd p
 some_refusal (refusals.Moved found) p = absurd p
@@ -85,28 +106,32 @@ some_refusal refusals.NoRoot p = absurd p
 some_refusal (refusals.TooFarBehind distance) p = absurd p
 some_refusal refusals.AlreadyIn p = absurd p
 some_refusal (refusals.StackTooLong count) p = absurd p
+some_refusal (refusals.MergeInStack x) p = absurd p
+some_refusal (refusals.MergeInRange x) p = absurd p
+some_refusal (refusals.Denied place rule) p = (reply.Denied (denied_path place) rule, refl)
 some_refusal (refusals.Clash left right) p = absurd p
 some_refusal (refusals.TooLarge n) p = (reply.TooLarge n, refl)
+some_refusal (refusals.BadPolicy line) p = absurd p
 some_refusal (refusals.Full size n) p = (reply.Full size n, refl)
 some_refusal refusals.Memory p = absurd p
 
 pub exchanges : (header : Header) (h : List Entry) (n who : ℕ) (r : RebasedLanding) (result : Exchanged) (new : List Entry) → Exchanges header h who r result new → ExchangesSo header h n who r new
 exchanges header h n who r (Landed landed) new x = λ s shows may plan.
-    landed_goes header h n who nobody r.name r.draft r.asked r.old r.new s shows may plan (reply.Landed landed.old landed.ids.items) new x.0 x.1
+    landed_goes header h n who r.caller r.name r.draft r.asked r.old r.new s shows may plan (reply.Landed landed.old landed.ids.items) new x.0 x.1
 exchanges header h n who r (HeadMoved found) new x = λ s shows may plan.
-    subst (λ h. Goes header s (asked_landing who r) (Shows h n)) (sym x.3) (moved_goes header h n who nobody r.name r.draft r.asked r.old r.new s shows may plan (λ at. x.2 (x.1 ∙ at)))
+    subst (λ h. Goes header s (asked_landing who r) (Shows h n)) (sym x.3) (moved_goes header h n who r.caller r.name r.draft r.asked r.old r.new s shows may plan (λ at. x.2 (x.1 ∙ at)))
 exchanges header h n who r (Refused e) new x = λ s shows may plan.
     (let why = some_refusal e x.1 in
-    refused_goes header h n who nobody r.name r.draft r.asked r.old r.new s shows may plan why.0 new x.0 (subst (λ a. Replies header h who (Asks (LandDraft nobody r.name r.draft r.asked)) a new) why.1 x.2))
+    refused_goes header h n who r.caller r.name r.draft r.asked r.old r.new s shows may plan why.0 new x.0 (subst (λ a. Replies header h who (Asks (LandDraft r.caller r.name r.draft r.asked)) a new) why.1 x.2))
 
 -- nothing is stored any more
 pub down_exchanges : (header : Header) (h : List Entry) (who : ℕ) (r : RebasedLanding) → is_down h ≡ true → Exchanges header h who r (Refused refusals.Down) h
-down_exchanges header h who r down = (inl down, tt, refused_replies header h h who (LandDraft nobody r.name r.draft r.asked) refusals.Down refl (refused_down header h (LandDraft nobody r.name r.draft r.asked) down))
+down_exchanges header h who r down = (inl down, tt, refused_replies header h h who (LandDraft r.caller r.name r.draft r.asked) refusals.Down refl (refused_down header h (LandDraft r.caller r.name r.draft r.asked) down))
 
 -- ---- plans and reads
 
-with_plan : (s : State) (who moment : ℕ) (h : List Entry) (name : List ℕ) (draft : Id) (plan : PlannedLanding) → (p : IsPlan h name draft plan) → HasPlan s who name draft moment plan.old (rewrite p.fork_is.stack plan.old moment) → HasPlan s who plan.name plan.draft moment plan.old (rewrite plan.stack plan.old moment)
-with_plan s who moment h name draft plan p has = record {
+with_plan : (s : State) (who moment : ℕ) (h : List Entry) (caller name : List ℕ) (draft : Id) (plan : PlannedLanding) → (p : IsPlan h caller name draft plan) → HasPlan s who name draft moment plan.old (rewrite p.fork_is.stack plan.old moment) → HasPlan s who plan.name plan.draft moment plan.old (rewrite plan.stack plan.old moment)
+with_plan s who moment h caller name draft plan p has = record {
   plan = has.plan;
   plan_is = has.plan_is;
   names = has.names ∙ sym p.names;
@@ -116,14 +141,14 @@ with_plan s who moment h name draft plan p has = record {
   new_is = has.new_is ∙ ap (λ stack. rewrite stack plan.old moment) (sym p.stack_is);
 }
 
-pub plans : (header : Header) (h : List Entry) (n : ℕ) (name : List ℕ) (draft : Id) (plan : PlannedLanding) → IsPlan h name draft plan → Plans header h n name draft plan
-plans header h n name draft plan p = λ s who moment shows.
+pub plans : (header : Header) (h : List Entry) (n : ℕ) (caller name : List ℕ) (draft : Id) (plan : PlannedLanding) → IsPlan h caller name draft plan → Plans header h n name draft plan
+plans header h n caller name draft plan p = λ s who moment shows.
     (let goes = plan_goes header h n who name draft moment plan.old p.fork_is s p.head_is p.forks shows in
-    record { state = goes.state; taken = goes.taken; meets = (goes.meets.0, with_plan goes.state who moment h name draft plan p goes.meets.1) })
+    record { state = goes.state; taken = goes.taken; meets = (goes.meets.0, with_plan goes.state who moment h caller name draft plan p goes.meets.1) })
 
-pub plans_if_ok : {E : Type 0} (header : Header) (h : List Entry) (n : ℕ) (name : List ℕ) (draft : Id) (result : Result PlannedLanding E) → IfOk result (IsPlan h name draft) → IfOk result (Plans header h n name draft)
-plans_if_ok header h n name draft (Ok plan) p = plans header h n name draft plan p
-plans_if_ok header h n name draft (Err e) p = tt
+pub plans_if_ok : {E : Type 0} (header : Header) (h : List Entry) (n : ℕ) (caller name : List ℕ) (draft : Id) (result : Result PlannedLanding E) → IfOk result (IsPlan h caller name draft) → IfOk result (Plans header h n name draft)
+plans_if_ok header h n caller name draft (Ok plan) p = plans header h n caller name draft plan p
+plans_if_ok header h n caller name draft (Err e) p = tt
 
 pub looks_fault : (header : Header) (h new : List Entry) (n who : ℕ) → new ≡ h ++ entry_by who (Fault false) ∷ [] → LooksSo header h n who false new
 looks_fault header h new n who grows = λ s shows. fault_goes header h new n who s grows shows

@@ -15,9 +15,9 @@ use Rattle.repo_journal.specs.Groups.{grown}
 use Rattle.repo_journal.specs.View.{JournalView}
 use Rattle.repo_calls.specs.declared.refusal.Refusal.{Refusal}
 use Rattle.repo_calls.specs.Calls.{refused}
+use Rattle.repo_calls.specs.Refusing.{IsRefusal}
 use Rattle.repo_machine.specs.Held.{Room}
 use Rattle.repo_machine.specs.Judged.{JudgedChange, IsJudged, Frames}
-use Rattle.repo_machine.specs.Landings.{IsRefusal}
 use Rattle.repo_state.specs.State.{HasFaultRoom, IsSound, opening_of}
 use Rattle.repo_state.proofs.Answered.{unmade}
 use Rattle.repo_state.proofs.Entering.{sound_entered, agrees_entered}

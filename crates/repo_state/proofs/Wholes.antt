@@ -1,13 +1,13 @@
 -- No change makes a whole yet, so no entry has parts that a file must hold.
 use Rattle.std.proofs.Common.{◌≡◌, ℕ, zero, suc, List, [], ◌∷◌, ◌++◌, drop, refl, sym, subst, append-nil, append_assoc}
-use Rattle.std.specs.Prelude.{Some, Ok, Err, Bool, true, false, cond}
+use Rattle.std.specs.Prelude.{Some, Result, Ok, Err, Bool, true, false, cond}
 use Rattle.std.specs.List.{AllByRecursion}
 use Rattle.byte_fields.specs.Bytes.{Id}
 use Rattle.byte_fields.proofs.Lists.{all_both, weaker}
 use Rattle.disk_model.specs.Images.{Disk}
 use Rattle.history_model.specs.History.{Body, Content, Whole, Change, Book, Land, Policy, Fault, Entry, bodies, is_down, is_stored}
 use Rattle.history_model.specs.Journal.{Header, HoldsParts}
-use Rattle.reply_model.specs.Reply.{Ask, PutContent, PutWhole, PutChangeset, SetBookmark, LandDraft, Granted, Down, OldFormat, Judged, refuse_if, ◌>>=◌, judge}
+use Rattle.reply_model.specs.Reply.{Ask, PutContent, PutWhole, PutChangeset, SetBookmark, LandDraft, SetPolicy, Granted, Refusal, Down, BadParts, OldFormat, Judged, refuse_if, ◌>>=◌, judge}
 use Rattle.reply_model.specs.Legal.{MayFollow, GoesOn, IsLegal}
 use Rattle.reply_model.proofs.Histories.{bodies-append}
 use Rattle.repo_journal.specs.Groups.{GroupHolds, with_group}
@@ -17,16 +17,18 @@ use Rattle.opening_laws.proofs.Made.{MadeBy, is_made}
 abbrev pub AsksNothing : Body → Type 0
 AsksNothing body = (file : List ℕ) (all : List Body) → HoldsParts file all body
 
-refused_whole : (down : Bool) (judged : Judged) → (refuse_if down Down >>= λ _. Err OldFormat) ≡ Ok judged → ⊥
-refused_whole true judged e = cc
-refused_whole false judged e = cc
+refused_whole : (down bad : Bool) (n : ℕ) (join : List Id → Result Judged Refusal) (judged : Judged) → (refuse_if down Down >>= λ _. (refuse_if bad (BadParts n) >>= λ _. Err OldFormat) >>= join) ≡ Ok judged → ⊥
+refused_whole true bad n join judged e = cc
+refused_whole false true n join judged e = cc
+refused_whole false false n join judged e = cc
 
 no_whole : (header : Header) (h : List Entry) (ask : Ask) (granted : Granted) (x : Id) (n : ℕ) (parts : List Id) → judge header h ask ≡ Ok (record { granted = granted; made = Some (Whole x n parts) }) → MadeBy h ask (Whole x n parts) → ⊥
 no_whole header h (PutContent bytes) granted x n parts judged m = let e = m.1 in cc
-no_whole header h (PutWhole body pieces) granted x n parts judged m = refused_whole (is_down h) _ judged
+no_whole header h (PutWhole body pieces) granted x n parts judged m = refused_whole (is_down h) _ _ _ _ judged
 no_whole header h (PutChangeset bytes) granted x n parts judged m = let e = m.3 in cc
-no_whole header h (SetBookmark caller name from to) granted x n parts judged m = let e = m in cc
+no_whole header h (SetBookmark caller name from to) granted x n parts judged m = let e = m.0 in cc
 no_whole header h (LandDraft caller name draft moment) granted x n parts judged m = let e = m.8 in cc
+no_whole header h (SetPolicy caller text) granted x n parts judged m = let e = m.0 in cc
 
 asks_next : (header : Header) (h : List Entry) (body : Body) → MayFollow header h body → AsksNothing body
 asks_next header h (Content x n) m = λ file all. tt

@@ -22,7 +22,8 @@ as_one r = record { made = r.made; answers = r.answers; new_is = r.new_is }
 none_is_met : {T : Type 0} → {b : Bool} → None ≡ Some b → T
 none_is_met {T} e = absurd (subst (λ (o : Option Bool). MatchOption o (Unit {0}) (λ _. ⊥)) e tt)
 
-wanted : (header : Header) (h : List Entry) (call : Call) (made : Made) → Answers header h call Memory made → made ≡ nothing
+-- want of memory makes nothing
+pub wanted : (header : Header) (h : List Entry) (call : Call) (made : Made) → Answers header h call Memory made → made ≡ nothing
 wanted header h (Asks ask) made a = a
 wanted header h (Joins body) made a = a
 wanted header h (Looks question) made a = a

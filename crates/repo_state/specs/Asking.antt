@@ -13,7 +13,7 @@ use Rattle.repo_state.specs.Images.{sealed_part}
 use Rattle.repo_machine.specs.declared.place.Place.{Place}
 use Rattle.repo_machine.specs.Indexes.{StandsAt}
 use Rattle.repo_calls.specs.declared.calls.AskFault.{AskFault}
-use Rattle.repo_calls.specs.declared.calls.AskFault.TheVariants.{NoContent, NoChangeset, NoPath, NotADir, NotAFile, Collision, ReadFault, BadBytes, Memory}
+use Rattle.repo_calls.specs.declared.calls.AskFault.TheVariants.{NoContent, NoChangeset, NoPath, NotADir, NotAFile, NoPolicy, Collision, ReadFault, BadBytes, Memory}
 
 -- where the record of a place waits, behind the sealed part
 abbrev pub IsWaiting : List Entry → ℕ → ℕ → Type 0
@@ -40,6 +40,7 @@ TellsDigest m h (Err (NoChangeset id)) = ⊤
 TellsDigest m h (Err NoPath) = ⊤
 TellsDigest m h (Err NotADir) = ⊤
 TellsDigest m h (Err NotAFile) = ⊤
+TellsDigest m h (Err NoPolicy) = ⊤
 TellsDigest m h (Err (Collision id)) = ⊤
 TellsDigest m h (Err ReadFault) = ⊤
 TellsDigest m h (Err (BadBytes wanted found)) = IsDigestThere m h wanted found

@@ -6,7 +6,6 @@ use Rattle.history_model.specs.Bookmark.{head}
 use Rattle.history_model.specs.Journal.{Header}
 use Rattle.reply_model.specs.Reply as reply
 use Rattle.reply_model.specs.Reply.{LandDraft}
-use Rattle.reply_model.specs.Opening.{nobody}
 use Rattle.reply_model.specs.After as answers
 use Rattle.reply_model.specs.After.{Answer, Asks, Replies}
 use Rattle.repo_calls.specs.Calls.{refused}
@@ -15,7 +14,7 @@ use Rattle.repo_state.specs.declared.exchanged.Exchanged.{Exchanged}
 use Rattle.repo_state.specs.declared.exchanged.Exchanged.TheVariants.{Landed, HeadMoved, Refused}
 
 abbrev pub RepliesLanding : Header → List Entry → ℕ → RebasedLanding → Answer → List Entry → Type 0
-RepliesLanding header h who r answer new = Replies header h who (Asks (LandDraft nobody r.name r.draft r.asked)) answer new
+RepliesLanding header h who r answer new = Replies header h who (Asks (LandDraft r.caller r.name r.draft r.asked)) answer new
 
 abbrev pub IsThere : List Entry → RebasedLanding → Type 0
 IsThere h r = head h r.name ≡ Some r.old

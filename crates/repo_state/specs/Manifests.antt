@@ -29,7 +29,7 @@ use Rattle.repo_calls.specs.Asking.{fault_answer}
 use Rattle.repo_calls.specs.declared.calls.AskFault.{AskFault}
 use Rattle.repo_calls.specs.declared.calls.AskFault.TheVariants as asked
 use Rattle.repo_calls.specs.declared.calls.Question.{Question}
-use Rattle.repo_calls.specs.declared.calls.Question.TheVariants.{Head, Content, Changeset, Log, Fsnode, Unode, History, Copies}
+use Rattle.repo_calls.specs.declared.calls.Question.TheVariants.{Head, Content, Changeset, Log, Fsnode, Unode, History, Copies, PathLog, Deleted, Policy}
 
 pub record HasManifests (header : Header) (h : List Entry) (t : Table) : Type 0 where
   pub header_fits : is_header header ≡ true
@@ -56,6 +56,9 @@ asks_manifest (Fsnode id dir) = true
 asks_manifest (Unode id path) = true
 asks_manifest (History id path) = true
 asks_manifest (Copies id) = false
+asks_manifest (PathLog id path) = true
+asks_manifest (Deleted id dir) = true
+asks_manifest (Policy number) = false
 
 abbrev pub manifest_fault : ManifestFault → AskFault
 manifest_fault reads.NoPath = asked.NoPath
@@ -72,5 +75,5 @@ ids_answer (Ok ids) = answers.Shows (reply.SeenIds ids.items)
 ids_answer (Err fault) = fault_answer fault
 
 abbrev pub roots_answer : Result Roots AskFault → Answer
-roots_answer (Ok roots) = answers.Roots roots.fsnode roots.unode
+roots_answer (Ok roots) = answers.Roots roots.fsnode roots.unode roots.deleted
 roots_answer (Err fault) = fault_answer fault

@@ -3,14 +3,13 @@ ghost use Rattle.std.specs.Prelude.{◌≡◌, ◌≤◌, IsTrue, IfOk, false, l
 ghost use Rattle.ports.specs.Faults.{Counts};
 ghost use Rattle.disk_model.specs.Calls.{Kept};
 ghost use Rattle.history_model.specs.History.{bodies};
-ghost use Rattle.reply_model.specs.After.{Asks};
 ghost use Rattle.bookmark_lock.specs.Opening.{Opening};
 ghost use Rattle.repo_calls.proofs.Honest.{honestly};
-ghost use Rattle.repo_calls.specs.Calls.{ask_seen, granted_seen};
-ghost use Rattle.repo_calls.specs.Asking.{stored_answer, is_disk_fault};
+ghost use Rattle.repo_calls.specs.Calls.{call_seen, granted_seen};
+ghost use Rattle.repo_calls.specs.Asking.{stored_answer, is_disk_fault, is_misread, is_unread};
 ghost use Rattle.repo_calls.specs.Replying.{Honestly};
 ghost use Rattle.repo_state.specs.Alone.{RepliesAlone, replying_alone};
-ghost use Rattle.repo_state.specs.Cores.{StoresAlone};
+ghost use Rattle.repo_state.specs.Cores.{StoresCallAlone};
 ghost use Rattle.repo_state.specs.Images.{LeavesChange};
 ghost use Rattle.repo_state.specs.State.{IsSealedAlone, IsSound};
 ghost use Rattle.repo_state.specs.Trees.{LandsAs};
@@ -63,7 +62,7 @@ impl<D: Disk> Alone<D> {
     /// Makes a change, and seals its entry, if it makes one, before it is answered. All memory is taken before the first call
     /// of the disk, and a change without an entry leaves the disk alone.
     pub fn store(&mut self, alloc: Global, ask: &Ask) -> Result<Granted, ChangeFault>
-        ensures reply { RepliesAlone self.old.header self.old.history 0 (Asks (ask_seen ask.now)) (stored_answer result) self.new.history }
+        ensures reply { RepliesAlone self.old.header self.old.history 0 (call_seen ask.now) (stored_answer result) self.new.history }
         ensures header { self.new.header ≡ self.old.header }
         ensures opening { self.new.opening ≡ self.old.opening }
         ensures table { self.new.table ≡ self.old.table }
@@ -79,15 +78,16 @@ impl<D: Disk> Alone<D> {
         ensures leaves { IsTrue self.old.disk.honest → LeavesChange self.old.header self.old.history self.new.history self.old.disk self.new.disk }
         ensures kept { Kept self.old.disk self.new.disk }
 
-        // The disk fails the change only where a call of it failed.
+        // The disk fails the change only where a call of it failed, and no content is read for one.
         ensures faults { Counts self.old.disk.faults self.new.disk.faults (is_disk_fault result) }
+        ensures read { (is_unread result ≡ false) × (is_misread result ≡ false) }
 
         // Where a stack lands, the new head's tree has what it sets, and else what the old head's has, in which no path that
         // the stack touches was changed since the root.
-        ensures lands { IfOk result (λ granted. LandsAs (ask_seen ask.now) (granted_seen granted) self.old.history self.new.history) }
+        ensures lands { IfOk result (λ granted. LandsAs (call_seen ask.now) (granted_seen granted) self.old.history self.new.history) }
 
         // It is these steps of the repository of many seats.
-        ensures core { StoresAlone self.old.header self.old.history self.old.sealed (ask_seen ask.now) (stored_answer result) self.new.history self.new.sealed }
+        ensures core { StoresCallAlone self.old.header self.old.history self.old.sealed (call_seen ask.now) (stored_answer result) self.new.history self.new.sealed }
     {
         // What is sealed is stored.
         let _stored = self.state.stored_length();

@@ -2,7 +2,7 @@
 ghost use Rattle.std.specs.Prelude.{◌≡◌, true, is_some, Some, IfOk, IfErr, IfSome};
 ghost use Rattle.history_model.specs.History.{known};
 ghost use Rattle.reply_model.specs.After.{Answers, Derives, Looks, Roots as RootsOf, nothing};
-ghost use Rattle.reply_model.specs.Reply.{FsnodeOf, UnodeOf, HistoryOf};
+ghost use Rattle.reply_model.specs.Reply.{FsnodeOf, UnodeOf, HistoryOf, DeletedOf, PathLogOf};
 ghost use Rattle.node_table.specs.Table.{is_settled};
 ghost use Rattle.changeset_store.specs.Store.{number_in};
 ghost use Rattle.manifest_store.specs.Manifests.{AreManifests};
@@ -24,7 +24,7 @@ impl<D: Disk> RepoState<D> {
     /// the disk isn't asked.
     pub fn roots(&self, id: Id) -> Option<Roots>
         ensures settled { is_some result ≡ is_settled_id (known self.now.history) self.now.table id }
-        ensures some { IfSome result (λ roots. Answers self.now.header self.now.history (Derives id) (RootsOf roots.fsnode roots.unode) nothing) }
+        ensures some { IfSome result (λ roots. Answers self.now.header self.now.history (Derives id) (RootsOf roots.fsnode roots.unode roots.deleted) nothing) }
     {
         let number = self.machine.number_of(&id)?;
         self.manifests.roots(number)
@@ -90,6 +90,42 @@ impl<D: Disk> RepoState<D> {
         }
     }
 
+    /// The bytes of the deleted node of a path of a changeset, of its root where none is given. What the changeset's chain
+    /// lacks is derived first. The disk isn't asked.
+    pub fn deleted(
+        &mut self,
+        alloc: Global,
+        id: Id,
+        path: Option<&RepoPath>,
+    ) -> Result<Vec<u8>, AskFault>
+        ensures answer { Answers self.old.header self.old.history (Looks (DeletedOf id (place_of path.entry))) (bytes_answer result) nothing }
+        ensures same { self.new ≡ record self.old { table = self.new.table } }
+        ensures manifests { AreManifests (known self.new.history) self.new.table }
+        ensures stay { StaySettled self.old.table self.new.table }
+    {
+        let number = self.settle_chain(alloc, id)?;
+        match self.manifests.deleted(alloc, number, path) {
+            Ok(bytes) => Ok(bytes),
+            Err(fault) => Err(read_fault(fault)),
+        }
+    }
+
+    /// The changesets of a changeset's chain that set a path, or have another file there than their first parent, newest
+    /// first. What the chain lacks is derived first. The disk isn't asked.
+    pub fn path_log(&mut self, alloc: Global, id: Id, path: &RepoPath) -> Result<Vec<Id>, AskFault>
+        ensures answer { Answers self.old.header self.old.history (Looks (PathLogOf id path.now)) (ids_answer result) nothing }
+        ensures same { self.new ≡ record self.old { table = self.new.table } }
+        ensures manifests { AreManifests (known self.new.history) self.new.table }
+        ensures stay { StaySettled self.old.table self.new.table }
+    {
+        let number = self.settle_chain(alloc, id)?;
+        let changesets = self.machine.changesets();
+        match self.manifests.path_log(alloc, changesets, number, path) {
+            Ok(ids) => Ok(ids),
+            Err(fault) => Err(read_fault(fault)),
+        }
+    }
+
     // The number of a changeset, of which the whole chain is settled by now.
     fn settle_chain(&mut self, alloc: Global, id: Id) -> Result<u32, AskFault>
         ensures ok { IfOk result (λ n. (number_in (known self.old.history) id ≡ Some n) × (is_settled self.new.table n ≡ true)) }
@@ -99,7 +135,10 @@ impl<D: Disk> RepoState<D> {
         ensures stay { StaySettled self.old.table self.new.table }
     {
         while let Some(job) = self.next_job(alloc, id)? {
-            let done = derive(alloc, job)?;
+            // The job has all nodes that are looked for, so nothing but memory is wanting.
+            let Ok(done) = derive(alloc, job) else {
+                return Err(AskFault::Memory);
+            };
             if let Err(fault) = self.settle(alloc, done) {
                 return Err(settle_fault(fault));
             }

@@ -1,5 +1,5 @@
 //! Planned landings. All memory was taken by `plan` and `reserve`.
-ghost use Rattle.std.specs.Prelude.{◌≡◌, Some};
+ghost use Rattle.std.specs.Prelude.{◌≡◌, ℕ, List, Option, Some};
 ghost use Rattle.history_model.specs.History.{Land};
 ghost use Rattle.repo_machine.specs.Held.{HasRoom};
 ghost use Rattle.repo_machine.specs.Plans.{WasPlanned, frame_size, landing_in};
@@ -15,12 +15,12 @@ use repo_calls::{Granted, Refusal};
 use repo_machine::Rebased;
 
 impl<D: Disk> RepoState<D> {
-    /// Lands for the seat `who` what was planned here earlier, if the bookmark has the planned head, and for which room
-    /// was made. Its entry waits to be sealed. It takes no memory, and the disk isn't asked. Where the disk failed so that
-    /// nothing more is stored, it is refused whatever the head is.
+    /// Lands for the seat `who` what was planned here earlier, if the bookmark has the planned head and the policy that is
+    /// held by now allows it, and for which room was made. Its entry waits to be sealed. It takes no memory, and the disk
+    /// isn't asked. Where the disk failed so that nothing more is stored, it is refused whatever the head is.
     pub fn exchange(&mut self, who: u64, rebased: Rebased) -> Exchanged
         requires planned { WasPlanned self.old.history rebased }
-        requires room { HasRoom self.old.room (Some (Land (landing_in rebased))) }
+        requires room { (caller : Option (List ℕ)) → HasRoom self.old.room (Some (Land (landing_in rebased caller))) }
         requires record_room { HasRecordRoom self.old (frame_size rebased) }
         ensures exchanged { Exchanges self.old.header self.old.history who rebased result self.new.history }
         ensures header { self.new.header ≡ self.old.header }

@@ -8,7 +8,7 @@ ghost use Rattle.disk_model.specs.Calls.{Kept, LeavesOnly, Looked};
 ghost use Rattle.history_model.specs.Bookmark.{head};
 ghost use Rattle.history_model.specs.History.{changeset_of, known};
 ghost use Rattle.reply_model.specs.After.{Answer, Answers, Looks, Replies, nothing};
-ghost use Rattle.reply_model.specs.Reply.{ChangesetOf, ContentOf, CopiesOf, LogFrom};
+ghost use Rattle.reply_model.specs.Reply.{ChangesetOf, ContentOf, CopiesOf, LogFrom, PolicyOf};
 ghost use Rattle.repo_calls.specs.Asking.{bytes_answer, fault_answer, is_bad_bytes, is_early, is_read_fault, IsAnswer, question_seen, reads_file};
 ghost use Rattle.repo_state.specs.Asking.{IsReadFor, IsUnsealed, TellsDigest};
 ghost use Rattle.manifest_store.specs.Manifests.{AreManifests};
@@ -77,6 +77,15 @@ impl<D: Disk> RepoState<D> {
                 Err(fault) => Err(fault),
             },
             Question::Copies(id) => self.copies(alloc, id),
+            Question::PathLog(id, path) => match self.path_log(alloc, id, path) {
+                Ok(ids) => Ok(Seen::Ids(ids)),
+                Err(fault) => Err(fault),
+            },
+            Question::Deleted(id, path) => match self.deleted(alloc, id, path) {
+                Ok(bytes) => Ok(Seen::Bytes(bytes)),
+                Err(fault) => Err(fault),
+            },
+            Question::Policy(number) => self.policy(alloc, number),
         }
     }
 
@@ -121,6 +130,21 @@ impl<D: Disk> RepoState<D> {
         match self.machine.copies(alloc, id) {
             Ok(copies) => Ok(Seen::Copies(copies)),
             Err(fault) => Err(fault),
+        }
+    }
+
+    // The text of the policy that is held, or of the one that has this number in the log.
+    fn policy(&self, alloc: Global, number: Option<u64>) -> Result<Seen, AskFault>
+        ensures answer { (answer : Answer) × IsAnswer result answer × Answers self.now.header self.now.history (Looks (PolicyOf number)) answer nothing }
+        ensures sound { IsSound self.now.opening self.now.history self.now.sealed self.now.disk }
+        ensures read { (is_read_fault result ≡ false) × (is_bad_bytes result ≡ false) }
+    {
+        let Some(text) = self.machine.policy(number) else {
+            return Err(AskFault::NoPolicy);
+        };
+        match Vec::from_slice(alloc, text) {
+            Ok(bytes) => Ok(Seen::Bytes(bytes)),
+            Err(_) => Err(AskFault::Memory),
         }
     }
 

@@ -6,7 +6,7 @@ ghost use Rattle.history_model.specs.History.{is_down, known};
 ghost use Rattle.repo_machine.specs.Again.{WasPlan, since, GoesOn};
 ghost use Rattle.repo_machine.specs.Clashes.{edited_paths};
 ghost use Rattle.repo_machine.specs.Landings.{IsLandingRefusal};
-ghost use Rattle.repo_machine.specs.Plans.{IsPlan};
+ghost use Rattle.repo_machine.specs.Plans.{IsAllowed, IsPlan};
 
 use crate::state::RepoState;
 use ancestry::Steps;
@@ -25,9 +25,10 @@ impl<D: Disk> RepoState<D> {
         steps: &mut Steps<L>,
     ) -> Result<Plan, Refusal>
         requires { WasPlan self.now.history plan }
-        ensures ok { IfOk result (IsPlan self.now.history plan.name plan.draft) }
+        ensures ok { IfOk result (IsPlan self.now.history plan.caller plan.name plan.draft) }
+        ensures allowed { IfOk result (λ again. IsAllowed self.now.history plan.caller again.touched) }
         ensures up { OnOk result (is_down self.now.history ≡ false) }
-        ensures err { IfErr result (IsLandingRefusal self.now.header self.now.history plan.name plan.draft) }
+        ensures err { IfErr result (IsLandingRefusal self.now.header self.now.history plan.caller plan.name plan.draft) }
         ensures counted { steps.old ≤ steps.new }
         // At most three more than the binary digits of the number of the stack's paths, for each new edit.
         ensures only_new { (new : ModelId) (digits : ℕ) → head_of self.now.history plan.name ≡ Some new → GoesOn (known self.now.history) plan new →

@@ -8,7 +8,7 @@ use Rattle.history_model.specs.Chain.{line}
 use Rattle.history_model.specs.Journal.{Header}
 use Rattle.byte_fields.proofs.Lists.{prefix_self, prefix_trans}
 use Rattle.reply_model.specs.After.{After, Answer, Answers, Call, Derives, Looks, nothing, SeesMore}
-use Rattle.reply_model.specs.Reply.{Question, HeadOf, ContentOf, ChangesetOf, LogFrom, FsnodeOf, UnodeOf, HistoryOf, CopiesOf, PathLogOf, DeletedOf}
+use Rattle.reply_model.specs.Reply.{Question, HeadOf, ContentOf, ChangesetOf, LogFrom, FsnodeOf, UnodeOf, HistoryOf, CopiesOf, PathLogOf, DeletedOf, PolicyOf}
 use Rattle.reply_model.proofs.Lines.{known-append, line_grows}
 use Rattle.changeset_store.specs.Store.{known_at}
 use Rattle.changeset_store.proofs.Places.{known_at-append}
@@ -70,6 +70,7 @@ derives_fine header h x (faults.NoChangeset id) a = refl
 derives_fine header h x faults.NoPath a = refl
 derives_fine header h x faults.NotADir a = refl
 derives_fine header h x faults.NotAFile a = refl
+derives_fine header h x faults.NoPolicy a = refl
 derives_fine header h x (faults.Collision id) a = refl
 derives_fine header h x faults.ReadFault a = refl
 derives_fine header h x (faults.BadBytes wanted found) a = absurd a
@@ -95,8 +96,9 @@ module _ (header : Header) (old new : List Entry) (who : ℕ) (x : Id) (fault : 
   not_derived (ChangesetOf id) of = absurd of
   not_derived (LogFrom n) of = absurd of
   not_derived (CopiesOf id) of = absurd of
-  not_derived (PathLogOf id p) of = absurd of
-  not_derived (DeletedOf id p) of = absurd of
+  not_derived (PolicyOf number) of = absurd of
   not_derived (FsnodeOf id d) of = at (λ z. FsnodeOf z d) id of (reading.fsnode_not_derived header new x d fault a)
   not_derived (UnodeOf id p) of = at (λ z. UnodeOf z p) id of (reading.unode_not_derived header new x p fault a)
   not_derived (HistoryOf id p) of = at (λ z. HistoryOf z p) id of (reading.history_not_derived header new x p fault a)
+  not_derived (PathLogOf id p) of = at (λ z. PathLogOf z p) id of (reading.log_not_derived header new x p fault a)
+  not_derived (DeletedOf id p) of = at (λ z. DeletedOf z p) id of (reading.deleted_not_derived header new x p fault a)

@@ -8,12 +8,12 @@ use Rattle.history_model.specs.Bookmark.{head}
 use Rattle.history_model.specs.History.{Entry}
 use Rattle.history_model.specs.Journal.{Header}
 use Rattle.reply_model.specs.Reply.{Ask, LandDraft, judge}
-use Rattle.reply_model.specs.Opening.{nobody}
-use Rattle.reply_model.specs.After.{Answer, Answers, Asks, Replies, nothing}
+use Rattle.reply_model.specs.After.{Answer, Answers, Asks, Call, Replies, nothing}
 use Rattle.repo_calls.specs.declared.ask.Granted.{Granted}
 use Rattle.repo_calls.specs.declared.refusal.Refusal.{Refusal}
 use Rattle.repo_calls.specs.Calls.{refused}
-use Rattle.repo_machine.specs.Landings.{IsRefusal, IsLandingRefusal}
+use Rattle.repo_calls.specs.Refusing.{IsRefusal}
+use Rattle.repo_machine.specs.Landings.{IsLandingRefusal}
 use Rattle.repo_machine.specs.Plans.{PlannedLanding, RebasedLanding, IsPlan}
 use Rattle.repo_state.specs.Exchanging.{Exchanges}
 use Rattle.repo_state.specs.declared.exchanged.Exchanged.{Exchanged}
@@ -22,15 +22,15 @@ use Rattle.repo_state.specs.State.{entered_answer}
 use Rattle.shared_repo.specs.Landing.{IsMadeBefore, RefusesLanding, outcome_of}
 
 pub outcome_replies : (header : Header) (h new : List Entry) (who : ℕ) (r : RebasedLanding) (x : Exchanged) → Exchanges header h who r x new
-    → MatchOption (outcome_of x) (new ≡ h) (λ entered. Replies header h who (Asks (LandDraft nobody r.name r.draft r.asked)) (entered_answer entered) new)
+    → MatchOption (outcome_of x) (new ≡ h) (λ entered. Replies header h who (Asks (LandDraft r.caller r.name r.draft r.asked)) (entered_answer entered) new)
 outcome_replies header h new who r (Landed landed) e = e.1
 outcome_replies header h new who r (HeadMoved found) e = e.3
 outcome_replies header h new who r (Refused refusal) e = e.2
 
 pub counted_replies : (header opened : Header) (h before new : List Entry) (who : ℕ) (r : RebasedLanding) (x : Exchanged) (granted : Result Granted Refusal) (answer : Answer) → Exchanges header h who r x new → header ≡ opened → h ≡ before → outcome_of x ≡ Some granted → answer ≡ entered_answer granted
-    → Replies opened before who (Asks (LandDraft nobody r.name r.draft r.asked)) answer new
+    → Replies opened before who (Asks (LandDraft r.caller r.name r.draft r.asked)) answer new
 counted_replies header opened h before new who r x granted answer e heads same some is =
-    let ask = Asks (LandDraft nobody r.name r.draft r.asked) in
+    let ask = Asks (LandDraft r.caller r.name r.draft r.asked) in
     let told : Replies header h who ask (entered_answer granted) new =
     subst (λ (o : Option (Result Granted Refusal)). MatchOption o (new ≡ h) (λ entered. Replies header h who ask (entered_answer entered) new)) some (outcome_replies header h new who r x e) in
     subst (λ (a : Answer). Replies opened before who ask a new) (sym is)
@@ -47,24 +47,24 @@ refused_so : (header : Header) (h : List Entry) (ask : Ask) (e : Refusal) → Is
 refused_so header h ask e (inl memory) = subst (λ (x : Refusal). Answers header h (Asks ask) (refused x) nothing) (sym memory) refl
 refused_so header h ask e (inr told) = subst (λ (a : Answer). Answers header h (Asks ask) a nothing) (sym told.2) (refl, told.1)
 
-pub refused_plan : (header : Header) (h : List Entry) (name : List ℕ) (draft : Id) (e : Refusal) → IsLandingRefusal header h name draft e → RefusesLanding header h name draft e
-refused_plan header h name draft e always = λ moment. refused_so header h (LandDraft nobody name draft moment) e (always moment)
+pub refused_plan : (header : Header) (h : List Entry) (caller name : List ℕ) (draft : Id) (e : Refusal) → IsLandingRefusal header h caller name draft e → RefusesLanding header h caller name draft e
+refused_plan header h caller name draft e always = λ moment. refused_so header h (LandDraft caller name draft moment) e (always moment)
 
-pub refused_plan_in : {A : Type 0} (header opened : Header) (h : List Entry) (name : List ℕ) (draft : Id) (result : Result A Refusal) → header ≡ opened → IfErr result (IsLandingRefusal header h name draft)
-    → IfErr result (RefusesLanding opened h name draft)
-refused_plan_in header opened h name draft (Ok x) same told = tt
-refused_plan_in header opened h name draft (Err e) same told = subst (λ (o : Header). RefusesLanding o h name draft e) same (refused_plan header h name draft e told)
+pub refused_plan_in : {A : Type 0} (header opened : Header) (h : List Entry) (caller name : List ℕ) (draft : Id) (result : Result A Refusal) → header ≡ opened → IfErr result (IsLandingRefusal header h caller name draft)
+    → IfErr result (RefusesLanding opened h caller name draft)
+refused_plan_in header opened h caller name draft (Ok x) same told = tt
+refused_plan_in header opened h caller name draft (Err e) same told = subst (λ (o : Header). RefusesLanding o h caller name draft e) same (refused_plan header h caller name draft e told)
 
 -- a change that is refused makes nothing
-pub refused_alone : (header : Header) (h new : List Entry) (who : ℕ) (ask : Ask) (e : Refusal) → Answers header h (Asks ask) (refused e) nothing → new ≡ h → Replies header h who (Asks ask) (refused e) new
-refused_alone header h new who ask e told same = record { made = nothing; answers = told; new_is = same ∙ sym (append-nil h) }
+pub refused_alone : (header : Header) (h new : List Entry) (who : ℕ) (call : Call) (e : Refusal) → Answers header h call (refused e) nothing → new ≡ h → Replies header h who call (refused e) new
+refused_alone header h new who call e told same = record { made = nothing; answers = told; new_is = same ∙ sym (append-nil h) }
 
 -- what is told of a plan that was made again is told of the landing
-pub planned_again : (h : List Entry) (name : List ℕ) (draft : Id) (before plan : PlannedLanding) → IsMadeBefore h name draft before → IsPlan h before.name before.draft plan → IsPlan h name draft plan
-planned_again h name draft before plan m p = subst (λ (t : List ℕ × Id). IsPlan h t.0 t.1 plan) (λ i. (m.names i, m.drafts i)) p
+pub planned_again : (h : List Entry) (caller name : List ℕ) (draft : Id) (before plan : PlannedLanding) → IsMadeBefore h caller name draft before → IsPlan h before.caller before.name before.draft plan → IsPlan h caller name draft plan
+planned_again h caller name draft before plan m p = subst (λ (t : List ℕ × (List ℕ × Id)). IsPlan h t.0 t.1.0 t.1.1 plan) (λ i. (m.callers i, (m.names i, m.drafts i))) p
 
-pub refused_again : (header : Header) (h : List Entry) (name : List ℕ) (draft : Id) (before : PlannedLanding) (e : Refusal) → IsMadeBefore h name draft before → RefusesLanding header h before.name before.draft e → RefusesLanding header h name draft e
-refused_again header h name draft before e m always = λ moment. subst (λ (ask : Ask). Answers header h (Asks ask) (refused e) nothing) (λ i. LandDraft nobody (m.names i) (m.drafts i) moment) (always moment)
+pub refused_again : (header : Header) (h : List Entry) (caller name : List ℕ) (draft : Id) (before : PlannedLanding) (e : Refusal) → IsMadeBefore h caller name draft before → RefusesLanding header h before.caller before.name before.draft e → RefusesLanding header h caller name draft e
+refused_again header h caller name draft before e m always = λ moment. subst (λ (ask : Ask). Answers header h (Asks ask) (refused e) nothing) (λ i. LandDraft (m.callers i) (m.names i) (m.drafts i) moment) (always moment)
 
 -- what holds where a call was done
 pub where_ok : {A E P : Type 0} (result : Result A E) → is_err result ≡ false → OnOk result P → P

@@ -4,13 +4,12 @@ use Rattle.std.specs.Prelude.{◌⊎◌, ◌≢◌, MatchBool}
 use Rattle.history_model.specs.History.{Entry, Body, Fault}
 use Rattle.history_model.specs.Journal.{Header}
 use Rattle.reply_model.specs.Reply as reply
-use Rattle.reply_model.specs.Reply.{Ask, LandDraft, Question, HeadOf, ContentOf, ChangesetOf, LogFrom, FsnodeOf, UnodeOf, HistoryOf, CopiesOf, PathLogOf, DeletedOf}
-use Rattle.reply_model.specs.Opening.{nobody}
+use Rattle.reply_model.specs.Reply.{LandDraft, Question, HeadOf, ContentOf, ChangesetOf, LogFrom, FsnodeOf, UnodeOf, HistoryOf, CopiesOf, PathLogOf, DeletedOf, PolicyOf}
 use Rattle.reply_model.specs.After as answers
-use Rattle.reply_model.specs.After.{Asks, Looks, Answer, Grants, Refuses, Shows, Lacks, Roots, ReadFault, BadBytes, NodeCollision, Memory, Answers, Made, Replies, nothing, only_fault, entries_of}
+use Rattle.reply_model.specs.After.{Asks, Joins, Looks, Derives, Call, Answer, Grants, Refuses, Shows, Lacks, Roots, ReadFault, BadBytes, NodeCollision, Memory, Answers, Made, Replies, nothing, only_fault, entries_of}
 use Rattle.repo_calls.specs.declared.refusal.Refusal.{Refusal}
 use Rattle.repo_calls.specs.declared.refusal.Refusal.TheVariants as refusals
-use Rattle.repo_calls.specs.Calls.{refused}
+use Rattle.repo_calls.specs.Calls.{granted_seen, refused}
 use Rattle.repo_machine.specs.Plans.{RebasedLanding}
 use Rattle.repo_state.specs.Exchanging.{Exchanges}
 use Rattle.repo_state.specs.declared.exchanged.Exchanged.{Exchanged}
@@ -26,9 +25,14 @@ refused_is (refusals.TooLong n) = inl (_, refl)
 refused_is (refusals.BadEncoding at) = inl (_, refl)
 refused_is (refusals.SelfConflict short long) = inl (_, refl)
 refused_is refusals.Merge = inl (_, refl)
+refused_is (refusals.BadParts n) = inl (_, refl)
+refused_is refusals.OldFormat = inl (_, refl)
+refused_is (refusals.NoPiece id) = inl (_, refl)
+refused_is (refusals.NotAPiece id) = inl (_, refl)
 refused_is (refusals.NoParent id) = inl (_, refl)
 refused_is (refusals.NoContent path id) = inl (_, refl)
 refused_is (refusals.WrongSize path wanted found) = inl (_, refl)
+refused_is (refusals.Unresolved path) = inl (_, refl)
 refused_is (refusals.Collision id) = inl (_, refl)
 refused_is (refusals.NoChangeset id) = inl (_, refl)
 refused_is (refusals.Moved found) = inl (_, refl)
@@ -37,16 +41,40 @@ refused_is refusals.NoRoot = inl (_, refl)
 refused_is (refusals.TooFarBehind distance) = inl (_, refl)
 refused_is refusals.AlreadyIn = inl (_, refl)
 refused_is (refusals.StackTooLong count) = inl (_, refl)
+refused_is (refusals.MergeInStack id) = inl (_, refl)
+refused_is (refusals.MergeInRange id) = inl (_, refl)
+refused_is (refusals.Denied place rule) = inl (_, refl)
 refused_is (refusals.Clash left right) = inl (_, refl)
 refused_is (refusals.TooLarge n) = inl (_, refl)
+refused_is (refusals.BadPolicy line) = inl (_, refl)
 refused_is (refusals.Full size n) = inl (_, refl)
 refused_is refusals.Memory = inr refl
 
-refused_made : (header : Header) (h : List Entry) (ask : Ask) (r : Refusal) (made : Made) → Answers header h (Asks ask) (refused r) made → made ≡ nothing
-refused_made header h ask r made a = ⊎_elim
-    (λ (t : (x : reply.Refusal) × (refused r ≡ Refuses x)). (subst (λ (answer : Answer). Answers header h (Asks ask) answer made) t.1 a).0)
-    (λ (m : refused r ≡ Memory). subst (λ (answer : Answer). Answers header h (Asks ask) answer made) m a)
+-- a call of any kind that is refused, or for which no memory was there, makes nothing
+refusal_made : (header : Header) (h : List Entry) (call : Call) (x : reply.Refusal) (made : Made) → Answers header h call (Refuses x) made → made ≡ nothing
+refusal_made header h (Asks ask) x made a = a.0
+refusal_made header h (Joins body) x made a = a.0
+refusal_made header h (Looks question) x made a = absurd a
+refusal_made header h (Derives id) x made a = absurd a
+
+memory_made : (header : Header) (h : List Entry) (call : Call) (made : Made) → Answers header h call Memory made → made ≡ nothing
+memory_made header h (Asks ask) made a = a
+memory_made header h (Joins body) made a = a
+memory_made header h (Looks question) made a = a
+memory_made header h (Derives id) made a = a
+
+refused_made : (header : Header) (h : List Entry) (call : Call) (r : Refusal) (made : Made) → Answers header h call (refused r) made → made ≡ nothing
+refused_made header h call r made a = ⊎_elim
+    (λ (t : (x : reply.Refusal) × (refused r ≡ Refuses x)). refusal_made header h call t.0 made (subst (λ (answer : Answer). Answers header h call answer made) t.1 a))
+    (λ (m : refused r ≡ Memory). memory_made header h call made (subst (λ (answer : Answer). Answers header h call answer made) m a))
     (refused_is r)
+
+-- what is granted met no fault in its turn
+pub granted_calm : (header : Header) (h : List Entry) (call : Call) (granted : reply.Granted) (made : Made) → Answers header h call (Grants granted) made → made.fault ≡ None
+granted_calm header h (Asks ask) granted made a = a.0
+granted_calm header h (Joins body) granted made a = a.0
+granted_calm header h (Looks question) granted made a = absurd a
+granted_calm header h (Derives id) granted made a = absurd a
 
 pub not_granted : (r : Refusal) (granted : reply.Granted) → refused r ≡ Grants granted → ⊥
 not_granted r granted e = ⊎_elim (λ (t : (x : reply.Refusal) × (refused r ≡ Refuses x)). absurd (cc (t.1, e))) (λ (m : refused r ≡ Memory). absurd (cc (m, e))) (refused_is r)
@@ -66,9 +94,9 @@ of_body who made (Some body) e = inr (record { who = who; body = body }, refl, a
 granted_few : (who : ℕ) (made : Made) → made.fault ≡ None → IsFew who made
 granted_few who made none = of_body who made made.entry (ap (λ f. record { entry = made.entry; fault = f }) none)
 
-changed : (header : Header) (h : List Entry) (who : ℕ) (ask : Ask) (entered : Result Placed Refusal) (made : Made) → Answers header h (Asks ask) (placed_answer entered) made → IsFew who made
-changed header h who ask (Ok placed) made a = granted_few who made a.0
-changed header h who ask (Err refusal) made a = of_nothing who made (refused_made header h ask refusal made a)
+changed : (header : Header) (h : List Entry) (who : ℕ) (call : Call) (entered : Result Placed Refusal) (made : Made) → Answers header h call (placed_answer entered) made → IsFew who made
+changed header h who call (Ok placed) made a = granted_few who made (granted_calm header h call (granted_seen placed.granted) made a)
+changed header h who call (Err refusal) made a = of_nothing who made (refused_made header h call refusal made a)
 
 abbrev pub IsLook : Made → Type 0
 IsLook made = (made ≡ nothing) ⊎ (made ≡ only_fault false)
@@ -78,7 +106,7 @@ looked header h q (Grants g) made a = absurd a
 looked header h q (Refuses r) made a = absurd a
 looked header h q (Shows s) made a = inl a.0
 looked header h q (Lacks b) made a = inl a.0
-looked header h q (Roots f u) made a = absurd a
+looked header h q (Roots f u d) made a = absurd a
 looked header h q answers.DiskFault made a = absurd a
 looked header h (HeadOf m) ReadFault made a = absurd a
 looked header h (ContentOf c) ReadFault made a = inr a.0
@@ -90,6 +118,7 @@ looked header h (HistoryOf c p) ReadFault made a = absurd a
 looked header h (CopiesOf c) ReadFault made a = absurd a
 looked header h (PathLogOf c p) ReadFault made a = absurd a
 looked header h (DeletedOf c p) ReadFault made a = absurd a
+looked header h (PolicyOf n) ReadFault made a = absurd a
 looked header h (HeadOf m) (BadBytes w f) made a = absurd a
 looked header h (ContentOf c) (BadBytes w f) made a = inl a.0
 looked header h (ChangesetOf c) (BadBytes w f) made a = absurd a
@@ -100,6 +129,7 @@ looked header h (HistoryOf c p) (BadBytes w f) made a = absurd a
 looked header h (CopiesOf c) (BadBytes w f) made a = absurd a
 looked header h (PathLogOf c p) (BadBytes w f) made a = absurd a
 looked header h (DeletedOf c p) (BadBytes w f) made a = absurd a
+looked header h (PolicyOf n) (BadBytes w f) made a = absurd a
 looked header h q (NodeCollision z) made a = inl a.0
 looked header h q Memory made a = inl a
 
@@ -120,17 +150,17 @@ adds who h new made (inr some) is n m new_is old_is false equal =
     let longer : length new ≡ length h + 1 = ap length (is ∙ ap (λ es. h ++ es) some.2) ∙ length-append h (some.0 ∷ []) in
     absurd (omega arith)
 
-pub change_adds : (header : Header) (h new : List Entry) (who : ℕ) (ask : Ask) (entered : Result Placed Refusal) → Replies header h who (Asks ask) (placed_answer entered) new → (n m : ℕ) → n ≡ length new → m ≡ length h → (added : Bool) → MatchBool added (n ≢ m) (n ≡ m)
+pub change_adds : (header : Header) (h new : List Entry) (who : ℕ) (call : Call) (entered : Result Placed Refusal) → Replies header h who call (placed_answer entered) new → (n m : ℕ) → n ≡ length new → m ≡ length h → (added : Bool) → MatchBool added (n ≢ m) (n ≡ m)
     → MatchBool added ((e : Entry) × (e.who ≡ who) × (new ≡ h ++ e ∷ [])) (new ≡ h)
-change_adds header h new who ask entered r = adds who h new r.made (changed header h who ask entered r.made r.answers) r.new_is
+change_adds header h new who call entered r = adds who h new r.made (changed header h who call entered r.made r.answers) r.new_is
 
 pub look_adds : (header : Header) (h new : List Entry) (who : ℕ) (q : Question) (answer : Answer) → Replies header h who (Looks q) answer new → (n m : ℕ) → n ≡ length new → m ≡ length h → (added : Bool) → MatchBool added (n ≢ m) (n ≡ m)
     → MatchBool added ((e : Entry) × (e.who ≡ who) × (new ≡ h ++ e ∷ [])) (new ≡ h)
 look_adds header h new who q answer r = adds who h new r.made (look_few who r.made (looked header h q answer r.made r.answers)) r.new_is
 
 -- a refusal leaves the history as it was
-pub refused_same : (header : Header) (h new : List Entry) (who : ℕ) (ask : Ask) (r : Refusal) → Replies header h who (Asks ask) (refused r) new → new ≡ h
-refused_same header h new who ask r told = told.new_is ∙ ap (λ made. h ++ entries_of who made) (refused_made header h ask r told.made told.answers) ∙ append-nil h
+pub refused_same : (header : Header) (h new : List Entry) (who : ℕ) (call : Call) (r : Refusal) → Replies header h who call (refused r) new → new ≡ h
+refused_same header h new who call r told = told.new_is ∙ ap (λ made. h ++ entries_of who made) (refused_made header h call r told.made told.answers) ∙ append-nil h
 
 -- ---- landings
 
@@ -144,7 +174,7 @@ makes header h new who r (Landed landed) e =
     let told = e.1 in record { made = told.made; few_is = granted_few who told.made told.answers.0; new_is = told.new_is }
 makes header h new who r (HeadMoved found) e = record { made = nothing; few_is = inl refl; new_is = e.3 ∙ sym (append-nil h) }
 makes header h new who r (Refused refusal) e =
-    let told = e.2 in record { made = told.made; few_is = of_nothing who told.made (refused_made header h (LandDraft nobody r.name r.draft r.asked) refusal told.made told.answers); new_is = told.new_is }
+    let told = e.2 in record { made = told.made; few_is = of_nothing who told.made (refused_made header h (Asks (LandDraft r.caller r.name r.draft r.asked)) refusal told.made told.answers); new_is = told.new_is }
 
 pub exchange_adds : (header : Header) (h new : List Entry) (who : ℕ) (r : RebasedLanding) (x : Exchanged) → Exchanges header h who r x new → (n m : ℕ) → n ≡ length new → m ≡ length h → (added : Bool) → MatchBool added (n ≢ m) (n ≡ m)
     → MatchBool added ((e : Entry) × (e.who ≡ who) × (new ≡ h ++ e ∷ [])) (new ≡ h)

@@ -5,8 +5,7 @@ use Rattle.history_model.specs.History.{Entry, is_breaking, is_down}
 use Rattle.history_model.specs.Journal.{Header}
 use Rattle.std.specs.Prelude.{IfErr, IfOk, filter, not}
 use Rattle.reply_model.specs.Reply as reply
-use Rattle.reply_model.specs.Reply.{Ask}
-use Rattle.reply_model.specs.After.{After, Answer, Answers, Asks, DiskFault, Grants, Made, Memory, SeesMore, calm_by, entries_of, nothing}
+use Rattle.reply_model.specs.After.{After, Answer, Answers, Call, DiskFault, Grants, Made, Memory, SeesMore, calm_by, entries_of, nothing}
 use Rattle.reply_model.proofs.Fronts.{replies_after, failed_after}
 use Rattle.repo_calls.specs.declared.ask.Granted.{Granted}
 use Rattle.repo_calls.specs.declared.refusal.Refusal.{Refusal}
@@ -21,41 +20,41 @@ use Rattle.shared_repo.specs.declared.turns.Placed.{Placed}
 use Rattle.shared_repo.specs.Front.{IsFront}
 use Rattle.shared_repo.specs.Sealed.{IsEntered, IsSealedAfter, IsSeen, IsState, UnlessRefused}
 use Rattle.shared_repo.proofs.Fronts.{after_memory, after_more, after_nothing, sees_twice}
-use Rattle.shared_repo.proofs.Made.{not_granted}
+use Rattle.shared_repo.proofs.Made.{granted_calm, not_granted}
 
 -- ---- what is refused
 
-pub memory_sealed : (header : Header) (h : List Entry) (who : ℕ) (ask : Ask) (sealed : ℕ) → IsSealedAfter header h who ask Memory h sealed
-memory_sealed header h who ask sealed = record { after = after_memory header h who ask; sealed_to = λ granted is. absurd (cc is) }
+pub memory_sealed : (header : Header) (h : List Entry) (who : ℕ) (call : Call) (sealed : ℕ) → IsSealedAfter header h who call Memory h sealed
+memory_sealed header h who call sealed = record { after = after_memory header h who call; sealed_to = λ granted is. absurd (cc is) }
 
 -- a plan that was refused, in a turn of the seat `number`
-pub plan_refused : (header : Header) (old between new : List Entry) (who number : ℕ) (ask : Ask) (r : Refusal) (sealed : ℕ) → SeesMore old who between → number ≡ who → SeesMore between number new → Answers header new (Asks ask) (refused r) nothing → IsSealedAfter header old who ask (refused r) new sealed
-plan_refused header old between new who number ask r sealed s n t a = record {
-  after = after_nothing header old new who (Asks ask) (refused r) (sees_twice old between new who s (subst (λ (w : ℕ). SeesMore between w new) n t)) a;
+pub plan_refused : (header : Header) (old between new : List Entry) (who number : ℕ) (call : Call) (r : Refusal) (sealed : ℕ) → SeesMore old who between → number ≡ who → SeesMore between number new → Answers header new call (refused r) nothing → IsSealedAfter header old who call (refused r) new sealed
+plan_refused header old between new who number call r sealed s n t a = record {
+  after = after_nothing header old new who call (refused r) (sees_twice old between new who s (subst (λ (w : ℕ). SeesMore between w new) n t)) a;
   sealed_to = λ granted is. absurd (not_granted r granted is);
 }
 
-pub refused_sealed : (header : Header) (old : Place) (ask : Ask) (r : Refusal) (new : List Entry) (sealed : ℕ) → IsEntered header old ask (Err r) new → IsSealedAfter header old.front old.number ask (refused r) new sealed
-refused_sealed header old ask r new sealed e = record {
-  after = replies_after header old.front e.before old.number (Asks ask) (refused r) new e.sees e.replies;
+pub refused_sealed : (header : Header) (old : Place) (call : Call) (r : Refusal) (new : List Entry) (sealed : ℕ) → IsEntered header old call (Err r) new → IsSealedAfter header old.front old.number call (refused r) new sealed
+refused_sealed header old call r new sealed e = record {
+  after = replies_after header old.front e.before old.number call (refused r) new e.sees e.replies;
   sealed_to = λ granted is. absurd (not_granted r granted is);
 }
 
 -- ---- a turn without an entry before
 
-sealed_more : (header : Header) (old between new : List Entry) (who : ℕ) (ask : Ask) (answer : Answer) (sealed : ℕ) → SeesMore old who between → IsSealedAfter header between who ask answer new sealed → IsSealedAfter header old who ask answer new sealed
-sealed_more header old between new who ask answer sealed sees s = record { after = after_more header old between new who (Asks ask) answer sees s.after; sealed_to = s.sealed_to }
+sealed_more : (header : Header) (old between new : List Entry) (who : ℕ) (call : Call) (answer : Answer) (sealed : ℕ) → SeesMore old who between → IsSealedAfter header between who call answer new sealed → IsSealedAfter header old who call answer new sealed
+sealed_more header old between new who call answer sealed sees s = record { after = after_more header old between new who call answer sees s.after; sealed_to = s.sealed_to }
 
 -- two turns of the seat, and then the call, all under its number and for what was asked
-pub sealed_later : (header : Header) (old between mid new : List Entry) (who number third : ℕ) (ask asked : Ask) (answer : Answer) (sealed : ℕ) → SeesMore old who between → number ≡ who → SeesMore between number mid → third ≡ number → asked ≡ ask
-    → IsSealedAfter header mid third asked answer new sealed → IsSealedAfter header old who ask answer new sealed
-sealed_later header old between mid new who number third ask asked answer sealed first one second other is s =
-    sealed_more header old mid new who ask answer sealed (sees_twice old between mid who first (subst (λ (n : ℕ). SeesMore between n mid) one second))
-    (subst (λ (n : ℕ). IsSealedAfter header mid n ask answer new sealed) (other ∙ one) (subst (λ (a : Ask). IsSealedAfter header mid third a answer new sealed) is s))
+pub sealed_later : (header : Header) (old between mid new : List Entry) (who number third : ℕ) (call called : Call) (answer : Answer) (sealed : ℕ) → SeesMore old who between → number ≡ who → SeesMore between number mid → third ≡ number → called ≡ call
+    → IsSealedAfter header mid third called answer new sealed → IsSealedAfter header old who call answer new sealed
+sealed_later header old between mid new who number third call called answer sealed first one second other is s =
+    sealed_more header old mid new who call answer sealed (sees_twice old between mid who first (subst (λ (n : ℕ). SeesMore between n mid) one second))
+    (subst (λ (n : ℕ). IsSealedAfter header mid n call answer new sealed) (other ∙ one) (subst (λ (a : Call). IsSealedAfter header mid third a answer new sealed) is s))
 
 -- ---- and the turn in which it is sealed, or not
 
-module _ (header : Header) (old : Place) (ask : Ask) (placed : Placed) (mid new : Place) (same : old.number ≡ mid.number) (e : IsEntered header old ask (Ok placed) mid.front) (seen : IsSeen mid new) where
+module _ (header : Header) (old : Place) (call : Call) (placed : Placed) (mid new : Place) (same : old.number ≡ mid.number) (e : IsEntered header old call (Ok placed) mid.front) (seen : IsSeen mid new) where
   abbrev granted : reply.Granted
   granted = granted_seen placed.granted
 
@@ -63,7 +62,7 @@ module _ (header : Header) (old : Place) (ask : Ask) (placed : Placed) (mid new 
   made = record { entry = e.replies.made.entry; fault = None }
 
   made_is : e.replies.made ≡ made
-  made_is = (λ i. record { entry = e.replies.made.entry; fault = e.replies.answers.0 i })
+  made_is = (λ i. record { entry = e.replies.made.entry; fault = granted_calm header e.before call granted e.replies.made e.replies.answers i })
 
   mid_is : mid.front ≡ e.before ++ entries_of old.number made
   mid_is = e.replies.new_is ∙ ap (λ (m : Made). e.before ++ entries_of old.number m) made_is
@@ -71,7 +70,7 @@ module _ (header : Header) (old : Place) (ask : Ask) (placed : Placed) (mid new 
   own : calm_by old.number new.front ≡ calm_by old.number mid.front
   own = subst (λ (who : ℕ). calm_by who new.front ≡ calm_by who mid.front) (sym same) seen.own
 
-  done : After header old.front old.number (Asks ask) (Grants granted) new.front
+  done : After header old.front old.number call (Grants granted) new.front
   done = record {
     before = e.before;
     made = made;
@@ -83,23 +82,24 @@ module _ (header : Header) (old : Place) (ask : Ask) (placed : Placed) (mid new 
       last = λ no. absurd cc;
       failed = λ no. absurd cc;
     };
-    answers = subst (Answers header e.before (Asks ask) (Grants granted)) made_is e.replies.answers;
+    answers = subst (Answers header e.before call (Grants granted)) made_is e.replies.answers;
+    at_once = λ now. absurd now;
   }
 
-  granted_sealed : stored_length mid.front ≤ new.sealed → IsSealedAfter header old.front old.number ask (Grants granted) new.front new.sealed
+  granted_sealed : stored_length mid.front ≤ new.sealed → IsSealedAfter header old.front old.number call (Grants granted) new.front new.sealed
   unfolding done
   granted_sealed le = record { after = done; sealed_to = λ g is. (let long = ap stored_length mid_is in omega arith) }
 
-  failed_sealed : is_down new.front ≡ true → IsSealedAfter header old.front old.number ask DiskFault new.front new.sealed
+  failed_sealed : is_down new.front ≡ true → IsSealedAfter header old.front old.number call DiskFault new.front new.sealed
   failed_sealed down = record {
-    after = failed_after header old.front e.before mid.front new.front old.number (Asks ask) granted e.sees e.replies seen.begins own down;
+    after = failed_after header old.front e.before mid.front new.front old.number call granted e.sees e.replies seen.begins own down;
     sealed_to = λ g is. absurd (cc is);
   }
 
   pub answered_sealed : (result : Result Granted ChangeFault) → IfOk result (λ g. (g ≡ placed.granted) × (stored_length mid.front ≤ new.sealed)) → IfErr result (λ fault. (fault ≡ faults.DiskFault) × (is_down new.front ≡ true))
-      → IsSealedAfter header old.front old.number ask (stored_answer result) new.front new.sealed
-  answered_sealed (Ok g) ok err = subst (λ (x : Granted). IsSealedAfter header old.front old.number ask (Grants (granted_seen x)) new.front new.sealed) (sym ok.0) (granted_sealed ok.1)
-  answered_sealed (Err fault) ok err = subst (λ (x : ChangeFault). IsSealedAfter header old.front old.number ask (stored_answer (Err x)) new.front new.sealed) (sym err.0) (failed_sealed err.1)
+      → IsSealedAfter header old.front old.number call (stored_answer result) new.front new.sealed
+  answered_sealed (Ok g) ok err = subst (λ (x : Granted). IsSealedAfter header old.front old.number call (Grants (granted_seen x)) new.front new.sealed) (sym ok.0) (granted_sealed ok.1)
+  answered_sealed (Err fault) ok err = subst (λ (x : ChangeFault). IsSealedAfter header old.front old.number call (stored_answer (Err x)) new.front new.sealed) (sym err.0) (failed_sealed err.1)
 
 -- what a seat has seen of a state of a repository
 pub state_front : (opening : Opening) (h : List Entry) (sealed : ℕ) → IsState opening h sealed → IsFront opening h
@@ -109,4 +109,6 @@ state_front opening h sealed s = record { legal = s.1.legal; calm = s.1.calm }
 pub state_unless : {T : Type 0} (opening : Opening) (h : List Entry) (sealed : ℕ) (result : Result T ChangeFault) → IsState opening h sealed → UnlessRefused result (IsState opening h sealed)
 state_unless opening h sealed (Ok x) s = s
 state_unless opening h sealed (Err faults.DiskFault) s = s
+state_unless opening h sealed (Err faults.ReadFault) s = s
+state_unless opening h sealed (Err (faults.BadBytes wanted found)) s = s
 state_unless opening h sealed (Err (faults.Refused refusal)) s = tt

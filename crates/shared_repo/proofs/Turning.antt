@@ -13,8 +13,7 @@ use Rattle.bookmark_lock.specs.Opening.{Opening}
 use Rattle.bookmark_lock.specs.Place.{Place}
 use Rattle.bookmark_lock.specs.Turns.{Entered, IsTurn, adds_unsealed, kept_after, still, stored_length}
 use Rattle.bookmark_lock.proofs.Waitings.{sealed_keeps_none}
-use Rattle.reply_model.specs.Reply.{Ask}
-use Rattle.reply_model.specs.After.{After, Answer, Asks, Call, Replies, SeesMore, calm_by, entry_by}
+use Rattle.reply_model.specs.After.{After, Answer, Call, Replies, SeesMore, calm_by, entry_by}
 use Rattle.reply_model.proofs.Fronts.{replies_after}
 use Rattle.repo_calls.specs.declared.refusal.Refusal.{Refusal}
 use Rattle.repo_state.specs.State.{State, after_seal, breaks}
@@ -127,17 +126,17 @@ module _ {F X : Type 0} (g : Once F (MutBor State × Unit {0}) ((Bool × X) × (
   pub keeps_none : seat.unsealed ≡ None → stored_length e.after.history ≡ stored_length e.before.history → now.unsealed ≡ None
   keeps_none none same = keeps_of_none none ∙ kept_same None e.before.history e.after.history e.after.sealed same refl
 
-  pub entered_in : (ask : Ask) (entered : Result Placed Refusal) → Replies e.before.opening.header e.before.history seat.number (Asks ask) (placed_answer entered) e.after.history → IsEntered seat.lock.opening.header seat ask entered now.front
-  entered_in ask entered r = record {
+  pub entered_in : (call : Call) (entered : Result Placed Refusal) → Replies e.before.opening.header e.before.history seat.number call (placed_answer entered) e.after.history → IsEntered seat.lock.opening.header seat call entered now.front
+  entered_in call entered r = record {
     before = e.before.history;
     sees = sees_in;
     replies =
-        let of_lock = subst (λ (header : Header). Replies header e.before.history seat.number (Asks ask) (placed_answer entered) e.after.history) (ap (λ o. o.header) e.found.opened) r in
-        subst (λ (h : List Entry). Replies seat.lock.opening.header e.before.history seat.number (Asks ask) (placed_answer entered) h) (sym front_is) of_lock;
+        let of_lock = subst (λ (header : Header). Replies header e.before.history seat.number call (placed_answer entered) e.after.history) (ap (λ o. o.header) e.found.opened) r in
+        subst (λ (h : List Entry). Replies seat.lock.opening.header e.before.history seat.number call (placed_answer entered) h) (sym front_is) of_lock;
   }
 
-  pub told_in : seat.unsealed ≡ None → (header : Header) (ask : Ask) (entered : Result Placed Refusal) → Replies header e.before.history seat.number (Asks ask) (placed_answer entered) e.after.history → Tells entered e.after → IsTold entered now
-  told_in none header ask (Ok placed) r t =
+  pub told_in : seat.unsealed ≡ None → (header : Header) (call : Call) (entered : Result Placed Refusal) → Replies header e.before.history seat.number call (placed_answer entered) e.after.history → Tells entered e.after → IsTold entered now
+  told_in none header call (Ok placed) r t =
       let before = e.before.history in
       let after = e.after.history in
       let n = e.after.sealed in
@@ -147,8 +146,8 @@ module _ {F X : Type 0} (g : Once F (MutBor State × Unit {0}) ((Bool × X) × (
         keeps = subst (λ (m : ℕ). IfSome now.unsealed (λ i. i < m)) (sym t.0) (subst (λ (u : Option ℕ). IfSome u (λ i. i < stored_length after)) (sym (keeps_of_none none)) (kept_below before after n));
         all = λ le. keeps_of_none none ∙ sealed_keeps_none before after n (let stored = t.0 in let told = t.1 in omega arith);
       }
-  told_in none header ask (Err refusal) r t =
-      keeps_none none (ap stored_length (refused_same header e.before.history e.after.history seat.number ask refusal r))
+  told_in none header call (Err refusal) r t =
+      keeps_none none (ap stored_length (refused_same header e.before.history e.after.history seat.number call refusal r))
 
   -- a seat that has no entry of its own past these sees them sealed, or a breaking fault
   module _ {A E : Type 0} (result : Result A E) (upto : ℕ) (history : e.after.history ≡ after_seal seat.number (is_err result) e.before.history) where
@@ -198,6 +197,14 @@ module _ {F X : Type 0} (g : Once F (MutBor State × Unit {0}) ((Bool × X) × (
         let three = subst (λ (n : ℕ). Replies e.before.opening.header e.before.history n call answer e.after.history) who_is two in
         let four = subst (λ (o : Opening). Replies o.header e.before.history seat.number call answer e.after.history) e.found.opened three in
         replies_after seat.lock.opening.header seat.front e.before.history seat.number call answer now.front sees_in (subst (λ (h : List Entry). Replies seat.lock.opening.header e.before.history seat.number call answer h) (sym front_is) four)
+
+    -- and what was told in it
+    pub told_of : seat.unsealed ≡ None → (call : Call) (entered : Result Placed Refusal) → Replies shown.opening.header shown.history who call (placed_answer entered) left.history → Tells entered left → IsTold entered now
+    told_of none call entered r tells =
+        let one = subst (λ (s : State). Replies s.opening.header s.history who call (placed_answer entered) left.history) shows r in
+        let two = subst (λ (s : State). Replies e.before.opening.header e.before.history who call (placed_answer entered) s.history) leaves one in
+        let three = subst (λ (n : ℕ). Replies e.before.opening.header e.before.history n call (placed_answer entered) e.after.history) who_is two in
+        told_in none e.before.opening.header call entered three (subst (Tells entered) leaves tells)
 
     pub front_in : IsFront left.opening left.history → IsFront now.lock.opening now.front
     front_in f =

@@ -16,7 +16,7 @@ use Rattle.manifest_store.specs.Manifests.{AreManifests}
 use Rattle.node_table.specs.Table.{Table}
 use Rattle.reply_model.specs.After as answers
 use Rattle.reply_model.specs.After.{Answers, Derives, nothing}
-use Rattle.reply_model.specs.Reply.{Question, HeadOf, ContentOf, ChangesetOf, LogFrom, FsnodeOf, UnodeOf, HistoryOf, CopiesOf, PathLogOf, DeletedOf}
+use Rattle.reply_model.specs.Reply.{Question, HeadOf, ContentOf, ChangesetOf, LogFrom, FsnodeOf, UnodeOf, HistoryOf, CopiesOf, PathLogOf, DeletedOf, PolicyOf}
 use Rattle.repo_state.specs.Manifests.{IsNextOf}
 use Rattle.shared_repo.specs.declared.derivation_turns.Next.{Next}
 use Rattle.shared_repo.specs.declared.derivation_turns.Next.TheVariants.{Job, Roots}
@@ -30,12 +30,13 @@ AsksManifestOf x (FsnodeOf id d) = id ≡ x
 AsksManifestOf x (UnodeOf id p) = id ≡ x
 AsksManifestOf x (HistoryOf id p) = id ≡ x
 AsksManifestOf x (CopiesOf id) = ⊥
-AsksManifestOf x (PathLogOf id p) = ⊥
-AsksManifestOf x (DeletedOf id p) = ⊥
+AsksManifestOf x (PathLogOf id p) = id ≡ x
+AsksManifestOf x (DeletedOf id p) = id ≡ x
+AsksManifestOf x (PolicyOf number) = ⊥
 
 abbrev pub IsNextAt : Header → List Entry → Table → Id → Next → Type 0
 IsNextAt header h t x (Job job) = AreManifests (known h) t × IsNextOf (known h) t x (Some job)
-IsNextAt header h t x (Roots roots) = Answers header h (Derives x) (answers.Roots roots.fsnode roots.unode) nothing
+IsNextAt header h t x (Roots roots) = Answers header h (Derives x) (answers.Roots roots.fsnode roots.unode roots.deleted) nothing
 
 abbrev pub IsNextSome : Header → List Entry → Id → Next → Type 0
 IsNextSome header h x next = (t : Table) × IsNextAt header h t x next

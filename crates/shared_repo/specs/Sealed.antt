@@ -1,19 +1,19 @@
 -- A change is entered in one turn of its seat, and sealed in another before it is granted.
 --     placed_answer entered      the answer of a change that was entered or refused, if its seal is done
 --     Tells entered s      with what is granted is told how many entries are stored then, and how many of them are sealed
---     IsEntered header old ask entered new      the seat that had seen old asked so, the change was entered or refused so in its next turn, and the seat has seen new then
+--     IsEntered header old call entered new      the seat that had seen old called so, the change was entered or refused so in its next turn, and the seat has seen new then
 --     IsTold entered seat      what a seat at this place was told in that turn of what is stored and sealed, and the entry that it keeps then
 --     IsSeen old new      a seat has seen another turn of its own, in which it made no more than a breaking fault, and keeps no entry
 --     IsState opening h sealed      a repository that was opened so was in a state with this history, of which the first stored entries, so many, are sealed: each image that its disk, if honest, left then or leaves later begins with these
 --     UnlessRefused result P      the change was granted, or the disk failed it, and P
---     IsSealedAfter header old who ask answer new sealed      the front before a change that is answered so and after it. Where it is granted, all that is stored up to its place is among the first entries, so many, that the seat has seen sealed
+--     IsSealedAfter header old who call answer new sealed      the front before a change that is answered so and after it. Where it is granted, all that is stored up to its place is among the first entries, so many, that the seat has seen sealed
 use Rattle.std.specs.Prelude.{◌≡◌, ℕ, ◌<◌, ◌≤◌, List, ◌++◌, None, IfSome, Result, Ok, Err}
 use mathlib.Core.List.{IsPrefix}
 use Rattle.disk_model.specs.Meaning.{Meaning}
 use Rattle.history_model.specs.History.{Entry}
 use Rattle.history_model.specs.Journal.{Header}
-use Rattle.reply_model.specs.Reply.{Ask, Granted}
-use Rattle.reply_model.specs.After.{Answer, Asks, Grants, After, Replies, SeesMore, calm_by, stands_of}
+use Rattle.reply_model.specs.Reply.{Granted}
+use Rattle.reply_model.specs.After.{Answer, Call, Grants, After, Replies, SeesMore, calm_by, stands_of}
 use Rattle.repo_calls.specs.declared.calls.ChangeFault.{ChangeFault}
 use Rattle.repo_calls.specs.declared.calls.ChangeFault.TheVariants as faults
 use Rattle.repo_calls.specs.declared.refusal.Refusal.{Refusal}
@@ -32,10 +32,10 @@ abbrev pub Tells : Result Placed Refusal → State → Type 0
 Tells (Ok placed) s = (placed.stored ≡ stored_length s.history) × (placed.sealed ≡ s.sealed)
 Tells (Err refusal) s = Unit {0}
 
-pub record IsEntered (header : Header) (old : Place) (ask : Ask) (entered : Result Placed Refusal) (new : List Entry) : Type 0 where
+pub record IsEntered (header : Header) (old : Place) (call : Call) (entered : Result Placed Refusal) (new : List Entry) : Type 0 where
   pub before : List Entry
   pub sees : SeesMore old.front old.number before
-  pub replies : Replies header before old.number (Asks ask) (placed_answer entered) new
+  pub replies : Replies header before old.number call (placed_answer entered) new
 
 pub record IsAt (placed : Placed) (seat : Place) : Type 0 where
   pub stored_is : placed.stored ≡ stored_length seat.front
@@ -61,8 +61,10 @@ IsState opening h sealed = (m : Meaning) × IsSound opening h sealed m
 abbrev pub UnlessRefused : {T : Type 0} → Result T ChangeFault → Type 0 → Type 0
 UnlessRefused (Ok x) P = P
 UnlessRefused (Err faults.DiskFault) P = P
+UnlessRefused (Err faults.ReadFault) P = P
+UnlessRefused (Err (faults.BadBytes wanted found)) P = P
 UnlessRefused (Err (faults.Refused refusal)) P = Unit {0}
 
-pub record IsSealedAfter (header : Header) (old : List Entry) (who : ℕ) (ask : Ask) (answer : Answer) (new : List Entry) (sealed : ℕ) : Type 0 where
-  pub after : After header old who (Asks ask) answer new
+pub record IsSealedAfter (header : Header) (old : List Entry) (who : ℕ) (call : Call) (answer : Answer) (new : List Entry) (sealed : ℕ) : Type 0 where
+  pub after : After header old who call answer new
   pub sealed_to : (granted : Granted) → answer ≡ Grants granted → stored_length (after.before ++ stands_of who after.made) ≤ sealed

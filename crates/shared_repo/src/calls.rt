@@ -1,9 +1,8 @@
 //! The calls of a seat by their names, each one of its changes or reads. What a change is granted is sealed before it is answered.
 ghost use Rattle.std.specs.Prelude.{◌≡◌, ◌≤◌, false, IsTrue};
 ghost use Rattle.bookmark_lock.specs.Place.{moved};
-ghost use Rattle.reply_model.specs.Reply.{PutContent, PutChangeset, SetBookmark, LandDraft, HeadOf, SeenHead, ContentOf, ChangesetOf, LogFrom, FsnodeOf, UnodeOf, HistoryOf, CopiesOf};
-ghost use Rattle.reply_model.specs.After.{After, Answer, Asks, Looks, Shows};
-ghost use Rattle.reply_model.specs.Opening.{nobody};
+ghost use Rattle.reply_model.specs.Reply.{PutContent, PutChangeset, SetBookmark, LandDraft, SetPolicy, HeadOf, SeenHead, ContentOf, ChangesetOf, LogFrom, FsnodeOf, UnodeOf, HistoryOf, CopiesOf, PathLogOf, DeletedOf, PolicyOf};
+ghost use Rattle.reply_model.specs.After.{After, Answer, Asks, Joins, Looks, Shows};
 ghost use Rattle.repo_calls.specs.Asking.{IsAnswer, is_bad_bytes, place_of, stored_answer};
 ghost use Rattle.shared_repo.specs.Front.{IsFront};
 ghost use Rattle.shared_repo.specs.Sealed.{IsSealedAfter, IsState, UnlessRefused};
@@ -30,12 +29,31 @@ impl<D: Disk> Repo<D> {
         requires place { seat.old.lock ≡ self.now }
         ensures seat { seat.new ≡ moved seat.old seat.new }
         ensures after { After self.now.opening.header seat.old.front seat.old.number (Asks (PutContent bytes.now)) (stored_answer result) seat.new.front }
-        ensures sealed { IsSealedAfter self.now.opening.header seat.old.front seat.old.number (PutContent bytes.now) (stored_answer result) seat.new.front seat.new.sealed }
+        ensures sealed { IsSealedAfter self.now.opening.header seat.old.front seat.old.number (Asks (PutContent bytes.now)) (stored_answer result) seat.new.front seat.new.sealed }
         ensures seals { seat.old.sealed ≤ seat.new.sealed }
         ensures stands { UnlessRefused result (IsState self.now.opening seat.new.front seat.new.sealed) }
         ensures front { IsFront self.now.opening seat.new.front }
     {
         self.change(rt, alloc, seat, &Ask::PutContent(bytes), &NoGate)
+    }
+
+    /// Joins contents to one. Each such change is refused as yet.
+    pub fn put_whole<R: Wait>(
+        &self,
+        rt: &R,
+        alloc: Global,
+        seat: &mut RepoSeat,
+        body: &[u8],
+    ) -> Result<Granted, ChangeFault>
+        requires place { seat.old.lock ≡ self.now }
+        ensures seat { seat.new ≡ moved seat.old seat.new }
+        ensures after { After self.now.opening.header seat.old.front seat.old.number (Joins body.now) (stored_answer result) seat.new.front }
+        ensures sealed { IsSealedAfter self.now.opening.header seat.old.front seat.old.number (Joins body.now) (stored_answer result) seat.new.front seat.new.sealed }
+        ensures seals { seat.old.sealed ≤ seat.new.sealed }
+        ensures stands { UnlessRefused result (IsState self.now.opening seat.new.front seat.new.sealed) }
+        ensures front { IsFront self.now.opening seat.new.front }
+    {
+        self.change(rt, alloc, seat, &Ask::PutWhole(body), &NoGate)
     }
 
     /// Stores the changeset that these bytes encode.
@@ -49,7 +67,7 @@ impl<D: Disk> Repo<D> {
         requires place { seat.old.lock ≡ self.now }
         ensures seat { seat.new ≡ moved seat.old seat.new }
         ensures after { After self.now.opening.header seat.old.front seat.old.number (Asks (PutChangeset bytes.now)) (stored_answer result) seat.new.front }
-        ensures sealed { IsSealedAfter self.now.opening.header seat.old.front seat.old.number (PutChangeset bytes.now) (stored_answer result) seat.new.front seat.new.sealed }
+        ensures sealed { IsSealedAfter self.now.opening.header seat.old.front seat.old.number (Asks (PutChangeset bytes.now)) (stored_answer result) seat.new.front seat.new.sealed }
         ensures seals { seat.old.sealed ≤ seat.new.sealed }
         ensures stands { UnlessRefused result (IsState self.now.opening seat.new.front seat.new.sealed) }
         ensures front { IsFront self.now.opening seat.new.front }
@@ -57,40 +75,62 @@ impl<D: Disk> Repo<D> {
         self.change(rt, alloc, seat, &Ask::PutChangeset(bytes), &NoGate)
     }
 
-    /// Moves a bookmark, if its head is `from`. `None` stands for no bookmark.
+    /// Moves a bookmark for a caller, if its head is `from`. `None` stands for no bookmark.
     pub fn set_bookmark<R: Wait>(
         &self,
         rt: &R,
         alloc: Global,
         seat: &mut RepoSeat,
+        caller: &BookName,
         name: &BookName,
         from: Option<Id>,
         to: Option<Id>,
     ) -> Result<Granted, ChangeFault>
         requires place { seat.old.lock ≡ self.now }
         ensures seat { seat.new ≡ moved seat.old seat.new }
-        ensures after { After self.now.opening.header seat.old.front seat.old.number (Asks (SetBookmark nobody name.now from to)) (stored_answer result) seat.new.front }
-        ensures sealed { IsSealedAfter self.now.opening.header seat.old.front seat.old.number (SetBookmark nobody name.now from to) (stored_answer result) seat.new.front seat.new.sealed }
+        ensures after { After self.now.opening.header seat.old.front seat.old.number (Asks (SetBookmark caller.now name.now from to)) (stored_answer result) seat.new.front }
+        ensures sealed { IsSealedAfter self.now.opening.header seat.old.front seat.old.number (Asks (SetBookmark caller.now name.now from to)) (stored_answer result) seat.new.front seat.new.sealed }
         ensures seals { seat.old.sealed ≤ seat.new.sealed }
         ensures stands { UnlessRefused result (IsState self.now.opening seat.new.front seat.new.sealed) }
         ensures front { IsFront self.now.opening seat.new.front }
     {
-        self.change(
-            rt,
-            alloc,
-            seat,
-            &Ask::SetBookmark { name, from, to },
-            &NoGate,
-        )
+        let ask = Ask::SetBookmark {
+            caller,
+            name,
+            from,
+            to,
+        };
+        self.change(rt, alloc, seat, &ask, &NoGate)
     }
 
-    /// Lands a draft on a bookmark. What is of the second version is dated at the moment, in seconds since 1970-01-01 00:00
+    /// Sets the policy that has this text.
+    pub fn set_policy<R: Wait>(
+        &self,
+        rt: &R,
+        alloc: Global,
+        seat: &mut RepoSeat,
+        caller: &BookName,
+        text: &[u8],
+    ) -> Result<Granted, ChangeFault>
+        requires place { seat.old.lock ≡ self.now }
+        ensures seat { seat.new ≡ moved seat.old seat.new }
+        ensures after { After self.now.opening.header seat.old.front seat.old.number (Asks (SetPolicy caller.now text.now)) (stored_answer result) seat.new.front }
+        ensures sealed { IsSealedAfter self.now.opening.header seat.old.front seat.old.number (Asks (SetPolicy caller.now text.now)) (stored_answer result) seat.new.front seat.new.sealed }
+        ensures seals { seat.old.sealed ≤ seat.new.sealed }
+        ensures stands { UnlessRefused result (IsState self.now.opening seat.new.front seat.new.sealed) }
+        ensures front { IsFront self.now.opening seat.new.front }
+    {
+        self.change(rt, alloc, seat, &Ask::SetPolicy { caller, text }, &NoGate)
+    }
+
+    /// Lands a draft on a bookmark for a caller. What is of the second version is dated at the moment, in seconds since 1970-01-01 00:00
     /// UTC. Each attempt but the last passes the gate between its plan and its entry.
     pub fn land<R: Wait, G: Gate>(
         &self,
         rt: &R,
         alloc: Global,
         seat: &mut RepoSeat,
+        caller: &BookName,
         name: &BookName,
         draft: Id,
         moment: u64,
@@ -98,13 +138,14 @@ impl<D: Disk> Repo<D> {
     ) -> Result<Granted, ChangeFault>
         requires place { seat.old.lock ≡ self.now }
         ensures seat { seat.new ≡ moved seat.old seat.new }
-        ensures after { After self.now.opening.header seat.old.front seat.old.number (Asks (LandDraft nobody name.now draft moment)) (stored_answer result) seat.new.front }
-        ensures sealed { IsSealedAfter self.now.opening.header seat.old.front seat.old.number (LandDraft nobody name.now draft moment) (stored_answer result) seat.new.front seat.new.sealed }
+        ensures after { After self.now.opening.header seat.old.front seat.old.number (Asks (LandDraft caller.now name.now draft moment)) (stored_answer result) seat.new.front }
+        ensures sealed { IsSealedAfter self.now.opening.header seat.old.front seat.old.number (Asks (LandDraft caller.now name.now draft moment)) (stored_answer result) seat.new.front seat.new.sealed }
         ensures seals { seat.old.sealed ≤ seat.new.sealed }
         ensures stands { UnlessRefused result (IsState self.now.opening seat.new.front seat.new.sealed) }
         ensures front { IsFront self.now.opening seat.new.front }
     {
         let ask = Ask::Land {
+            caller,
             name,
             draft,
             moment,
@@ -236,5 +277,54 @@ impl<D: Disk> Repo<D> {
         ensures front { IsFront self.now.opening seat.new.front }
     {
         self.look(rt, alloc, seat, &Question::History(id, path))
+    }
+    /// The changesets of a changeset's chain that set a path, or have another file there than their first parent, newest first.
+    pub fn path_log<R: Wait>(
+        &self,
+        rt: &R,
+        alloc: Global,
+        seat: &mut RepoSeat,
+        id: Id,
+        path: &RepoPath,
+    ) -> Result<Seen, AskFault>
+        requires place { seat.old.lock ≡ self.now }
+        ensures seat { seat.new ≡ moved seat.old seat.new }
+        ensures after { (answer : Answer) × IsAnswer result answer × After self.now.opening.header seat.old.front seat.old.number (Looks (PathLogOf id path.now)) answer seat.new.front }
+        ensures front { IsFront self.now.opening seat.new.front }
+    {
+        self.look(rt, alloc, seat, &Question::PathLog(id, path))
+    }
+
+    /// The deleted node of a path of a changeset's tree, or of its root.
+    pub fn deleted<R: Wait>(
+        &self,
+        rt: &R,
+        alloc: Global,
+        seat: &mut RepoSeat,
+        id: Id,
+        dir: Option<&RepoPath>,
+    ) -> Result<Seen, AskFault>
+        requires place { seat.old.lock ≡ self.now }
+        ensures seat { seat.new ≡ moved seat.old seat.new }
+        ensures after { (answer : Answer) × IsAnswer result answer × After self.now.opening.header seat.old.front seat.old.number (Looks (DeletedOf id (place_of dir.entry))) answer seat.new.front }
+        ensures front { IsFront self.now.opening seat.new.front }
+    {
+        self.look(rt, alloc, seat, &Question::Deleted(id, dir))
+    }
+
+    /// The text of the policy that is held, or of the one that has this number in the log.
+    pub fn policy<R: Wait>(
+        &self,
+        rt: &R,
+        alloc: Global,
+        seat: &mut RepoSeat,
+        number: Option<u64>,
+    ) -> Result<Seen, AskFault>
+        requires place { seat.old.lock ≡ self.now }
+        ensures seat { seat.new ≡ moved seat.old seat.new }
+        ensures after { (answer : Answer) × IsAnswer result answer × After self.now.opening.header seat.old.front seat.old.number (Looks (PolicyOf number)) answer seat.new.front }
+        ensures front { IsFront self.now.opening seat.new.front }
+    {
+        self.look(rt, alloc, seat, &Question::Policy(number))
     }
 }

@@ -1,11 +1,11 @@
 //! Changes of a repository that many seats share. An upload is hashed, decoded and put into its record outside of the turn,
 //! which has what needs the repository, and no more. What is granted is sealed in a turn of its own before it is answered.
-ghost use Rattle.std.specs.Prelude.{◌≡◌, ◌≤◌, None};
+ghost use Rattle.std.specs.Prelude.{◌≡◌, ◌≤◌, false, None};
 ghost use Rattle.bookmark_lock.specs.Place.{moved};
 ghost use Rattle.bookmark_lock.specs.Turns.{IsTurn};
-ghost use Rattle.reply_model.specs.After.{After, Asks, Replies};
-ghost use Rattle.repo_calls.specs.Calls.{ask_seen};
-ghost use Rattle.repo_calls.specs.Asking.{stored_answer};
+ghost use Rattle.reply_model.specs.After.{After, Replies};
+ghost use Rattle.repo_calls.specs.Calls.{call_seen};
+ghost use Rattle.repo_calls.specs.Asking.{is_misread, is_unread, stored_answer};
 ghost use Rattle.shared_repo.specs.Front.{IsFront, history_of, opening_of, sealed_of};
 ghost use Rattle.shared_repo.specs.Sealed.{IsEntered, IsSealedAfter, IsState, IsTold, Tells, placed_answer, UnlessRefused};
 
@@ -22,7 +22,7 @@ use std::alloc::Global;
 use std::sync::Wait;
 
 impl<D: Disk> Repo<D> {
-    /// Makes a change. The gate is passed by landings alone.
+    /// Makes a change. The gate is passed by landings alone. No content is read for it.
     pub fn change<R: Wait, G: Gate>(
         &self,
         rt: &R,
@@ -33,23 +33,27 @@ impl<D: Disk> Repo<D> {
     ) -> Result<Granted, ChangeFault>
         requires place { seat.old.lock ≡ self.now }
         ensures seat { seat.new ≡ moved seat.old seat.new }
-        ensures after { After self.now.opening.header seat.old.front seat.old.number (Asks (ask_seen ask.now)) (stored_answer result) seat.new.front }
+        ensures after { After self.now.opening.header seat.old.front seat.old.number (call_seen ask.now) (stored_answer result) seat.new.front }
 
         // Where it is granted, all up to its place is sealed.
-        ensures sealed { IsSealedAfter self.now.opening.header seat.old.front seat.old.number (ask_seen ask.now) (stored_answer result) seat.new.front seat.new.sealed }
+        ensures sealed { IsSealedAfter self.now.opening.header seat.old.front seat.old.number (call_seen ask.now) (stored_answer result) seat.new.front seat.new.sealed }
         ensures seals { seat.old.sealed ≤ seat.new.sealed }
         ensures stands { UnlessRefused result (IsState self.now.opening seat.new.front seat.new.sealed) }
+        ensures read { (is_unread result ≡ false) × (is_misread result ≡ false) }
         ensures front { IsFront self.now.opening seat.new.front }
     {
         match *ask {
-            Ask::PutContent(_) | Ask::PutChangeset(_) | Ask::SetBookmark { .. } => {
-                self.store(rt, alloc, seat, ask)
-            }
+            Ask::PutContent(_)
+            | Ask::PutWhole(_)
+            | Ask::PutChangeset(_)
+            | Ask::SetBookmark { .. }
+            | Ask::SetPolicy { .. } => self.store(rt, alloc, seat, ask),
             Ask::Land {
+                caller,
                 name,
                 draft,
                 moment,
-            } => self.land_in_turns(rt, alloc, seat, name, draft, moment, gate),
+            } => self.land_in_turns(rt, alloc, seat, caller, name, draft, moment, gate),
         }
     }
 
@@ -64,9 +68,10 @@ impl<D: Disk> Repo<D> {
     ) -> Result<Granted, ChangeFault>
         requires place { seat.old.lock ≡ self.now }
         ensures seat { seat.new ≡ moved seat.old seat.new }
-        ensures sealed { IsSealedAfter self.now.opening.header seat.old.front seat.old.number (ask_seen ask.now) (stored_answer result) seat.new.front seat.new.sealed }
+        ensures sealed { IsSealedAfter self.now.opening.header seat.old.front seat.old.number (call_seen ask.now) (stored_answer result) seat.new.front seat.new.sealed }
         ensures seals { seat.old.sealed ≤ seat.new.sealed }
         ensures stands { UnlessRefused result (IsState self.now.opening seat.new.front seat.new.sealed) }
+        ensures read { (is_unread result ≡ false) × (is_misread result ≡ false) }
         ensures front { IsFront self.now.opening seat.new.front }
     {
         // It keeps its rules.
@@ -102,7 +107,7 @@ impl<D: Disk> Repo<D> {
             seat,
             |state: &mut RepoState<D>| -> (bool, Result<Placed, Refusal>)
                 requires { C.ready change }
-                ensures reply { Replies state.old.opening.header state.old.history who (Asks (C.asked change)) (placed_answer result.1) state.new.history }
+                ensures reply { Replies state.old.opening.header state.old.history who (C.asked change) (placed_answer result.1) state.new.history }
                 ensures told { Tells result.1 state.new }
                 ensures turn { IsTurn history_of opening_of sealed_of who None state.old state.new result.0 }
                 ensures stands { IsState state.new.opening state.new.history state.new.sealed }

@@ -23,7 +23,7 @@ use std::alloc::Global;
 use std::sync::Wait;
 
 impl<D: Disk> Repo<D> {
-    /// The ids of the root fsnode and the root unode of a changeset. What its chain lacks is derived
+    /// The ids of a changeset's root fsnode, root unode and root deleted node. What its chain lacks is derived
     /// first, a changeset at a time: taken under one turn, derived outside of every turn, settled
     /// under another. It makes no entry.
     #[tactic(auto, using(crate::proofs::Fronts::after_nothing))]
@@ -88,6 +88,7 @@ impl<D: Disk> Repo<D> {
             Ok(Next::Roots(roots)) => return Some(Ok(roots)),
             Err(fault) => return Some(Err(fault)),
         };
+        // The job has all nodes that are looked for, so nothing but memory is wanting.
         let Ok(done) = derive(alloc, job) else {
             return Some(Err(AskFault::Memory));
         };

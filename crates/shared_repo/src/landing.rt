@@ -4,9 +4,8 @@ ghost use Rattle.bookmark_lock.specs.Place.{moved};
 ghost use Rattle.bookmark_lock.specs.Turns.{IsTurn};
 ghost use Rattle.reply_model.specs.Reply.{LandDraft};
 ghost use Rattle.reply_model.specs.After.{Asks, Replies, SeesMore};
-ghost use Rattle.reply_model.specs.Opening.{nobody};
 ghost use Rattle.repo_machine.specs.Plans.{IsPlan, WasPlanned};
-ghost use Rattle.repo_calls.specs.Asking.{stored_answer};
+ghost use Rattle.repo_calls.specs.Asking.{is_misread, is_unread, stored_answer};
 ghost use Rattle.shared_repo.specs.Front.{IsFront, history_of, opening_of, sealed_of};
 ghost use Rattle.shared_repo.specs.Landing.{IsEarlier, RefusesLanding};
 ghost use Rattle.shared_repo.specs.Sealed.{IsEntered, IsSealedAfter, IsState, IsTold, Tells, placed_answer, UnlessRefused};
@@ -41,6 +40,7 @@ impl<D: Disk> Repo<D> {
         rt: &R,
         alloc: Global,
         seat: &mut RepoSeat,
+        caller: &BookName,
         name: &BookName,
         draft: Id,
         moment: u64,
@@ -48,14 +48,15 @@ impl<D: Disk> Repo<D> {
     ) -> Result<Granted, ChangeFault>
         requires place { seat.old.lock ≡ self.now }
         ensures seat { seat.new ≡ moved seat.old seat.new }
-        ensures sealed { IsSealedAfter self.now.opening.header seat.old.front seat.old.number (LandDraft nobody name.now draft moment) (stored_answer result) seat.new.front seat.new.sealed }
+        ensures sealed { IsSealedAfter self.now.opening.header seat.old.front seat.old.number (Asks (LandDraft caller.now name.now draft moment)) (stored_answer result) seat.new.front seat.new.sealed }
         ensures seals { seat.old.sealed ≤ seat.new.sealed }
         ensures stands { UnlessRefused result (IsState self.now.opening seat.new.front seat.new.sealed) }
+        ensures read { (is_unread result ≡ false) × (is_misread result ≡ false) }
         ensures front { IsFront self.now.opening seat.new.front }
     {
         let mut earlier = None;
         for attempt in 0..MOST_ATTEMPTS {
-            let plan = match self.plan(rt, alloc, seat, name, draft, earlier) {
+            let plan = match self.plan(rt, alloc, seat, caller, name, draft, earlier) {
                 Ok(plan) => plan,
                 Err(refusal) => return Err(ChangeFault::Refused(refusal)),
             };
@@ -64,7 +65,7 @@ impl<D: Disk> Repo<D> {
             }
             earlier = Some(plan);
         }
-        self.land_in_one_turn(rt, alloc, seat, name, draft, moment, earlier)
+        self.land_in_one_turn(rt, alloc, seat, caller, name, draft, moment, earlier)
     }
 
     // The first turn of an attempt. There may be the plan of the attempt before.
@@ -74,32 +75,33 @@ impl<D: Disk> Repo<D> {
         rt: &R,
         alloc: Global,
         seat: &mut RepoSeat,
+        caller: &BookName,
         name: &BookName,
         draft: Id,
         earlier: Option<Plan>,
     ) -> Result<Plan, Refusal>
         requires place { seat.old.lock ≡ self.now }
-        requires earlier { IsEarlier seat.old.front name.now draft earlier }
+        requires earlier { IsEarlier seat.old.front caller.now name.now draft earlier }
         ensures seat { seat.new ≡ moved seat.old seat.new }
         ensures more { SeesMore seat.old.front seat.old.number seat.new.front }
         ensures seals { seat.old.sealed ≤ seat.new.sealed }
-        ensures ok { IfOk result (IsPlan seat.new.front name.now draft) }
-        ensures err { IfErr result (RefusesLanding self.now.opening.header seat.new.front name.now draft) }
+        ensures ok { IfOk result (IsPlan seat.new.front caller.now name.now draft) }
+        ensures err { IfErr result (RefusesLanding self.now.opening.header seat.new.front caller.now name.now draft) }
         ensures front { IsFront self.now.opening seat.new.front }
     {
         self.lock.enter(
             rt,
             &mut seat.inner,
             |state: &mut RepoState<D>| -> (bool, Result<Plan, Refusal>)
-                requires { IsEarlier state.old.history name.now draft earlier }
+                requires { IsEarlier state.old.history caller.now name.now draft earlier }
                 ensures same { state.new.history ≡ state.old.history }
                 ensures opening { state.new.opening ≡ state.old.opening }
                 ensures sealed { state.new.sealed ≡ state.old.sealed }
                 ensures none { result.0 ≡ false }
-                ensures ok { IfOk result.1 (IsPlan state.old.history name.entry.now draft) }
-                ensures err { IfErr result.1 (RefusesLanding state.old.opening.header state.old.history name.entry.now draft) }
+                ensures ok { IfOk result.1 (IsPlan state.old.history caller.entry.now name.entry.now draft) }
+                ensures err { IfErr result.1 (RefusesLanding state.old.opening.header state.old.history caller.entry.now name.entry.now draft) }
                 ensures front { IsFront state.new.opening state.new.history }
-            { (false, plan_from(state, alloc, name, draft, earlier)) },
+            { (false, plan_from(state, alloc, caller, name, draft, earlier)) },
         )
     }
 
@@ -116,11 +118,12 @@ impl<D: Disk> Repo<D> {
         attempt: u32,
     ) -> Option<Result<Granted, ChangeFault>>
         requires place { seat.old.lock ≡ self.now }
-        requires planned { IsPlan seat.old.front plan.now.name plan.now.draft plan.now }
+        requires planned { IsPlan seat.old.front plan.now.caller plan.now.name plan.now.draft plan.now }
         ensures seat { seat.new ≡ moved seat.old seat.new }
-        ensures sealed { MatchOption result (SeesMore seat.old.front seat.old.number seat.new.front) (λ answer. IsSealedAfter self.now.opening.header seat.old.front seat.old.number (LandDraft nobody plan.now.name plan.now.draft moment) (stored_answer answer) seat.new.front seat.new.sealed) }
+        ensures sealed { MatchOption result (SeesMore seat.old.front seat.old.number seat.new.front) (λ answer. IsSealedAfter self.now.opening.header seat.old.front seat.old.number (Asks (LandDraft plan.now.caller plan.now.name plan.now.draft moment)) (stored_answer answer) seat.new.front seat.new.sealed) }
         ensures seals { seat.old.sealed ≤ seat.new.sealed }
         ensures stands { IfSome result (λ answer. UnlessRefused answer (IsState self.now.opening seat.new.front seat.new.sealed)) }
+        ensures read { IfSome result (λ answer. (is_unread answer ≡ false) × (is_misread answer ≡ false)) }
         ensures front { IsFront self.now.opening seat.new.front }
     {
         let who = seat.inner.number();
@@ -145,7 +148,7 @@ impl<D: Disk> Repo<D> {
         requires none { seat.old.unsealed ≡ None }
         requires planned { WasPlanned seat.old.front rebased }
         ensures seat { seat.new ≡ moved seat.old seat.new }
-        ensures entered { MatchOption result (SeesMore seat.old.front seat.old.number seat.new.front) (λ entered. IsEntered self.now.opening.header seat.old (LandDraft nobody rebased.name rebased.draft rebased.asked) entered seat.new.front) }
+        ensures entered { MatchOption result (SeesMore seat.old.front seat.old.number seat.new.front) (λ entered. IsEntered self.now.opening.header seat.old (Asks (LandDraft rebased.caller rebased.name rebased.draft rebased.asked)) entered seat.new.front) }
         ensures told { MatchOption result (seat.new.unsealed ≡ None) (λ entered. IsTold entered seat.new) }
         ensures seals { seat.old.sealed ≤ seat.new.sealed }
         ensures stands { IsState self.now.opening seat.new.front seat.new.sealed }
@@ -156,7 +159,7 @@ impl<D: Disk> Repo<D> {
             seat,
             |state: &mut RepoState<D>| -> (bool, Option<Result<Placed, Refusal>>)
                 requires { WasPlanned state.old.history rebased }
-                ensures reply { MatchOption result.1 (state.new.history ≡ state.old.history) (λ entered. Replies state.old.opening.header state.old.history who (Asks (LandDraft nobody rebased.name rebased.draft rebased.asked)) (placed_answer entered) state.new.history) }
+                ensures reply { MatchOption result.1 (state.new.history ≡ state.old.history) (λ entered. Replies state.old.opening.header state.old.history who (Asks (LandDraft rebased.caller rebased.name rebased.draft rebased.asked)) (placed_answer entered) state.new.history) }
                 ensures told { IfSome result.1 (λ entered. Tells entered state.new) }
                 ensures turn { IsTurn history_of opening_of sealed_of who None state.old state.new result.0 }
                 ensures stands { IsState state.new.opening state.new.history state.new.sealed }
@@ -171,20 +174,31 @@ impl<D: Disk> Repo<D> {
         rt: &R,
         alloc: Global,
         seat: &mut RepoSeat,
+        caller: &BookName,
         name: &BookName,
         draft: Id,
         moment: u64,
         earlier: Option<Plan>,
     ) -> Result<Granted, ChangeFault>
         requires place { seat.old.lock ≡ self.now }
-        requires earlier { IsEarlier seat.old.front name.now draft earlier }
+        requires earlier { IsEarlier seat.old.front caller.now name.now draft earlier }
         ensures seat { seat.new ≡ moved seat.old seat.new }
-        ensures sealed { IsSealedAfter self.now.opening.header seat.old.front seat.old.number (LandDraft nobody name.now draft moment) (stored_answer result) seat.new.front seat.new.sealed }
+        ensures sealed { IsSealedAfter self.now.opening.header seat.old.front seat.old.number (Asks (LandDraft caller.now name.now draft moment)) (stored_answer result) seat.new.front seat.new.sealed }
         ensures seals { seat.old.sealed ≤ seat.new.sealed }
         ensures stands { UnlessRefused result (IsState self.now.opening seat.new.front seat.new.sealed) }
+        ensures read { (is_unread result ≡ false) × (is_misread result ≡ false) }
         ensures front { IsFront self.now.opening seat.new.front }
     {
-        let entered = self.enter_landing(rt, alloc, &mut seat.inner, name, draft, moment, earlier);
+        let entered = self.enter_landing(
+            rt,
+            alloc,
+            &mut seat.inner,
+            caller,
+            name,
+            draft,
+            moment,
+            earlier,
+        );
         self.answer_sealed(rt, &mut seat.inner, entered)
     }
 
@@ -195,6 +209,7 @@ impl<D: Disk> Repo<D> {
         rt: &R,
         alloc: Global,
         seat: &mut Seat,
+        caller: &BookName,
         name: &BookName,
         draft: Id,
         moment: u64,
@@ -202,9 +217,9 @@ impl<D: Disk> Repo<D> {
     ) -> Result<Placed, Refusal>
         requires place { seat.old.lock ≡ self.now }
         requires none { seat.old.unsealed ≡ None }
-        requires earlier { IsEarlier seat.old.front name.now draft earlier }
+        requires earlier { IsEarlier seat.old.front caller.now name.now draft earlier }
         ensures seat { seat.new ≡ moved seat.old seat.new }
-        ensures entered { IsEntered self.now.opening.header seat.old (LandDraft nobody name.now draft moment) result seat.new.front }
+        ensures entered { IsEntered self.now.opening.header seat.old (Asks (LandDraft caller.now name.now draft moment)) result seat.new.front }
         ensures told { IsTold result seat.new }
         ensures seals { seat.old.sealed ≤ seat.new.sealed }
         ensures stands { IsState self.now.opening seat.new.front seat.new.sealed }
@@ -214,12 +229,12 @@ impl<D: Disk> Repo<D> {
             rt,
             seat,
             |state: &mut RepoState<D>| -> (bool, Result<Placed, Refusal>)
-                requires { IsEarlier state.old.history name.now draft earlier }
-                ensures reply { Replies state.old.opening.header state.old.history who (Asks (LandDraft nobody name.entry.now draft moment)) (placed_answer result.1) state.new.history }
+                requires { IsEarlier state.old.history caller.now name.now draft earlier }
+                ensures reply { Replies state.old.opening.header state.old.history who (Asks (LandDraft caller.entry.now name.entry.now draft moment)) (placed_answer result.1) state.new.history }
                 ensures told { Tells result.1 state.new }
                 ensures turn { IsTurn history_of opening_of sealed_of who None state.old state.new result.0 }
                 ensures stands { IsState state.new.opening state.new.history state.new.sealed }
-            { land_in(state, alloc, who, name, draft, moment, earlier) },
+            { land_in(state, alloc, who, caller, name, draft, moment, earlier) },
         )
     }
 }

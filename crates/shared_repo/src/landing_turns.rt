@@ -2,7 +2,6 @@
 ghost use Rattle.std.specs.Prelude.{◌≡◌, ◌<◌, IfOk, IfErr, None};
 ghost use Rattle.bookmark_lock.specs.Turns.{IsTurn};
 ghost use Rattle.reply_model.specs.After.{Asks, Replies};
-ghost use Rattle.reply_model.specs.Opening.{nobody};
 ghost use Rattle.reply_model.specs.Reply.{LandDraft};
 ghost use Rattle.repo_machine.specs.Again.{WasPlan};
 ghost use Rattle.repo_machine.specs.Plans.{IsPlan};
@@ -27,22 +26,23 @@ use std::sync::ledger::{Blank, Ledger};
 pub(crate) fn plan_from<D: Disk>(
     state: &mut RepoState<D>,
     alloc: Global,
+    caller: &BookName,
     name: &BookName,
     draft: Id,
     earlier: Option<Plan>,
 ) -> Result<Plan, Refusal>
-    requires earlier { IsEarlier state.old.history name.now draft earlier }
+    requires earlier { IsEarlier state.old.history caller.now name.now draft earlier }
     ensures same { state.new.history ≡ state.old.history }
     ensures opening { state.new.opening ≡ state.old.opening }
     ensures sealed { state.new.sealed ≡ state.old.sealed }
-    ensures ok { IfOk result (IsPlan state.old.history name.now draft) }
-    ensures err { IfErr result (RefusesLanding state.old.opening.header state.old.history name.now draft) }
+    ensures ok { IfOk result (IsPlan state.old.history caller.now name.now draft) }
+    ensures err { IfErr result (RefusesLanding state.old.opening.header state.old.history caller.now name.now draft) }
     ensures front { IsFront state.new.opening state.new.history }
     ensures stands { IsState state.new.opening state.new.history state.new.sealed }
 {
     match earlier {
         Some(plan) => plan_again_in::<D, Brand>(state, alloc, plan, Blank::new(1)),
-        None => plan_in(state, alloc, name, draft),
+        None => plan_in(state, alloc, caller, name, draft),
     }
 }
 
@@ -61,8 +61,8 @@ fn plan_again_in<D: Disk, L: Ledger>(
     ensures same { state.new.history ≡ state.old.history }
     ensures opening { state.new.opening ≡ state.old.opening }
     ensures sealed { state.new.sealed ≡ state.old.sealed }
-    ensures ok { IfOk result (IsPlan state.old.history plan.name plan.draft) }
-    ensures err { IfErr result (RefusesLanding state.old.opening.header state.old.history plan.name plan.draft) }
+    ensures ok { IfOk result (IsPlan state.old.history plan.caller plan.name plan.draft) }
+    ensures err { IfErr result (RefusesLanding state.old.opening.header state.old.history plan.caller plan.name plan.draft) }
     ensures front { IsFront state.new.opening state.new.history }
     ensures stands { IsState state.new.opening state.new.history state.new.sealed }
 {
@@ -78,18 +78,19 @@ pub(crate) fn land_in<D: Disk>(
     state: &mut RepoState<D>,
     alloc: Global,
     who: u64,
+    caller: &BookName,
     name: &BookName,
     draft: Id,
     moment: u64,
     earlier: Option<Plan>,
 ) -> (bool, Result<Placed, Refusal>)
-    requires earlier { IsEarlier state.old.history name.now draft earlier }
-    ensures reply { Replies state.old.opening.header state.old.history who (Asks (LandDraft nobody name.now draft moment)) (placed_answer result.1) state.new.history }
+    requires earlier { IsEarlier state.old.history caller.now name.now draft earlier }
+    ensures reply { Replies state.old.opening.header state.old.history who (Asks (LandDraft caller.now name.now draft moment)) (placed_answer result.1) state.new.history }
     ensures told { Tells result.1 state.new }
     ensures turn { IsTurn history_of opening_of sealed_of who None state.old state.new result.0 }
     ensures stands { IsState state.new.opening state.new.history state.new.sealed }
 {
-    let plan = match plan_from(state, alloc, name, draft, earlier) {
+    let plan = match plan_from(state, alloc, caller, name, draft, earlier) {
         Ok(plan) => plan,
         Err(refusal) => return (false, Err(refusal)),
     };

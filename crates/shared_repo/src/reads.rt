@@ -42,13 +42,17 @@ impl<D: Disk> Repo<D> {
         ensures front { IsFront self.now.opening seat.new.front }
     {
         match *question {
-            Question::Head(_) | Question::Log(_) => self.look_in_turn(rt, alloc, seat, question),
+            Question::Head(_) | Question::Log(_) | Question::Policy(_) => {
+                self.look_in_turn(rt, alloc, seat, question)
+            }
             Question::Content(id) => self.checked_content(rt, alloc, seat, id),
             Question::Changeset(id) => self.encoded_changeset(rt, alloc, seat, id),
             Question::Copies(id) => self.told_copies(rt, alloc, seat, id),
-            Question::Fsnode(id, _) | Question::Unode(id, _) | Question::History(id, _) => {
-                self.look_derived(rt, alloc, seat, id, question)
-            }
+            Question::Fsnode(id, _)
+            | Question::Unode(id, _)
+            | Question::History(id, _)
+            | Question::PathLog(id, _)
+            | Question::Deleted(id, _) => self.look_derived(rt, alloc, seat, id, question),
         }
     }
 

@@ -1,12 +1,12 @@
 //! What is granted is sealed before it is answered, in a turn behind those that are waited for already: it then serves these
 //! seats too.
-ghost use Rattle.std.specs.Prelude.{◌≡◌, ℕ, ◌<◌, ◌≤◌, true, None, Option, is_err, IfSome, IfOk, IfErr, OnOk, OnErr};
+ghost use Rattle.std.specs.Prelude.{◌≡◌, ℕ, ◌<◌, ◌≤◌, true, false, None, Option, is_err, IfSome, IfOk, IfErr, OnOk, OnErr};
 ghost use Rattle.bookmark_lock.specs.Place.{Place, moved};
 ghost use Rattle.bookmark_lock.specs.Turns.{IsTurn, stored_length};
 ghost use Rattle.history_model.specs.History.{is_down};
 ghost use Rattle.history_model.specs.Journal.{Header};
-ghost use Rattle.reply_model.specs.Reply as reply;
-ghost use Rattle.repo_calls.specs.Asking.{stored_answer};
+ghost use Rattle.reply_model.specs.After.{Call};
+ghost use Rattle.repo_calls.specs.Asking.{is_misread, is_unread, stored_answer};
 ghost use Rattle.repo_calls.specs.declared.calls.ChangeFault.TheVariants as faults;
 ghost use Rattle.repo_state.specs.State.{after_seal};
 ghost use Rattle.shared_repo.specs.Front.{history_of, opening_of, sealed_of};
@@ -51,9 +51,10 @@ impl<D: Disk> Repo<D> {
         requires told { IsTold entered seat.old }
         requires stands { IsState self.now.opening seat.old.front seat.old.sealed }
         ensures seat { seat.new ≡ moved seat.old seat.new }
-        ensures sealed { (header : Header) (old : Place) (ask : reply.Ask) → old.number ≡ seat.old.number → IsEntered header old ask entered seat.old.front → IsSealedAfter header old.front old.number ask (stored_answer result) seat.new.front seat.new.sealed }
+        ensures sealed { (header : Header) (old : Place) (call : Call) → old.number ≡ seat.old.number → IsEntered header old call entered seat.old.front → IsSealedAfter header old.front old.number call (stored_answer result) seat.new.front seat.new.sealed }
         ensures seals { seat.old.sealed ≤ seat.new.sealed }
         ensures none { seat.new.unsealed ≡ None }
+        ensures read { (is_unread result ≡ false) × (is_misread result ≡ false) }
         ensures stands { IsState self.now.opening seat.new.front seat.new.sealed }
     {
         match entered {
@@ -77,6 +78,7 @@ impl<D: Disk> Repo<D> {
         ensures ok { IfOk result (λ granted. (granted ≡ placed.granted) × (stored_length seat.old.front ≤ seat.new.sealed)) }
         ensures err { IfErr result (λ fault. (fault ≡ faults.DiskFault) × (is_down seat.new.front ≡ true)) }
         ensures seen { IsSeen seat.old seat.new }
+        ensures read { (is_unread result ≡ false) × (is_misread result ≡ false) }
         ensures stands { IsState self.now.opening seat.new.front seat.new.sealed }
     {
         let Placed {

@@ -5,10 +5,9 @@ ghost use Rattle.sha2.specs.Sha256.{sha256};
 ghost use Rattle.bookmark_lock.specs.Turns.{IsTurn};
 ghost use Rattle.history_model.specs.Bookmark.{head};
 ghost use Rattle.history_model.specs.History.{changeset_of, content_len, known};
-ghost use Rattle.reply_model.specs.After.{Answer, Answers, Asks, Looks, Replies, nothing};
+ghost use Rattle.reply_model.specs.After.{Answer, Answers, Asks, Call, Looks, Replies, nothing};
 ghost use Rattle.reply_model.specs.Reply as reply;
 ghost use Rattle.reply_model.specs.Reply.{ChangesetOf, ContentOf, LandDraft};
-ghost use Rattle.reply_model.specs.Opening.{nobody};
 ghost use Rattle.repo_machine.specs.Plans.{IsPlan, WasPlanned};
 ghost use Rattle.repo_machine.specs.Prepared.{IsPrepared, asked_by};
 ghost use Rattle.repo_calls.specs.Asking.{IsAnswer, fault_answer, is_bad_bytes, question_seen};
@@ -64,7 +63,7 @@ fn with_counts<D: Disk>(
 /// type, and not where it captures one of a type that names a lifetime.
 pub(crate) trait TurnChange<D: Disk>: Drop {
     /// What is asked for.
-    ghost asked: { Self → reply.Ask };
+    ghost asked: { Self → Call };
 
     /// What has to be so of it.
     ghost ready: { Self → Type 0 };
@@ -76,7 +75,7 @@ pub(crate) trait TurnChange<D: Disk>: Drop {
         who: u64,
     ) -> (bool, Result<Placed, Refusal>)
         requires { ready self }
-        ensures reply { Replies state.old.opening.header state.old.history who (Asks (asked self)) (placed_answer result.1) state.new.history }
+        ensures reply { Replies state.old.opening.header state.old.history who (asked self) (placed_answer result.1) state.new.history }
         ensures told { Tells result.1 state.new }
         ensures turn { IsTurn history_of opening_of sealed_of who None state.old state.new result.0 }
         ensures stands { IsState state.new.opening state.new.history state.new.sealed };
@@ -187,20 +186,21 @@ pub(crate) fn changeset_in<D: Disk>(
 pub(crate) fn plan_in<D: Disk>(
     state: &mut RepoState<D>,
     alloc: Global,
+    caller: &BookName,
     name: &BookName,
     draft: Id,
 ) -> Result<Plan, Refusal>
     ensures same { state.new.history ≡ state.old.history }
     ensures opening { state.new.opening ≡ state.old.opening }
     ensures sealed { state.new.sealed ≡ state.old.sealed }
-    ensures ok { IfOk result (IsPlan state.old.history name.now draft) }
-    ensures err { IfErr result (RefusesLanding state.old.opening.header state.old.history name.now draft) }
+    ensures ok { IfOk result (IsPlan state.old.history caller.now name.now draft) }
+    ensures err { IfErr result (RefusesLanding state.old.opening.header state.old.history caller.now name.now draft) }
     ensures front { IsFront state.new.opening state.new.history }
     ensures stands { IsState state.new.opening state.new.history state.new.sealed }
 {
     // It keeps its rules.
     let _ = state.history_length();
-    state.plan(alloc, name, draft)
+    state.plan(alloc, caller, name, draft)
 }
 
 fn outcome(exchanged: Exchanged) -> Option<Result<Granted, Refusal>>
@@ -222,7 +222,7 @@ pub(crate) fn exchange_in<D: Disk>(
     rebased: Rebased,
 ) -> (bool, Option<Result<Placed, Refusal>>)
     requires { WasPlanned state.old.history rebased }
-    ensures reply { MatchOption result.1 (state.new.history ≡ state.old.history) (λ entered. Replies state.old.opening.header state.old.history who (Asks (LandDraft nobody rebased.name rebased.draft rebased.asked)) (placed_answer entered) state.new.history) }
+    ensures reply { MatchOption result.1 (state.new.history ≡ state.old.history) (λ entered. Replies state.old.opening.header state.old.history who (Asks (LandDraft rebased.caller rebased.name rebased.draft rebased.asked)) (placed_answer entered) state.new.history) }
     ensures told { IfSome result.1 (λ entered. Tells entered state.new) }
     ensures there { head state.old.history rebased.name ≡ Some rebased.old → IsSome result.1 }
     ensures turn { IsTurn history_of opening_of sealed_of who None state.old state.new result.0 }

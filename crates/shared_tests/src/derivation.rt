@@ -18,18 +18,22 @@ use std::process::Abort;
 use std::sync::Wait;
 use std::test::Fail;
 
-// A changeset without changes, its child that sets `p` to `abc`, and `main` there.
+// A changeset without changes, its child that sets `p` to `abc`, and `main` there; then one that takes `p` away, and one that
+// sets it again.
 const STORED: &str = "\
 content abc = done
 changeset 4301000001610000000000000000000000000000000000000000 = done
 changeset 430101ffb74880ae0d3038b6e6e402ea0840634c79efb3c927e280d44f36567ece7169000161000000000000000000000000000000000000000100017001000000000000000003ba7816bf8f01cfea414140de5dae2223b00361a396177a9cb410ff61f20015ad = done
-move - e8795b6f358309976a85a48b88590a7b77ffcdc1ce55d29a761853d4ff0669f0 = done";
+move - e8795b6f358309976a85a48b88590a7b77ffcdc1ce55d29a761853d4ff0669f0 = done
+changeset 430101e8795b6f358309976a85a48b88590a7b77ffcdc1ce55d29a761853d4ff0669f0000161000000000000000000000000000000000000000100017000 = done
+changeset 430101b2bed93a6b8be3c2b2330589fda2906eaed9c952f823aaf09d51ccb9f7c43104000161000000000000000000000000000000000000000100017001000000000000000003ba7816bf8f01cfea414140de5dae2223b00361a396177a9cb410ff61f20015ad = done";
 
-// Reads, and what they tell: the ids of a changeset's root fsnode and root unode, bytes of nodes, and entries of the log.
+// Reads, and what they tell: the ids of a changeset's root fsnode, root unode and root deleted node, bytes of nodes,
+// and entries of the log.
 // Ids are SHA-256 (FIPS 180-4) of the bytes. No changeset has the third id, and nothing is at `q`.
 const SEEN: &str = "\
-roots e8795b6f358309976a85a48b88590a7b77ffcdc1ce55d29a761853d4ff0669f0 = 36e6592b894c06d9c9e1094cea7485f777ee5f383e6b33ee39a311fdd78761ad 9f7c1e7f1b51f1ce2df2bc6d46c90a9269d8e85e462e1d529dd67ce1d4da7c29
-roots ffb74880ae0d3038b6e6e402ea0840634c79efb3c927e280d44f36567ece7169 = 702db16de9a1c44301e07731bf5464bd76da2ad7b35d676037a87fc045159af4 eacb0d21f6b8017700a05579119b7116b63959b732397837f5acdb7c875dee91
+roots e8795b6f358309976a85a48b88590a7b77ffcdc1ce55d29a761853d4ff0669f0 = 36e6592b894c06d9c9e1094cea7485f777ee5f383e6b33ee39a311fdd78761ad 9f7c1e7f1b51f1ce2df2bc6d46c90a9269d8e85e462e1d529dd67ce1d4da7c29 2870d36c41c014ebcbe9972d24b542621e9b4be8399630e2a10cfa7cc3eb2e46
+roots ffb74880ae0d3038b6e6e402ea0840634c79efb3c927e280d44f36567ece7169 = 702db16de9a1c44301e07731bf5464bd76da2ad7b35d676037a87fc045159af4 eacb0d21f6b8017700a05579119b7116b63959b732397837f5acdb7c875dee91 2870d36c41c014ebcbe9972d24b542621e9b4be8399630e2a10cfa7cc3eb2e46
 roots ba7816bf8f01cfea414140de5dae2223b00361a396177a9cb410ff61f20015ad = no changeset
 head = e8795b6f358309976a85a48b88590a7b77ffcdc1ce55d29a761853d4ff0669f0
 content ba7816bf8f01cfea414140de5dae2223b00361a396177a9cb410ff61f20015ad = 616263
@@ -39,14 +43,22 @@ fsnode e8795b6f358309976a85a48b88590a7b77ffcdc1ce55d29a761853d4ff0669f0 = 460100
 fsnode e8795b6f358309976a85a48b88590a7b77ffcdc1ce55d29a761853d4ff0669f0 q = no path
 unode e8795b6f358309976a85a48b88590a7b77ffcdc1ce55d29a761853d4ff0669f0 p = 560100ba7816bf8f01cfea414140de5dae2223b00361a396177a9cb410ff61f20015ad00148de9c5a7a44d19e56cd9ae1a554bf67847afb0c58f6e12fa29ac7ddfca9940e8795b6f358309976a85a48b88590a7b77ffcdc1ce55d29a761853d4ff0669f0
 history e8795b6f358309976a85a48b88590a7b77ffcdc1ce55d29a761853d4ff0669f0 p = 1 e8795b6f358309976a85a48b88590a7b77ffcdc1ce55d29a761853d4ff0669f0
-log 1 = 4, changeset ffb74880ae0d3038b6e6e402ea0840634c79efb3c927e280d44f36567ece7169, changeset e8795b6f358309976a85a48b88590a7b77ffcdc1ce55d29a761853d4ff0669f0, move main - e8795b6f358309976a85a48b88590a7b77ffcdc1ce55d29a761853d4ff0669f0";
+deleted e8795b6f358309976a85a48b88590a7b77ffcdc1ce55d29a761853d4ff0669f0 p = no path
+deleted b2bed93a6b8be3c2b2330589fda2906eaed9c952f823aaf09d51ccb9f7c43104 p = 440101b2bed93a6b8be3c2b2330589fda2906eaed9c952f823aaf09d51ccb9f7c4310400000000
+deleted b2bed93a6b8be3c2b2330589fda2906eaed9c952f823aaf09d51ccb9f7c43104 = 44010000000001017016c4dbc94cde782b59e5eb6156e82646af642b4aa5fc8a066cd665dda8b66c53
+deleted 1c7791ec52a83c3c3d4a1c8f4fa36002f4a73548be401868f074eb6d70bb6739 p = no path
+pathlog b2bed93a6b8be3c2b2330589fda2906eaed9c952f823aaf09d51ccb9f7c43104 p = 2 b2bed93a6b8be3c2b2330589fda2906eaed9c952f823aaf09d51ccb9f7c43104 e8795b6f358309976a85a48b88590a7b77ffcdc1ce55d29a761853d4ff0669f0
+pathlog 1c7791ec52a83c3c3d4a1c8f4fa36002f4a73548be401868f074eb6d70bb6739 p = 3 1c7791ec52a83c3c3d4a1c8f4fa36002f4a73548be401868f074eb6d70bb6739 b2bed93a6b8be3c2b2330589fda2906eaed9c952f823aaf09d51ccb9f7c43104 e8795b6f358309976a85a48b88590a7b77ffcdc1ce55d29a761853d4ff0669f0
+pathlog 1c7791ec52a83c3c3d4a1c8f4fa36002f4a73548be401868f074eb6d70bb6739 q = no path
+log 1 = 6, changeset ffb74880ae0d3038b6e6e402ea0840634c79efb3c927e280d44f36567ece7169, changeset e8795b6f358309976a85a48b88590a7b77ffcdc1ce55d29a761853d4ff0669f0, move main - e8795b6f358309976a85a48b88590a7b77ffcdc1ce55d29a761853d4ff0669f0, changeset b2bed93a6b8be3c2b2330589fda2906eaed9c952f823aaf09d51ccb9f7c43104, changeset 1c7791ec52a83c3c3d4a1c8f4fa36002f4a73548be401868f074eb6d70bb6739";
 
 fn tell_roots(alloc: Global, answer: Result<Roots, AskFault>) -> Result<String, Fail> {
     match answer {
         Ok(roots) => {
             let fsnode = roots.fsnode.to_hex(alloc)?;
             let unode = roots.unode.to_hex(alloc)?;
-            Ok(format!(in alloc; "{fsnode} {unode}")?)
+            let deleted = roots.deleted.to_hex(alloc)?;
+            Ok(format!(in alloc; "{fsnode} {unode} {deleted}")?)
         }
         Err(fault) => tell(alloc, Err(fault)),
     }
@@ -138,6 +150,8 @@ fn told_at<R: Wait, D: Disk>(
         ("fsnode", path) => tell(alloc, repo.fsnode(rt, alloc, seat, id, path.as_ref())),
         ("unode", path) => tell(alloc, repo.unode(rt, alloc, seat, id, path.as_ref())),
         ("history", Some(path)) => tell(alloc, repo.history(rt, alloc, seat, id, path)),
+        ("deleted", path) => tell(alloc, repo.deleted(rt, alloc, seat, id, path.as_ref())),
+        ("pathlog", Some(path)) => tell(alloc, repo.path_log(rt, alloc, seat, id, path)),
         _ => Err(Fail::from("a read")),
     }
 }

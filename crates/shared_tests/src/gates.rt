@@ -1,8 +1,8 @@
-//! A gate at which another seat moves `main`.
+//! Gates at which another seat moves `main`, or sets a policy.
 use crate::steps::move_from;
 use object_id::Id;
 use ports::Gate;
-use repo_calls::Seat;
+use repo_calls::{Ask, Seat};
 use repo_path::BookName;
 use std::alloc::Global;
 use std::sync::atomic::{AtomicU64, Ordering};
@@ -70,5 +70,38 @@ impl<'a, R: Wait, S: Seat + Drop> Gate for Moves<'a, R, S> {
         for _ in 0..self.steps {
             walker.step(self.alloc);
         }
+    }
+}
+
+/// A seat sets a policy each time that a landing comes here.
+#[derive(Drop)]
+pub(crate) struct Rules<'a, R: Wait, S: Seat + Drop> {
+    rt: &'a R,
+    alloc: Global,
+    seat: Mutex<S>,
+    caller: BookName,
+    text: &'a [u8],
+}
+
+impl<'a, R: Wait, S: Seat + Drop> Rules<'a, R, S> {
+    pub(crate) fn new(rt: &'a R, alloc: Global, seat: S, caller: BookName, text: &'a [u8]) -> Self {
+        Rules {
+            rt,
+            alloc,
+            seat: Mutex::new(seat),
+            caller,
+            text,
+        }
+    }
+}
+
+impl<'a, R: Wait, S: Seat + Drop> Gate for Rules<'a, R, S> {
+    fn between(&self, _who: u64, _attempt: u32) {
+        let mut seat = self.seat.lock(self.rt);
+        let ask = Ask::SetPolicy {
+            caller: &self.caller,
+            text: self.text,
+        };
+        let _set = seat.change(self.alloc, &ask);
     }
 }

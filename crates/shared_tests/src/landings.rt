@@ -1,8 +1,8 @@
-//! Landings at whose gate `main` is moved. The ids are those of an independent computation.
+//! Landings at whose gate `main` is moved, or a policy is set. The ids are those of an independent computation.
 ghost use Rattle.std.specs.Prelude.{◌≡◌};
 ghost use Rattle.repo_state.specs.State.{IsAllSealed};
 
-use crate::gates::{Moves, Walker};
+use crate::gates::{Moves, Rules, Walker};
 use crate::repository::new_repository;
 use crate::steps::{id, main_name, run_lines};
 use blob_disk::Disk;
@@ -113,4 +113,47 @@ fn the_hundredth_attempt_passes_no_gate(rt: HostRuntime) -> Result<(), Fail> {
     let came = came(&rt, rt.alloc(), 1, AWAY)?;
     assert_eq!(rt; came, 99);
     Ok(())
+}
+
+// Nobody may set `y`, which the draft does.
+const POLICY: &[u8] = b"deny * y\nallow * /\n";
+
+// The policy is held by the time at which the landing is entered. It is the last entry.
+const DENIED: &str = "\
+land 640d00803ffd078abe99687f11f76e3949495f55dd88e999e6458f7adfdf79ac = denied at y by Some(0)
+log 6 = 7, policy main 2";
+
+// Lands the draft at one seat while another sets the policy at the gate.
+fn denied_between<R: Abort + Wait, D: Disk>(
+    rt: &R,
+    alloc: Global,
+    repo: &Repo<D>,
+    seats: (RepoSeat, RepoSeat),
+) -> Result<(), Fail>
+    requires one { seats.0.lock ≡ repo.now }
+    requires other { seats.1.lock ≡ repo.now }
+{
+    let (one, other) = seats;
+    let other = Served::new(rt, repo, other, &NoGate);
+    let gate = Rules::new(rt, alloc, other, main_name(alloc)?, POLICY);
+    run_through(rt, alloc, repo, one, &gate, DENIED)
+}
+
+// The same in a repository.
+fn denied_in<R: Abort + Wait, D: Disk>(
+    rt: &R,
+    alloc: Global,
+    state: RepoState<D>,
+) -> Result<(), Fail>
+    requires sealed { IsAllSealed state.history state.sealed }
+{
+    let (repo, mut lead) = Repo::new(alloc, state)?;
+    let other = repo.split(&mut lead);
+    denied_between(rt, alloc, &repo, (lead, other))
+}
+
+#[test]
+fn a_policy_that_is_set_at_the_gate_denies_the_landing(rt: HostRuntime) -> Result<(), Fail> {
+    let alloc = rt.alloc();
+    denied_in(&rt, alloc, new_repository(alloc, &[])?)
 }

@@ -60,6 +60,7 @@ fn tell_entry(alloc: Global, entry: &LogEntry) -> Result<String, Fail> {
             let id = id.to_hex(alloc)?;
             Ok(format!(in alloc; "content {id} {size}")?)
         }
+        LogEntry::Whole { .. } => Err(Fail::from("a whole")),
         LogEntry::Changeset { id } => {
             let id = id.to_hex(alloc)?;
             Ok(format!(in alloc; "changeset {id}")?)
@@ -80,5 +81,6 @@ fn tell_entry(alloc: Global, entry: &LogEntry) -> Result<String, Fail> {
             let ids = tell_ids(alloc, ids.as_slice())?;
             Ok(format!(in alloc; "land {name} {old} {draft} {ids}")?)
         }
+        LogEntry::Policy { caller, rules } => Ok(format!(in alloc; "policy {caller} {rules}")?),
     }
 }

@@ -36,7 +36,7 @@ fn is_read<D: Disk>(alloc: Global, state: &mut RepoState<D>, bytes: &[u8]) -> bo
 // The file of a new repository of 65,536 bytes in which both contents were sealed: the mark, the capacity, and two records
 // behind open gates, each a length and a payload, with a closed gate behind them.
 const WITH_BOTH: &[u8] =
-    b"BONSAI\x00\x01\x00\x00\x00\x00\x00\x01\x00\x00\x01\x00\x00\x00\x04Babc\x01\x00\x00\x00\x01B\x00";
+    b"BONSAI\x00\x02\x00\x00\x00\x00\x00\x01\x00\x00\x01\x00\x00\x00\x04Babc\x01\x00\x00\x00\x01B\x00";
 
 // A new repository's file has taken three syncs.
 #[test]

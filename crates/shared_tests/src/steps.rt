@@ -2,8 +2,8 @@
 //! tells. Ids and changesets are hex digits.
 //!
 //! - `content TEXT` and `changeset DIGITS` store what they name;
-//! - `move FROM TO` moves `main`, where `-` stands for no bookmark;
-//! - `land ID` lands a draft on `main`, and tells how many new changesets there are, and the last;
+//! - `move FROM TO` moves `main` for the caller `main`, where `-` stands for no bookmark;
+//! - `land ID` lands a draft on `main` for that caller, and tells how many new changesets there are, and the last;
 //! - `total` tells how many entries the log has, and `log N` those from this number on, too.
 ghost use Rattle.std.specs.Prelude.{◌≡◌};
 
@@ -11,7 +11,7 @@ use crate::looks::tell as tell_answer;
 use blob_disk::Disk;
 use object_id::Id;
 use ports::NoGate;
-use repo_calls::{Ask, ChangeFault, Granted, Question, Seat, Seen};
+use repo_calls::{Ask, ChangeFault, DeniedPlace, Granted, Question, Refusal, Seat, Seen};
 use repo_path::BookName;
 use shared_repo::{Repo, RepoSeat, Served};
 use std::alloc::Global;
@@ -89,7 +89,7 @@ pub(crate) fn main_name(alloc: Global) -> Result<BookName, Fail> {
     Ok(BookName::parse(alloc, "main")?)
 }
 
-/// Moves a bookmark.
+/// Moves a bookmark. The name of it is the caller's, too.
 pub(crate) fn move_from<S: Seat>(
     alloc: Global,
     seat: &mut S,
@@ -97,7 +97,15 @@ pub(crate) fn move_from<S: Seat>(
     from: Option<Id>,
     to: Option<Id>,
 ) -> Result<Granted, ChangeFault> {
-    seat.change(alloc, &Ask::SetBookmark { name, from, to })
+    seat.change(
+        alloc,
+        &Ask::SetBookmark {
+            caller: name,
+            name,
+            from,
+            to,
+        },
+    )
 }
 
 fn land<S: Seat>(alloc: Global, seat: &mut S, digits: &str) -> Result<String, Fail> {
@@ -108,6 +116,7 @@ fn land<S: Seat>(alloc: Global, seat: &mut S, digits: &str) -> Result<String, Fa
         seat.change(
             alloc,
             &Ask::Land {
+                caller: name,
                 name,
                 draft,
                 moment: 0,
@@ -132,7 +141,23 @@ fn tell(alloc: Global, answer: Result<Granted, ChangeFault>) -> Result<String, F
     match answer {
         Ok(Granted::Landing(landed)) => tell_landed(alloc, landed.ids.as_slice()),
         Ok(_) => Ok(String::from_str(alloc, "done")?),
+        Err(ChangeFault::Refused(refusal)) => tell_refusal(alloc, &refusal),
         Err(fault) => Ok(format!(in alloc; "{fault:?}")?),
+    }
+}
+
+fn tell_refusal(alloc: Global, refusal: &Refusal) -> Result<String, Fail> {
+    match refusal {
+        Refusal::Denied { place, rule } => tell_denied(alloc, place, *rule),
+        refusal => Ok(format!(in alloc; "Refused({refusal:?})")?),
+    }
+}
+
+// Where it is denied, and the number of the rule that decides.
+fn tell_denied(alloc: Global, place: &DeniedPlace, rule: Option<u64>) -> Result<String, Fail> {
+    match place {
+        DeniedPlace::Path(path) => Ok(format!(in alloc; "denied at {path} by {rule:?}")?),
+        _ => Err(Fail::from("a path")),
     }
 }
 

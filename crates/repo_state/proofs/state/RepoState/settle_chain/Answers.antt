@@ -14,7 +14,7 @@ pub settle-requires-clause-derived : goal.settle-requires-clause-derived
 settle-requires-clause-derived g c =
     let ks = known c.loop-job.self.history in
     let next = next_of ks c.loop-job.self.table c.args.id c.in_ok-job.field-0 c.in-Some.job c.in_ok-job.ensures.ok c.in-Some.is in
-    done_right ks c.loop-job.self.table next.0 c.in-Some.job next.1 c.in_ok-done.done c.in_ok-done.ensures
+    done_right ks c.loop-job.self.table next.0 c.in-Some.job next.1 c.in-Ok.done c.in-Ok.ensures.done
 
 pub returns-in-Err-clause-err : goal.returns-in-Err-clause-err
 returns-in-Err-clause-err g c =
@@ -26,15 +26,15 @@ pub loop-job-smaller : goal.loop-job-smaller
 loop-job-smaller g c =
     let ks = known c.loop-job.self.history in
     let next = next_of ks c.loop-job.self.table c.args.id c.in_ok-job.field-0 c.in-Some.job c.in_ok-job.ensures.ok c.in-Some.is in
-    let ready = done_ready ks c.loop-job.self.table next.0 c.in-Some.job next.1 c.in_ok-done.done c.in_ok-done.ensures in
+    let ready = done_ready ks c.loop-job.self.table next.0 c.in-Some.job next.1 c.in-Ok.done c.in-Ok.ensures.done in
     let same = ap (λ (s : State). s.history) c.in_default-settle.ensures.same in
     subst (λ h. missing c.settle.new.self.table (length (known h)) < missing c.loop-job.self.table (length ks)) (sym same)
-    (fewer_missing ks c.loop-job.self.table c.settle.new.self.table next.0 c.in-Some.job next.1 c.in_ok-done.done c.in_ok-done.ensures c.in_default-settle.ensures.ok (c.in_default-settle.ensures.settled ready))
+    (fewer_missing ks c.loop-job.self.table c.settle.new.self.table next.0 c.in-Some.job next.1 c.in-Ok.done c.in-Ok.ensures.done c.in_default-settle.ensures.ok (c.in_default-settle.ensures.settled ready))
 
 pub loop-job-preserved : goal.loop-job-preserved
 loop-job-preserved g c = record {
   same = c.in_default-settle.ensures.same ∙ ap (λ (s : State). record s { table = c.settle.new.self.table }) c.loop-job.invariant.same;
-  stay = λ n h. stay_settled (known c.loop-job.self.history) c.loop-job.self.table c.settle.new.self.table c.in_ok-done.done c.in_default-settle.ensures.ok n (c.loop-job.invariant.stay n h);
+  stay = λ n h. stay_settled (known c.loop-job.self.history) c.loop-job.self.table c.settle.new.self.table c.in-Ok.done c.in_default-settle.ensures.ok n (c.loop-job.invariant.stay n h);
 }
 
 pub returns-clause-ok : goal.returns-clause-ok

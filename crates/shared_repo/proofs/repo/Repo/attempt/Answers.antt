@@ -1,7 +1,7 @@
 use Rattle.std.proofs.Common.{sym, ap, subst}
 use Rattle.bookmark_lock.specs.Place.{Place}
-use Rattle.reply_model.specs.Reply.{Ask, LandDraft}
-use Rattle.reply_model.specs.Opening.{nobody}
+use Rattle.reply_model.specs.Reply.{LandDraft}
+use Rattle.reply_model.specs.After.{Asks, Call}
 use Rattle.repo_calls.specs.Asking.{stored_answer}
 use Rattle.shared_repo.specs.Sealed.{IsSealedAfter}
 use Rattle.shared_repo.proofs.Fronts.{asked_for}
@@ -15,7 +15,7 @@ returns-clause-sealed g c =
     let new = c.answer_sealed.new.seat in
     let answer = stored_answer c.answer_sealed.result in
     let inner = c.seat.inside.inner in
-    let asked = LandDraft nobody c.in-Ok.rebased.name c.in-Ok.rebased.draft c.in-Ok.rebased.asked in
+    let asked = Asks (LandDraft c.in-Ok.rebased.caller c.in-Ok.rebased.name c.in-Ok.rebased.draft c.in-Ok.rebased.asked) in
     let sealed = c.answer_sealed.ensures.sealed header inner asked (sym (ap (λ (p : Place). p.number) c.exchange.ensures.seat)) c.in_ok-entered.ensures.entered in
-    subst (λ (ask : Ask). IsSealedAfter header seat.front seat.number ask answer new.front new.sealed) (asked_for seat.front plan.name plan.draft plan c.in-Ok.rebased c.args.moment c.requires.planned c.in-Ok.ensures)
+    subst (λ (call : Call). IsSealedAfter header seat.front seat.number call answer new.front new.sealed) (asked_for seat.front plan.caller plan.name plan.draft plan c.in-Ok.rebased c.args.moment c.requires.planned c.in-Ok.ensures)
     (subst (λ (p : Place). IsSealedAfter header p.front p.number asked answer new.front new.sealed) c.seat.view_is sealed)

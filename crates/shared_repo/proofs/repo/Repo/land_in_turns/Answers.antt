@@ -1,7 +1,7 @@
 use Rattle.std.proofs.Common.{ap, refl}
 use Rattle.bookmark_lock.specs.Place.{Place}
 use Rattle.reply_model.specs.Reply.{LandDraft}
-use Rattle.reply_model.specs.Opening.{nobody}
+use Rattle.reply_model.specs.After.{Asks}
 use Rattle.repo_calls.specs.Asking.{stored_answer}
 use Rattle.shared_repo.proofs.Fronts.{sees_nothing}
 use Rattle.shared_repo.proofs.Sealings.{plan_refused, sealed_later}
@@ -10,7 +10,7 @@ use Rattle.shared_repo.proofs.repo.Repo.land_in_turns.Goals as goal
 pub returns-in-Err-clause-sealed : goal.returns-in-Err-clause-sealed
 returns-in-Err-clause-sealed g c =
     let told = c.loop-attempt.invariant in
-    plan_refused c.args.self.now.opening.header c.args.seat.now.front c.loop-attempt.seat.front c.plan.new.seat.front c.args.seat.now.number c.loop-attempt.seat.number (LandDraft nobody c.args.name.now c.args.draft c.args.moment)
+    plan_refused c.args.self.now.opening.header c.args.seat.now.front c.loop-attempt.seat.front c.plan.new.seat.front c.args.seat.now.number c.loop-attempt.seat.number (Asks (LandDraft c.args.caller.now c.args.name.now c.args.draft c.args.moment))
     c.in-Err.refusal c.plan.new.seat.sealed told.2 (ap (λ (p : Place). p.number) told.0) c.in-Err.ensures.more (c.in-Err.ensures.err c.args.moment)
 
 pub returns-in-Some-clause-sealed : goal.returns-in-Some-clause-sealed
@@ -18,13 +18,13 @@ returns-in-Some-clause-sealed g c =
     let told = c.loop-attempt.invariant in
     let is = c.in-Ok.ensures.ok in
     sealed_later c.args.self.now.opening.header c.args.seat.now.front c.loop-attempt.seat.front c.plan.new.seat.front c.attempt.new.seat.front c.args.seat.now.number c.loop-attempt.seat.number c.plan.new.seat.number
-    (LandDraft nobody c.args.name.now c.args.draft c.args.moment) (LandDraft nobody c.in-Ok.plan.name c.in-Ok.plan.draft c.args.moment) (stored_answer c.in-Some.answer) c.attempt.new.seat.sealed told.2 (ap (λ (p : Place). p.number) told.0) c.in-Ok.ensures.more
-    (ap (λ (p : Place). p.number) c.plan.ensures.seat) (λ i. LandDraft nobody (is.names i) (is.drafts i) c.args.moment) c.in-Some.ensures.sealed
+    (Asks (LandDraft c.args.caller.now c.args.name.now c.args.draft c.args.moment)) (Asks (LandDraft c.in-Ok.plan.caller c.in-Ok.plan.name c.in-Ok.plan.draft c.args.moment)) (stored_answer c.in-Some.answer) c.attempt.new.seat.sealed told.2 (ap (λ (p : Place). p.number) told.0) c.in-Ok.ensures.more
+    (ap (λ (p : Place). p.number) c.plan.ensures.seat) (λ i. Asks (LandDraft (is.callers i) (is.names i) (is.drafts i) c.args.moment)) c.in-Some.ensures.sealed
 
 pub returns-clause-sealed : goal.returns-clause-sealed
 returns-clause-sealed g c =
     let told = c.loop-attempt.invariant in
     let seat = c.loop-attempt.seat in
     sealed_later c.args.self.now.opening.header c.args.seat.now.front seat.front seat.front c.land_in_one_turn.new.seat.front c.args.seat.now.number seat.number seat.number
-    (LandDraft nobody c.args.name.now c.args.draft c.args.moment) (LandDraft nobody c.args.name.now c.args.draft c.args.moment) (stored_answer c.land_in_one_turn.result) c.land_in_one_turn.new.seat.sealed told.2 (ap (λ (p : Place). p.number) told.0) (sees_nothing seat.front seat.number)
+    (Asks (LandDraft c.args.caller.now c.args.name.now c.args.draft c.args.moment)) (Asks (LandDraft c.args.caller.now c.args.name.now c.args.draft c.args.moment)) (stored_answer c.land_in_one_turn.result) c.land_in_one_turn.new.seat.sealed told.2 (ap (λ (p : Place). p.number) told.0) (sees_nothing seat.front seat.number)
     refl refl c.land_in_one_turn.ensures.sealed

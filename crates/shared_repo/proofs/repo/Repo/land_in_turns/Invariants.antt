@@ -6,4 +6,4 @@ use Rattle.shared_repo.proofs.repo.Repo.land_in_turns.Given as goal
 
 abbrev pub invariant-loop-attempt : goal.invariant-loop-attempt
 invariant-loop-attempt g l =
-    (l.seat ≡ moved l.initial.seat l.seat) × (l.initial.seat.sealed ≤ l.seat.sealed) × SeesMore l.initial.seat.front l.initial.seat.number l.seat.front × IsEarlier l.seat.front l.name l.draft l.earlier
+    (l.seat ≡ moved l.initial.seat l.seat) × (l.initial.seat.sealed ≤ l.seat.sealed) × SeesMore l.initial.seat.front l.initial.seat.number l.seat.front × IsEarlier l.seat.front l.caller l.name l.draft l.earlier

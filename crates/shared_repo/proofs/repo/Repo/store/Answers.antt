@@ -1,0 +1,18 @@
+use Rattle.std.proofs.Common.{ap, sym, subst}
+use Rattle.bookmark_lock.specs.Place.{Place}
+use Rattle.reply_model.specs.After.{Call}
+use Rattle.repo_calls.specs.Asking.{stored_answer}
+use Rattle.repo_machine.specs.Prepared.{asked_by}
+use Rattle.shared_repo.specs.Sealed.{IsSealedAfter}
+use Rattle.shared_repo.proofs.repo.Repo.store.Goals as goal
+
+pub returns-clause-sealed : goal.returns-clause-sealed
+returns-clause-sealed g c =
+    let header = c.args.self.now.opening.header in
+    let inner = c.seat.inside.inner in
+    let new = c.answer_sealed.new.seat in
+    let answer = stored_answer c.answer_sealed.result in
+    let call = asked_by c.in-Ok.prepared in
+    let sealed = c.answer_sealed.ensures.sealed header inner call (sym (ap (λ (p : Place). p.number) c.enter_change-entered.ensures.seat)) c.enter_change-entered.ensures.entered in
+    subst (λ (called : Call). IsSealedAfter header c.args.seat.now.front c.args.seat.now.number called answer new.front new.sealed) c.in-Ok.ensures.asks
+    (subst (λ (p : Place). IsSealedAfter header p.front p.number call answer new.front new.sealed) c.seat.view_is sealed)
