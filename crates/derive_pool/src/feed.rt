@@ -145,6 +145,9 @@ fn told_id(entry: &LogEntry) -> Option<Id>
     match entry {
         LogEntry::Changeset { id } => Some(*id),
         LogEntry::Landing { ids, .. } => ids.last().copied(),
-        LogEntry::Content { .. } | LogEntry::Bookmark { .. } => None,
+        LogEntry::Content { .. }
+        | LogEntry::Whole { .. }
+        | LogEntry::Bookmark { .. }
+        | LogEntry::Policy { .. } => None,
     }
 }

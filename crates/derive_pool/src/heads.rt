@@ -38,7 +38,10 @@ impl Heads {
                 let head = ids.last().copied();
                 self.set(name, head)
             }
-            LogEntry::Content { .. } | LogEntry::Changeset { .. } => Ok(()),
+            LogEntry::Content { .. }
+            | LogEntry::Whole { .. }
+            | LogEntry::Changeset { .. }
+            | LogEntry::Policy { .. } => Ok(()),
         }
     }
 

@@ -5,11 +5,13 @@ use Rattle.history_model.specs.History.{Entry}
 use Rattle.history_model.specs.Journal.{Header}
 use Rattle.reply_model.specs.Reply as reply
 use Rattle.reply_model.specs.Log.{LogLine, line_of, lines_of}
-use Rattle.reply_model.specs.After.{Relation, Answer, Asks, Looks, Shows, Memory}
+use Rattle.reply_model.specs.After.{Relation, Call, Answer, Looks, Shows, Memory}
 use Rattle.repo_calls.specs.declared.log.LogEntry.{LogEntry}
+use Rattle.repo_calls.specs.declared.ask.Ask.{Ask}
+use Rattle.repo_calls.specs.declared.ask.Ask.TheVariants as asks
 use Rattle.repo_calls.specs.declared.refusal.Refusal as calls
 use Rattle.repo_calls.specs.declared.refusal.Refusal.TheVariants as refusals
-use Rattle.repo_calls.specs.Calls.{refused, line_seen, lines_seen}
+use Rattle.repo_calls.specs.Calls.{call_seen, refused, line_seen, lines_seen}
 use Rattle.repo_calls.specs.declared.calls.AskFault.{AskFault}
 use Rattle.repo_calls.specs.declared.calls.Question.{Question}
 use Rattle.repo_calls.specs.declared.calls.Question.TheVariants as questions
@@ -23,14 +25,14 @@ use Rattle.session_model.specs.Responses.{Response, text_of}
 use Rattle.session_model.specs.Bodies.{json, octets, log_body, memory}
 use Rattle.http_model.specs.Stream.{Request, is_head_only}
 use Rattle.session_model.specs.Asking as model
-use Rattle.session_model.specs.Asking.{asked, change_response, read_response}
+use Rattle.session_model.specs.Asking.{asked, change_response, read_response, response}
 use Rattle.session_model.specs.Session.{Answers, AnswersAsked}
 use Rattle.routes.specs.declared.route_refusal.RouteRefusal.{RouteRefusal}
 use Rattle.routes.specs.declared.route_refusal.RouteRefusal.TheVariants as route_refusals
 use Rattle.routes.specs.Failed.{failed, unless_memory}
 use Rattle.repo_text.specs.Refusing.{response_to}
 use Rattle.repo_text.proofs.Answered.{change_response-refused}
-use Rattle.http_front.specs.Answered.{Replied}
+use Rattle.http_front.specs.Answered.{IsPut, Replied}
 use Rattle.http_front.specs.Reading as reading
 use Rattle.http_front.specs.Reading.{seen_response, Suits, SuitsKind}
 
@@ -41,9 +43,14 @@ makes_nothing (refusals.TooLong n) = tt
 makes_nothing (refusals.BadEncoding at) = tt
 makes_nothing (refusals.SelfConflict short long) = tt
 makes_nothing refusals.Merge = tt
+makes_nothing (refusals.BadParts n) = tt
+makes_nothing refusals.OldFormat = tt
+makes_nothing (refusals.NoPiece x) = tt
+makes_nothing (refusals.NotAPiece x) = tt
 makes_nothing (refusals.NoParent x) = tt
 makes_nothing (refusals.NoContent p x) = tt
 makes_nothing (refusals.WrongSize p wanted found) = tt
+makes_nothing (refusals.Unresolved p) = tt
 makes_nothing (refusals.Collision x) = tt
 makes_nothing (refusals.NoChangeset x) = tt
 makes_nothing (refusals.Moved found) = tt
@@ -52,10 +59,21 @@ makes_nothing refusals.NoRoot = tt
 makes_nothing (refusals.TooFarBehind n) = tt
 makes_nothing refusals.AlreadyIn = tt
 makes_nothing (refusals.StackTooLong n) = tt
+makes_nothing (refusals.MergeInStack x) = tt
+makes_nothing (refusals.MergeInRange x) = tt
+makes_nothing (refusals.Denied place rule) = tt
 makes_nothing (refusals.Clash left right) = tt
 makes_nothing (refusals.TooLarge n) = tt
+makes_nothing (refusals.BadPolicy line) = tt
 makes_nothing (refusals.Full size n) = tt
 makes_nothing refusals.Memory = tt
+
+-- a refusal is put as its response, or as want of memory
+pub refusal_put : (refusal : calls.Refusal) (call : Call) (close head_only : Bool) (text : List ℕ)
+    → ((text ≡ text_of (response_to refusal) close head_only) ⊎ (text ≡ text_of memory close head_only))
+    → IsPut (refused refusal) (change_response call (refused refusal)) close head_only text
+refusal_put refusal call close head_only text (inl e) = inl (e ∙ ap (λ r. text_of r close head_only) (sym (change_response-refused call refusal)))
+refusal_put refusal call close head_only text (inr e) = inr (makes_nothing refusal, e)
 
 lines-shorten : (entries : List Entry) → length (lines_of entries) ≤ length entries
 lines-shorten [] = omega arith
@@ -148,6 +166,22 @@ response_is (questions.Copies id) (seen.Bytes bytes) answer is suits = absurd su
 response_is (questions.Copies id) (seen.Log page) answer is suits = absurd suits
 response_is (questions.Copies id) (seen.Ids ids) answer is suits = absurd suits
 response_is (questions.Copies id) (seen.Copies copies) answer is suits = ap (read_response (question_seen (questions.Copies id))) is
+response_is (questions.PathLog id path) (seen.Head head) answer is suits = absurd suits
+response_is (questions.PathLog id path) (seen.Bytes bytes) answer is suits = absurd suits
+response_is (questions.PathLog id path) (seen.Log page) answer is suits = absurd suits
+response_is (questions.PathLog id path) (seen.Ids ids) answer is suits = ap (read_response (question_seen (questions.PathLog id path))) is
+response_is (questions.PathLog id path) (seen.Copies copies) answer is suits = absurd suits
+response_is (questions.Deleted id dir) s answer is suits = answers_bytes (questions.Deleted id dir) s answer (λ bytes. refl) is suits
+response_is (questions.Policy number) s answer is suits = answers_bytes (questions.Policy number) s answer (λ bytes. refl) is suits
+
+-- what answers a change is the response to its call
+response_to_change : (ask : Ask) (answer : Answer) → change_response (call_seen ask) answer ≡ response (call_seen ask) answer
+response_to_change (asks.PutContent bytes) answer = refl
+response_to_change (asks.PutWhole body) answer = refl
+response_to_change (asks.PutChangeset bytes) answer = refl
+response_to_change (asks.SetBookmark caller name from to) answer = refl
+response_to_change (asks.Land caller name draft moment) answer = refl
+response_to_change (asks.SetPolicy caller text) answer = refl
 
 shows_nothing : (s : Seen) (answer : Answer) → IsAnswer (Ok s) answer → MakesNothing answer
 shows_nothing (seen.Head head) answer is = subst MakesNothing (sym is) tt
@@ -157,15 +191,12 @@ shows_nothing (seen.Ids ids) answer is = subst MakesNothing (sym is) tt
 shows_nothing (seen.Copies copies) answer is = subst MakesNothing (sym is) tt
 
 module _ (replies : Relation) (lawful : IsReplying replies) (header : Header) (h : List Entry) (who : ℕ) (after : List Entry) where
-  -- a change that is refused is answered by its refusal, or by want of memory
-  pub refusal_answers : (ask : reply.Ask) (refusal : calls.Refusal) (close head_only : Bool) (text : List ℕ)
-      → replies header h who (Asks ask) (refused refusal) after
-      → ((text ≡ text_of (response_to refusal) close head_only) ⊎ (text ≡ text_of memory close head_only))
-      → Replied replies header who h (Asks ask) (change_response ask) close head_only text after
-  refusal_answers ask refusal close head_only text answered (inl e) =
-      record { answer = refused refusal; answered = answered; text = e ∙ ap (λ r. text_of r close head_only) (sym (change_response-refused ask refusal)) }
-  refusal_answers ask refusal close head_only text answered (inr e) =
-      record { answer = Memory; answered = lawful.memory header h who (Asks ask) (refused refusal) after (makes_nothing refusal) answered; text = e }
+  -- a change is answered by the response that is put
+  pub put_answers : (call : Call) (answer : Answer) (close head_only : Bool) (text : List ℕ)
+      → replies header h who call answer after → IsPut answer (change_response call answer) close head_only text → Replied replies header who h call (change_response call) close head_only text after
+  put_answers call answer close head_only text answered (inl e) = record { answer = answer; answered = answered; text = e }
+  put_answers call answer close head_only text answered (inr (none, e)) =
+      record { answer = Memory; answered = lawful.memory header h who call answer after none answered; text = e }
 
   -- what is seen is what was asked for
   pub seen_suits : (question : Question) (s : Seen) (answer : Answer) → IsAnswer (Ok s) answer → replies header h who (Looks (question_seen question)) answer after → Suits question s
@@ -193,12 +224,14 @@ module _ (replies : Relation) (header : Header) (h : List Entry) (who : ℕ) whe
       record { answer = answer; answered = answered; text = e (question_seen question) ∙ ap (λ a. text_of (read_response (question_seen question) a) close head_only) (sym is) }
 
   -- a request is answered by the change that it asks for
-  pub change_answers : (q : Request) (ask : reply.Ask) (text : List ℕ) (after : List Entry) → asked q ≡ model.Change ask
-      → Replied replies header who h (Asks ask) (change_response ask) q.close (is_head_only q) text after → Answers replies header who h q text after
-  change_answers q ask text after asks r = inl (subst (λ b. AnswersAsked replies header who h b q text after) (sym asks) (record { answer = r.answer; answered = r.answered; text = r.text }))
+  pub change_answers : (q : Request) (ask : Ask) (text : List ℕ) (after : List Entry) → asked q ≡ model.Calls (call_seen ask)
+      → Replied replies header who h (call_seen ask) (change_response (call_seen ask)) q.close (is_head_only q) text after → Answers replies header who h q text after
+  change_answers q ask text after is r =
+      let same = r.text ∙ ap (λ x. text_of x q.close (is_head_only q)) (response_to_change ask r.answer) in
+      inl (subst (λ b. AnswersAsked replies header who h b q text after) (sym is) (record { answer = r.answer; answered = r.answered; text = same }))
 
   -- or by the read
-  pub read_answers : (q : Request) (question : reply.Question) (text : List ℕ) (after : List Entry) → asked q ≡ model.Read question
+  pub read_answers : (q : Request) (question : reply.Question) (text : List ℕ) (after : List Entry) → asked q ≡ model.Calls (Looks question)
       → Replied replies header who h (Looks question) (read_response question) q.close (is_head_only q) text after → Answers replies header who h q text after
   read_answers q question text after asks r = inl (subst (λ b. AnswersAsked replies header who h b q text after) (sym asks) (record { answer = r.answer; answered = r.answered; text = r.text }))
 
@@ -215,4 +248,5 @@ module _ (replies : Relation) (header : Header) (h : List Entry) (who : ℕ) whe
   route_refusal_answers q (route_refusals.BadId at) text asks e = fails_by q (failed (route_refusals.BadId at)) text asks e
   route_refusal_answers q (route_refusals.BadPath at) text asks e = fails_by q (failed (route_refusals.BadPath at)) text asks e
   route_refusal_answers q route_refusals.BadNumber text asks e = fails_by q (failed route_refusals.BadNumber) text asks e
+  route_refusal_answers q route_refusals.BadCaller text asks e = fails_by q (failed route_refusals.BadCaller) text asks e
   route_refusal_answers q route_refusals.Memory text asks e = inr (record { same = refl; text = e })

@@ -11,7 +11,7 @@ use Rattle.repo_calls.specs.declared.calls.Seen.{Seen}
 use Rattle.repo_calls.specs.declared.calls.Seen.TheVariants as seen
 use Rattle.session_model.specs.declared.status.Status.TheVariants.{Fine}
 use Rattle.session_model.specs.Responses.{Response}
-use Rattle.session_model.specs.Bodies.{json, octets, log_body, history_body, copies_body}
+use Rattle.session_model.specs.Bodies.{json, octets, log_body, copies_body}
 use Rattle.session_model.specs.Asking as asking
 
 abbrev pub IsHead : Seen → Type 0
@@ -70,6 +70,6 @@ first_number CopiesKind = 0
 abbrev pub seen_response : Question → Seen → Response
 seen_response question (seen.Head head) = asking.seen (question_seen question) (reply.SeenHead head)
 seen_response question (seen.Bytes bytes) = octets bytes.items
-seen_response question (seen.Ids ids) = json Fine (history_body ids.items)
+seen_response question (seen.Ids ids) = asking.seen (question_seen question) (reply.SeenIds ids.items)
 seen_response question (seen.Copies copies) = json Fine (copies_body (copies_seen copies.items))
 seen_response question (seen.Log page) = json Fine (log_body (first_number (kind_of (question_seen question))) (lines_seen page.entries.items) page.total)

@@ -1,12 +1,13 @@
 //! The answers to changes.
-ghost use Rattle.std.specs.Prelude.{◌≡◌};
-ghost use Rattle.reply_model.specs.After.{Asks};
-ghost use Rattle.repo_calls.specs.Calls.{ask_seen, granted_seen};
+ghost use Rattle.std.specs.Prelude.{◌≡◌, Err};
+ghost use Rattle.reply_model.specs.After.{Call};
+ghost use Rattle.repo_calls.specs.Asking.{stored_answer};
+ghost use Rattle.repo_calls.specs.Calls.{call_seen, granted_seen};
 ghost use Rattle.repo_calls.specs.Replying.{Fits};
 ghost use Rattle.session_model.specs.Asking.{change_response, granted as granted_response};
 ghost use Rattle.session_model.specs.Dating.{Dated};
 ghost use Rattle.session_model.specs.Responses.{text_of};
-ghost use Rattle.http_front.specs.Answered.{Replied};
+ghost use Rattle.http_front.specs.Answered.{IsPut, Replied};
 ghost use Rattle.http_front.specs.Dating.{IsDated};
 
 use crate::refusing::put_refusal;
@@ -26,7 +27,7 @@ pub(crate) fn change<T: Seat, C: Clock>(
     ask: &Ask<'_>,
     form: ResponseForm,
 )
-    ensures answers { Replied (Dated (C.tells clock.now) (T.replies (T.home seat.old))) (T.header seat.old) (T.number seat.old) (T.front seat.old) (Asks (ask_seen ask.now)) (change_response (ask_seen ask.now)) form.close form.head_only buffer.new (T.front seat.new) }
+    ensures answers { Replied (Dated (C.tells clock.now) (T.replies (T.home seat.old))) (T.header seat.old) (T.number seat.old) (T.front seat.old) (call_seen ask.now) (change_response (call_seen ask.now)) form.close form.head_only buffer.new (T.front seat.new) }
     ensures header { T.header seat.new ≡ T.header seat.old }
     ensures number { T.number seat.new ≡ T.number seat.old }
     ensures home { T.home seat.new ≡ T.home seat.old }
@@ -36,25 +37,35 @@ pub(crate) fn change<T: Seat, C: Clock>(
 
 // The same change, where it's a landing at the moment that the clock tells.
 fn dated<'a, C: Clock>(clock: &C, ask: &Ask<'a>) -> Ask<'a>
-    ensures { IsDated (C.tells clock.now) (ask_seen ask.now) (ask_seen result) }
+    ensures { IsDated (C.tells clock.now) (call_seen ask.now) (call_seen result) }
 {
     match ask {
         Ask::PutContent(bytes) => Ask::PutContent(bytes),
+        Ask::PutWhole(body) => Ask::PutWhole(body),
         Ask::PutChangeset(bytes) => Ask::PutChangeset(bytes),
-        Ask::SetBookmark { name, from, to } => Ask::SetBookmark {
+        Ask::SetBookmark {
+            caller,
+            name,
+            from,
+            to,
+        } => Ask::SetBookmark {
+            caller,
             name,
             from: *from,
             to: *to,
         },
         Ask::Land {
+            caller,
             name,
             draft,
             moment: _,
         } => Ask::Land {
+            caller,
             name,
             draft: *draft,
             moment: clock.now(),
         },
+        Ask::SetPolicy { caller, text } => Ask::SetPolicy { caller, text },
     }
 }
 
@@ -66,24 +77,43 @@ fn make<T: Seat>(
     ask: &Ask<'_>,
     form: ResponseForm,
 )
-    ensures answers { Replied (T.replies (T.home seat.old)) (T.header seat.old) (T.number seat.old) (T.front seat.old) (Asks (ask_seen ask.now)) (change_response (ask_seen ask.now)) form.close form.head_only buffer.new (T.front seat.new) }
+    ensures answers { Replied (T.replies (T.home seat.old)) (T.header seat.old) (T.number seat.old) (T.front seat.old) (call_seen ask.now) (change_response (call_seen ask.now)) form.close form.head_only buffer.new (T.front seat.new) }
     ensures header { T.header seat.new ≡ T.header seat.old }
     ensures number { T.number seat.new ≡ T.number seat.old }
     ensures home { T.home seat.new ≡ T.home seat.old }
 {
     match seat.change(alloc, ask) {
         Ok(granted) => put_granted(buffer, ask, &granted, form),
-        Err(ChangeFault::Refused(refusal)) => put_refusal(alloc, buffer, &refusal, form),
-        Err(ChangeFault::DiskFault) => {
+        Err(fault) => put_fault(alloc, buffer, &fault, form),
+    }
+}
+
+// Puts the response to a change that isn't granted. Of a refusal it may be that there was no memory to make it.
+fn put_fault(alloc: Global, buffer: &mut ResponseBuffer, fault: &ChangeFault, form: ResponseForm)
+    ensures { (call : Call) → IsPut (stored_answer (Err fault.now)) (change_response call (stored_answer (Err fault.now))) form.close form.head_only buffer.new }
+{
+    match fault {
+        ChangeFault::Refused(refusal) => put_refusal(alloc, buffer, refusal, form),
+        ChangeFault::DiskFault => {
             buffer.put_code(Status::InternalServerError, "disk-fault", None, form)
+        }
+        ChangeFault::ReadFault => {
+            buffer.put_code(Status::InternalServerError, "read-fault", None, form)
+        }
+        ChangeFault::BadBytes { wanted, found } => {
+            let body = Body::BadBytes {
+                wanted: *wanted,
+                found: *found,
+            };
+            buffer.put_body(Status::InternalServerError, &body, form)
         }
     }
 }
 
 // Puts the response to a change that is granted, which takes no memory.
 fn put_granted(buffer: &mut ResponseBuffer, ask: &Ask<'_>, granted: &Granted, form: ResponseForm)
-    requires { Fits (ask_seen ask.now) (granted_seen granted.now) }
-    ensures { buffer.new ≡ text_of (granted_response (ask_seen ask.now) (granted_seen granted.now)) form.close form.head_only }
+    requires { Fits (call_seen ask.now) (granted_seen granted.now) }
+    ensures { buffer.new ≡ text_of (granted_response (call_seen ask.now) (granted_seen granted.now)) form.close form.head_only }
 {
     match granted {
         Granted::Content(id) => {
@@ -93,6 +123,13 @@ fn put_granted(buffer: &mut ResponseBuffer, ask: &Ask<'_>, granted: &Granted, fo
             let size = bytes.len();
             buffer.put_body(Status::Fine, &Body::Content { id: *id, size }, form)
         }
+        Granted::Whole { id, size } => {
+            let body = Body::Whole {
+                id: *id,
+                size: *size,
+            };
+            buffer.put_body(Status::Fine, &body, form)
+        }
         Granted::Changeset(id) => {
             let body = Body::CodedId {
                 code: "changeset",
@@ -101,7 +138,7 @@ fn put_granted(buffer: &mut ResponseBuffer, ask: &Ask<'_>, granted: &Granted, fo
             buffer.put_body(Status::Fine, &body, form)
         }
         Granted::Bookmark => {
-            let Ask::SetBookmark { name, from: _, to } = ask else {
+            let Ask::SetBookmark { name, to, .. } = ask else {
                 unreachable!()
             };
             let body = Body::Bookmark {
@@ -115,6 +152,10 @@ fn put_granted(buffer: &mut ResponseBuffer, ask: &Ask<'_>, granted: &Granted, fo
                 old: landed.old,
                 ids: landed.ids.as_slice(),
             };
+            buffer.put_body(Status::Fine, &body, form)
+        }
+        Granted::Policy { number } => {
+            let body = Body::Policy { number: *number };
             buffer.put_body(Status::Fine, &body, form)
         }
     }

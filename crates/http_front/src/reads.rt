@@ -1,12 +1,14 @@
 //! The answers to reads.
-ghost use Rattle.std.specs.Prelude.{◌≡◌, ◌≤◌, ◌⊎◌, length, OnOk};
+ghost use Rattle.std.specs.Prelude.{◌≡◌, ◌≤◌, ◌⊎◌, length, IfOk, OnOk};
 ghost use Rattle.session_model.specs.Responses.{text_of};
 ghost use Rattle.session_model.specs.Bodies.{json, memory};
 ghost use Rattle.session_model.specs.Asking.{read_response, seen as response_to};
 ghost use Rattle.reply_model.specs.Reply as reply;
-ghost use Rattle.reply_model.specs.Reply.{HeadOf, SeenHead};
+ghost use Rattle.reply_model.specs.Reply.{HeadOf, SeenHead, SeenIds};
 ghost use Rattle.reply_model.specs.After.{Looks};
 ghost use Rattle.repo_calls.specs.Asking.{fault_answer, question_seen};
+ghost use Rattle.repo_calls.specs.Replying.{IdsKind, kind_of};
+ghost use Rattle.session_model.specs.declared.status.Status.TheVariants.{Fine};
 ghost use Rattle.repo_text.specs.Short.{coded_id};
 ghost use Rattle.http_front.specs.Answered.{Replied};
 ghost use Rattle.http_front.specs.Reading.{seen_response, Suits};
@@ -17,7 +19,7 @@ use repo_calls::{AskFault, Question, Seat, Seen};
 use repo_path::BookName;
 use repo_text::bodies::MOST_CODE;
 use repo_text::copies::copies_body;
-use repo_text::history::history_body;
+use repo_text::history::{history_body, path_log_body};
 use repo_text::log::log_body;
 use repo_text::{Body, Media};
 use session_model::Status;
@@ -87,13 +89,24 @@ fn try_put_seen(
             buffer.put_large(Status::Fine, Media::Json, body.as_bytes(), form)
         }
         Seen::Ids(ids) => {
-            let body = history_body(alloc, ids.as_slice())?;
+            let body = ids_body(alloc, question, ids.as_slice())?;
             buffer.put_large(Status::Fine, Media::Json, body.as_slice(), form)
         }
         Seen::Copies(copies) => {
             let body = copies_body(alloc, copies.as_slice())?;
             buffer.put_large(Status::Fine, Media::Json, body.as_bytes(), form)
         }
+    }
+}
+
+// The body of changesets in a row: a file's history, or where a path changed.
+fn ids_body(alloc: Global, question: &Question<'_>, ids: &[Id]) -> Result<Vec<u8>, AllocError>
+    requires { kind_of (question_seen question.now) ≡ IdsKind }
+    ensures { IfOk result (λ body. response_to (question_seen question.now) (SeenIds ids.now) ≡ json Fine body.items) }
+{
+    match question {
+        Question::PathLog(..) => path_log_body(alloc, ids),
+        _ => history_body(alloc, ids),
     }
 }
 
@@ -124,6 +137,7 @@ fn put_fault(buffer: &mut ResponseBuffer, fault: AskFault, form: ResponseForm)
         AskFault::NoPath => buffer.put_code(Status::NotFound, "no-path", None, form),
         AskFault::NotADir => buffer.put_code(Status::NotFound, "not-a-dir", None, form),
         AskFault::NotAFile => buffer.put_code(Status::NotFound, "not-a-file", None, form),
+        AskFault::NoPolicy => buffer.put_code(Status::NotFound, "no-policy", None, form),
         AskFault::Collision { id } => {
             put_coded_id(buffer, Status::Conflict, "collision", id, form)
         }

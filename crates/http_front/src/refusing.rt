@@ -50,13 +50,14 @@ pub(crate) fn put_route_refusal(
     match refusal {
         RouteRefusal::BadTarget => buffer.put_code(Status::BadRequest, "bad-target", None, form),
         RouteRefusal::NoRoute => buffer.put_code(Status::NotFound, "no-route", None, form),
-        RouteRefusal::Method(method) => {
-            buffer.put_code(Status::MethodNotAllowed, "method", Some(method), form)
+        RouteRefusal::Method(methods) => {
+            buffer.put_code(Status::MethodNotAllowed, "method", Some(methods), form)
         }
         RouteRefusal::BadName { at } => buffer.put_bad_parameter("bad-name", at, form),
         RouteRefusal::BadId { at } => buffer.put_bad_parameter("bad-id", at, form),
         RouteRefusal::BadPath { at } => buffer.put_bad_parameter("bad-path", at, form),
         RouteRefusal::BadNumber => buffer.put_code(Status::BadRequest, "bad-number", None, form),
+        RouteRefusal::BadCaller => buffer.put_code(Status::BadRequest, "bad-caller", None, form),
         RouteRefusal::Memory => buffer.put_memory(form),
     }
 }

@@ -8,7 +8,7 @@ ghost use Rattle.repo_text.specs.Short.{body_text, IsShort};
 
 use repo_text::bodies::{Body, MOST_BODY, MOST_CODE, put_body, put_code_body, put_place_body};
 use repo_text::response::{HEAD_ROOM, Media, Response, put_response};
-use session_model::{Method, Status};
+use session_model::{Methods, Status};
 use std::alloc::{AllocError, Global};
 use std::marker::Model;
 
@@ -73,7 +73,7 @@ impl ResponseBuffer {
         &mut self,
         status: Status,
         code: &str,
-        allow: Option<Method>,
+        allow: Option<Methods>,
         form: ResponseForm,
     )
         requires { length code.now ≤ MOST_CODE }
@@ -134,7 +134,7 @@ impl ResponseBuffer {
 fn put_json(
     text: &mut Vec<u8>,
     status: Status,
-    allow: Option<Method>,
+    allow: Option<Methods>,
     body: &[u8],
     form: ResponseForm,
 )

@@ -9,7 +9,7 @@ use Rattle.std.proofs.lemmas.List.Sums.{AllPass-from_list_all}
 use Rattle.std.proofs.lemmas.List.Elements.{All-cons, All-nil}
 use Rattle.std.proofs.lemmas.Str.{IsUtf8-from_ascii}
 use Rattle.http_model.specs.declared.head_refusal.HeadRefusal.TheVariants.{TransferEncoding, BadLength, NoLength, BodyTooLarge}
-use Rattle.http_model.specs.Head.{Head, Header, closes, path_of, lengths_of, body_length, refusal_of}
+use Rattle.http_model.specs.Head.{Head, Header, Absent, Given, Several, caller_of, closes, path_of, lengths_of, body_length, refusal_of}
 use Rattle.http_model.specs.Stream.{Whole, Partial, skip_blank, ends_head, IsHeadEnd, after_head, Begins}
 
 -- ---- empty lines, and the end of a head
@@ -68,6 +68,38 @@ chunked : refusal_of (put ((codes "transfer-ENCODING", codes "chunked") ∷ leng
 unfolding put length_of
 chunked = refl
 
+-- ---- who stores, and who asks
+
+put_at : List ℕ → Head
+put_at target = record { method = codes "PUT"; target = target; minor = 1; headers = [] }
+
+a_whole_without_a_length : refusal_of (put_at (codes "/whole")) ≡ Some NoLength
+unfolding put_at
+a_whole_without_a_length = refl
+
+a_policy_without_a_length : refusal_of (put_at (codes "/policy?x")) ≡ Some NoLength
+unfolding put_at
+a_policy_without_a_length = refl
+
+a_bookmark_without_a_length : refusal_of (put_at (codes "/bookmark/main/none/none")) ≡ None
+unfolding put_at
+a_bookmark_without_a_length = refl
+
+caller_is : List ℕ → Header
+caller_is name = (codes "CALLER", name)
+
+no_caller : caller_of (put (length_of (codes "3") ∷ [])) ≡ Absent
+unfolding put length_of
+no_caller = refl
+
+ann_asks : caller_of (put (length_of (codes "3") ∷ caller_is (codes "ann") ∷ [])) ≡ Given (codes "ann")
+unfolding put length_of caller_is
+ann_asks = refl
+
+two_ask : caller_of (put (caller_is (codes "ann") ∷ caller_is (codes "ann") ∷ [])) ≡ Several
+unfolding put caller_is
+two_ask = refl
+
 asks_to_close : closes (put ((codes "connection", codes "keep-alive , CLOSE") ∷ [])) ≡ true
 unfolding put httparse_on_literals
 asks_to_close = refl
@@ -79,7 +111,7 @@ asks_for_no_close = refl
 -- ---- after a head of two bytes
 
 with_its_body : after_head (codes "HHabcGET") 2 (Some (put (length_of (codes "3") ∷ [])))
-    ≡ Whole record { method = codes "PUT"; target = codes "/content?x"; minor = 1; close = false; body = codes "abc" } (codes "GET")
+    ≡ Whole record { method = codes "PUT"; target = codes "/content?x"; minor = 1; caller = Absent; close = false; body = codes "abc" } (codes "GET")
 unfolding put length_of httparse_on_literals
 with_its_body = refl
 
@@ -133,7 +165,7 @@ end = record {
   shortest = λ n below. agree_below_at (λ k. ends_head (take k bytes)) (λ k. false) 28 n refl below;
 }
 
-a_request : Begins (13 ∷ 10 ∷ bytes) (Whole record { method = codes "GET"; target = codes "/a"; minor = 1; close = false; body = [] } (codes "POST"))
+a_request : Begins (13 ∷ 10 ∷ bytes) (Whole record { method = codes "GET"; target = codes "/a"; minor = 1; caller = Absent; close = false; body = [] } (codes "POST"))
 unfolding bytes tree host httparse_on_literals
 a_request = inr record {
   len = 28;

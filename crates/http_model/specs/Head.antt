@@ -4,6 +4,7 @@
 --     values_of name head      the values of the headers of this name, in any case
 --     path_of target      the target before any '?'
 --     body_length lengths      what the Content-Length headers say
+--     caller_of head      what the Caller headers say
 --     closes head      the session ends after it
 --     refusal_of head      the first test that the head fails, if it fails any
 use Rattle.std.specs.Prelude.{◌≡◌, ℕ, Bool, true, false, not, ◌&&◌, ◌||◌, ◌==◌, nat_lt, if◌then◌else◌, List, [], ◌∷◌, length, map, filter, take_while, bytes_eq, codes, Option, None, Some}
@@ -68,9 +69,28 @@ has_none (text ∷ more) = false
 abbrev pub path_of : List ℕ → List ℕ
 path_of target = take_while (λ b. not (b == 63)) target
 
+abbrev pub stores_bodies : List ℕ → Bool
+stores_bodies path = bytes_eq path (codes "/content") || bytes_eq path (codes "/changeset") || bytes_eq path (codes "/whole") || bytes_eq path (codes "/policy")
+
 -- a request that stores its body: it has to say how long that is
 abbrev pub stores_its_body : Head → Bool
-stores_its_body head = bytes_eq head.method (codes "PUT") && (bytes_eq (path_of head.target) (codes "/content") || bytes_eq (path_of head.target) (codes "/changeset"))
+stores_its_body head = bytes_eq head.method (codes "PUT") && stores_bodies (path_of head.target)
+
+-- ---- who asks
+
+-- no header of the name, one with this value, or several
+pub data CallerField : Type 0 where
+  Absent : CallerField
+  Given : (value : List ℕ) → CallerField
+  Several : CallerField
+
+abbrev pub caller_in : List (List ℕ) → CallerField
+caller_in [] = Absent
+caller_in (value ∷ []) = Given value
+caller_in (value ∷ other ∷ more) = Several
+
+abbrev pub caller_of : Head → CallerField
+caller_of head = caller_in (values_of (codes "caller") head.headers)
 
 -- ---- the end of the session
 

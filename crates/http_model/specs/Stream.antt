@@ -9,13 +9,14 @@ use Rattle.std.specs.List.{ends_with}
 use Rattle.httparse.specs.Ascii.{line_feed, carriage_return}
 use Rattle.http_model.specs.declared.head_refusal.HeadRefusal.{HeadRefusal}
 use Rattle.http_model.specs.declared.head_refusal.HeadRefusal.TheVariants.{HeadTooLarge, BadHead}
-use Rattle.http_model.specs.Head.{Head, IsHead, IsNoHead, lengths_of, body_length, closes, refusal_of}
+use Rattle.http_model.specs.Head.{Head, IsHead, IsNoHead, lengths_of, body_length, CallerField, caller_of, closes, refusal_of}
 
--- its target is whole, with what follows a '?'; the session ends after it where `close` says so
+-- its target is whole, with what follows a '?'; `caller` is what its headers say of who asks; the session ends after it where `close` says so
 pub record Request : Type 0 where
   pub method : List ℕ
   pub target : List ℕ
   pub minor : ℕ
+  pub caller : CallerField
   pub close : Bool
   pub body : List ℕ
 
@@ -48,7 +49,7 @@ abbrev pub most_head : ℕ
 most_head = 16384
 
 abbrev pub request_of : Head → List ℕ → Request
-request_of head body = record { method = head.method; target = head.target; minor = head.minor; close = closes head; body = body }
+request_of head body = record { method = head.method; target = head.target; minor = head.minor; caller = caller_of head; close = closes head; body = body }
 
 -- after a head of len bytes that is in order: the body is the next bytes, as many as it says
 abbrev pub with_body : List ℕ → ℕ → ℕ → Head → Next

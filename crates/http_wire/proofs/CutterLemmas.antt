@@ -36,21 +36,22 @@ good_partial bytes len spans framing good short =
     good_stands bytes len spans framing (Partial (length bytes)) good (cond-false _ _ _ (lt-leb (len + body_length (lengths_of good.head)) (length bytes) fewer))
 
 pub good_whole : (bytes : List ℕ) (len : ℕ) (spans : RequestSpans) (framing : Framing) → HasGoodHead bytes len spans framing → len + framing.body ≤ length bytes
-    → Stands bytes (Whole (request_at (take len bytes) spans framing.close (take framing.body (drop len bytes))) (drop (len + framing.body) bytes))
+    → Stands bytes (Whole (request_at (take len bytes) spans framing (take framing.body (drop len bytes))) (drop (len + framing.body) bytes))
 good_whole bytes len spans framing good long =
     let size = good.frames.body in
     let body = take (body_length (lengths_of good.head)) (drop len bytes) in
-    let asked : request_of good.head body ≡ request_at (take len bytes) spans framing.close (take framing.body (drop len bytes)) = λ i. record {
+    let asked : request_of good.head body ≡ request_at (take len bytes) spans framing (take framing.body (drop len bytes)) = λ i. record {
       method = sym good.method i;
       target = sym good.target i;
       minor = sym good.minor i;
+      caller = sym good.frames.caller i;
       close = sym good.frames.close i;
       body = take (sym size i) (drop len bytes);
     } in
     let enough : len + body_length (lengths_of good.head) ≤ length bytes = omega arith in
     good_stands bytes len spans framing _ good
     (cond-true _ _ _ (le-leb (len + body_length (lengths_of good.head)) (length bytes) enough) ∙ ap (λ r. Whole r (drop (len + body_length (lengths_of good.head)) bytes)) asked
-    ∙ ap (λ n. Whole (request_at (take len bytes) spans framing.close (take framing.body (drop len bytes))) (drop (len + n) bytes)) (sym size))
+    ∙ ap (λ n. Whole (request_at (take len bytes) spans framing (take framing.body (drop len bytes))) (drop (len + n) bytes)) (sym size))
 
 good-append : (bytes more : List ℕ) (len : ℕ) (spans : RequestSpans) (framing : Framing) → HasGoodHead bytes len spans framing → HasGoodHead (bytes ++ more) len spans framing
 good-append bytes more len spans framing good =
@@ -112,18 +113,18 @@ pub waiting_is : (slice items old : List ℕ) (start : ℕ) → slice ≡ items 
 waiting_is slice items old start same view = take_rest slice start ∙ ap (drop start) same ∙ view
 
 pub whole_at : (waiting old items : List ℕ) (start len : ℕ) (spans : RequestSpans) (framing : Framing) → waiting ≡ old → drop start items ≡ old → HasGoodHead waiting len spans framing → len + framing.body ≤ length waiting
-    → Stands old (Whole (request_at (take len waiting) spans framing.close (take ((len + framing.body) - len) (drop len waiting))) (drop (start + (len + framing.body)) items))
+    → Stands old (Whole (request_at (take len waiting) spans framing (take ((len + framing.body) - len) (drop len waiting))) (drop (start + (len + framing.body)) items))
 whole_at waiting old items start len spans framing same view good long =
     let body : (len + framing.body) - len ≡ framing.body = omega arith in
     let rest : drop (len + framing.body) waiting ≡ drop (start + (len + framing.body)) items =
     ap (drop (len + framing.body)) (same ∙ sym view) ∙ drop-drop (len + framing.body) start items in
     let here = good_whole waiting len spans framing good long in
-    let P : List ℕ → Type 0 = λ bs. Stands bs (Whole (request_at (take len waiting) spans framing.close (take ((len + framing.body) - len) (drop len waiting))) (drop (start + (len + framing.body)) items)) in
+    let P : List ℕ → Type 0 = λ bs. Stands bs (Whole (request_at (take len waiting) spans framing (take ((len + framing.body) - len) (drop len waiting))) (drop (start + (len + framing.body)) items)) in
     let Q : Next → Type 0 = λ next. Stands waiting next in
-    let next : Whole (request_at (take len waiting) spans framing.close (take framing.body (drop len waiting))) (drop (len + framing.body) waiting)
-    ≡ Whole (request_at (take len waiting) spans framing.close (take ((len + framing.body) - len) (drop len waiting))) (drop (start + (len + framing.body)) items) =
-    ap (λ r. Whole (request_at (take len waiting) spans framing.close (take framing.body (drop len waiting))) r) rest
-    ∙ ap (λ n. Whole (request_at (take len waiting) spans framing.close (take n (drop len waiting))) (drop (start + (len + framing.body)) items)) (sym body) in
+    let next : Whole (request_at (take len waiting) spans framing (take framing.body (drop len waiting))) (drop (len + framing.body) waiting)
+    ≡ Whole (request_at (take len waiting) spans framing (take ((len + framing.body) - len) (drop len waiting))) (drop (start + (len + framing.body)) items) =
+    ap (λ r. Whole (request_at (take len waiting) spans framing (take framing.body (drop len waiting))) r) rest
+    ∙ ap (λ n. Whole (request_at (take len waiting) spans framing (take n (drop len waiting))) (drop (start + (len + framing.body)) items)) (sym body) in
     subst P same (subst Q next here)
 
 -- writing all the elements of a list keeps its length

@@ -5,7 +5,7 @@ use Rattle.std.specs.List.{list_any}
 use Rattle.std.proofs.lemmas.Bool.{cond-true, cond-false}
 use Rattle.std.proofs.lemmas.List.{take_more, take-append-drop, map-append}
 use Rattle.std.proofs.lemmas.List.Elements.{filter-append}
-use Rattle.http_model.specs.Head.{Header, is_named, values_of, are_one_length}
+use Rattle.http_model.specs.Head.{Header, is_named, values_of, are_one_length, Several, caller_in}
 use Rattle.http_wire.proofs.HeadLemmas.{append_none}
 
 or_true : (b : Bool) → (b || true) ≡ true
@@ -63,11 +63,19 @@ any_value_at p name f (x ∷ xs) (suc i) d inside named passes = by_test (is_nam
         ap (list_any p) (values-append name (f x ∷ []) (map f xs)) ∙ ap (λ vs. list_any p (vs ++ values_of name (map f xs))) (one_other name (f x) other) ∙ later
 
 -- a second header of a name
-pub second_value : {X : Type 0} (name : List ℕ) (f : X → Header) (xs : List X) (i : ℕ) (d : X) (text : List ℕ) → i < length xs → is_named name (f (get_or xs i d)) ≡ true
-    → values_of name (map f (take i xs)) ≡ text ∷ [] → are_one_length (values_of name (map f xs)) ≡ false
-second_value name f xs i d text inside named before =
+two_values : {X : Type 0} (name : List ℕ) (f : X → Header) (xs : List X) (i : ℕ) (d : X) (text : List ℕ) → i < length xs → is_named name (f (get_or xs i d)) ≡ true
+    → values_of name (map f (take i xs)) ≡ text ∷ [] → values_of name (map f xs) ≡ text ∷ (f (get_or xs i d)).1 ∷ values_of name (map f (drop (i + 1) xs))
+two_values name f xs i d text inside named before =
     let all : values_of name (map f xs) ≡ values_of name (map f (take (i + 1) xs)) ++ values_of name (map f (drop (i + 1) xs)) =
     ap (λ ys. values_of name (map f ys)) (sym (take-append-drop (i + 1) xs)) ∙ ap (values_of name) (map-append f (take (i + 1) xs) (drop (i + 1) xs))
     ∙ values-append name (map f (take (i + 1) xs)) (map f (drop (i + 1) xs)) in
     let two = values_more name f xs i d inside named ∙ ap (λ vs. vs ++ (f (get_or xs i d)).1 ∷ []) before in
-    ap are_one_length (all ∙ ap (λ vs. vs ++ values_of name (map f (drop (i + 1) xs))) two)
+    all ∙ ap (λ vs. vs ++ values_of name (map f (drop (i + 1) xs))) two
+
+pub second_value : {X : Type 0} (name : List ℕ) (f : X → Header) (xs : List X) (i : ℕ) (d : X) (text : List ℕ) → i < length xs → is_named name (f (get_or xs i d)) ≡ true
+    → values_of name (map f (take i xs)) ≡ text ∷ [] → are_one_length (values_of name (map f xs)) ≡ false
+second_value name f xs i d text inside named before = ap are_one_length (two_values name f xs i d text inside named before)
+
+pub several_values : {X : Type 0} (name : List ℕ) (f : X → Header) (xs : List X) (i : ℕ) (d : X) (text : List ℕ) → i < length xs → is_named name (f (get_or xs i d)) ≡ true
+    → values_of name (map f (take i xs)) ≡ text ∷ [] → Several ≡ caller_in (values_of name (map f xs))
+several_values name f xs i d text inside named before = sym (ap caller_in (two_values name f xs i d text inside named before))

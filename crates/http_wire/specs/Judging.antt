@@ -4,7 +4,8 @@ use Rattle.httparse.specs.declared.spans.HeaderSpan.{HeaderSpan}
 use Rattle.httparse.specs.declared.spans.RequestSpans.{RequestSpans}
 use Rattle.httparse.specs.Spans.{span_bytes, header_bytes}
 use Rattle.http_model.specs.declared.head_refusal.HeadRefusal.{HeadRefusal}
-use Rattle.http_model.specs.Head.{Head, closes, lengths_of, body_length, most_body, refusal_of}
+use Rattle.http_model.specs.Head.{Head, caller_of, closes, lengths_of, body_length, most_body, refusal_of}
+use Rattle.http_wire.specs.Callers.{caller_told}
 use Rattle.http_wire.specs.declared.head.Framing.{Framing}
 
 -- the head whose parts stand at these places
@@ -21,6 +22,7 @@ pub record Frames (head : Head) (framing : Framing) : Type 0 where
   pub passes : refusal_of head ≡ None
   pub body : framing.body ≡ body_length (lengths_of head)
   pub most : framing.body ≤ most_body
+  pub caller : caller_told framing.caller ≡ caller_of head
   pub close : framing.close ≡ closes head
 
 abbrev pub Judges : Head → Result Framing HeadRefusal → Type 0

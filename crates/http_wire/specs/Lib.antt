@@ -1,4 +1,5 @@
 pub mod Lengths
+pub mod Callers
 pub mod Judging
 pub mod FirstThing
 pub mod Seen

@@ -150,7 +150,7 @@ impl Cutter {
                     return Next::NeedMore;
                 }
                 let (head, body) = (&waiting[..len], &waiting[len..end]);
-                let answer = message(alloc, head, &spans, framing.close, body);
+                let answer = message(alloc, head, &spans, framing, body);
                 self.start += end;
                 self.scanned = 0;
                 self.wanted = 0;

@@ -1,10 +1,12 @@
 //! One whole request head: its parse, and the tests that it has to pass.
-ghost use Rattle.std.specs.Prelude.{◌≡◌, ◌≤◌, length, map, take, bytes_eq, codes, All, IfSome, IsNone, ◌||◌, ◌&&◌};
+ghost use Rattle.std.specs.Prelude.{◌≡◌, ◌≤◌, length, bytes_eq, codes, All, IfSome, IsNone, ◌&&◌};
 ghost use Rattle.httparse.specs.Spans.{IsHeaderWithin, IsRequestOf, IsRequestWithin, IsWithin};
-ghost use Rattle.http_model.specs.Head.{IsNoHead, path_of};
+ghost use Rattle.http_model.specs.Head.{IsNoHead, path_of, stores_bodies};
 ghost use Rattle.http_wire.specs.Judging.{Judges, seen_head};
 
-use crate::header_fields::{Length, asks_to_close, has_header, length_given};
+use crate::header_fields::{
+    CallerText, Length, asks_to_close, caller_given, has_header, length_given,
+};
 use crate::texts::{MOST_BODY, path_of};
 use http_model::HeadRefusal;
 use httparse::Status;
@@ -36,27 +38,36 @@ pub(crate) fn parse(bytes: &[u8], headers: &mut [HeaderSpan]) -> Option<RequestS
 
 /// What a head that passes the tests asks for.
 #[derive(Clone, Copy, Debug, PartialEq, Eq)]
-pub(crate) struct Framing {
+pub(crate) struct Framing<'a> {
     /// The bytes of its body.
     pub body: usize,
+    /// Who asks.
+    pub caller: CallerText<'a>,
     /// Whether the session ends after it.
     pub close: bool,
 }
 
-fn stores_its_body(method: &[u8], target: &[u8]) -> bool
-    ensures { result ≡ (bytes_eq method.now (codes "PUT") && (bytes_eq (path_of target.now) (codes "/content") || bytes_eq (path_of target.now) (codes "/changeset"))) }
+fn stores_bodies(path: &[u8]) -> bool
+    ensures { result ≡ stores_bodies path.now }
 {
-    let path = path_of(target);
-    method == b"PUT".as_slice()
-        && (path == b"/content".as_slice() || path == b"/changeset".as_slice())
+    path == b"/content".as_slice()
+        || path == b"/changeset".as_slice()
+        || path == b"/whole".as_slice()
+        || path == b"/policy".as_slice()
+}
+
+fn stores_its_body(method: &[u8], target: &[u8]) -> bool
+    ensures { result ≡ (bytes_eq method.now (codes "PUT") && stores_bodies (path_of target.now)) }
+{
+    method == b"PUT".as_slice() && stores_bodies(path_of(target))
 }
 
 /// The first test that the head fails, or what it asks for.
-pub(crate) fn judge(
-    bytes: &[u8],
+pub(crate) fn judge<'a>(
+    bytes: &'a [u8],
     spans: &RequestSpans,
     headers: &[HeaderSpan],
-) -> Result<Framing, HeadRefusal>
+) -> Result<Framing<'a>, HeadRefusal>
     requires method { IsWithin (length bytes.now) spans.now.method }
     requires target { IsWithin (length bytes.now) spans.now.path }
     requires headers { All (IsHeaderWithin (length bytes.now)) headers.now }
@@ -78,5 +89,9 @@ pub(crate) fn judge(
         Length::Given(n) => n,
     };
     let close = spans.version == 0 || asks_to_close(bytes, headers);
-    Ok(Framing { body, close })
+    Ok(Framing {
+        body,
+        caller: caller_given(bytes, headers),
+        close,
+    })
 }

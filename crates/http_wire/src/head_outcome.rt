@@ -9,7 +9,7 @@ use http_model::HeadRefusal;
 use httparse::spans::{HeaderSpan, RequestSpans};
 
 /// What stands first, as far as the head goes.
-pub(crate) enum HeadOutcome {
+pub(crate) enum HeadOutcome<'a> {
     /// No whole head, and it may still come.
     Unfinished,
     /// What ends the session.
@@ -18,12 +18,16 @@ pub(crate) enum HeadOutcome {
     Head {
         len: usize,
         spans: RequestSpans,
-        framing: Framing,
+        framing: Framing<'a>,
     },
 }
 
 /// Looks at the bytes. No front of `scanned` bytes or fewer ends a head.
-pub(crate) fn read_head(bytes: &[u8], scanned: usize, headers: &mut [HeaderSpan]) -> HeadOutcome
+pub(crate) fn read_head<'a>(
+    bytes: &'a [u8],
+    scanned: usize,
+    headers: &mut [HeaderSpan],
+) -> HeadOutcome<'a>
     requires room { length headers.old ≡ HEADER_ROOM }
     requires within { scanned ≤ length bytes.now }
     requires none_before { (n : ℕ) → n ≤ scanned → ends_head (take n bytes.now) ≡ false }

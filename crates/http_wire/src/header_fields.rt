@@ -2,7 +2,8 @@
 ghost use Rattle.std.specs.Prelude.{◌≡◌, ◌==◌, ◌||◌, length, map, codes, All};
 ghost use Rattle.std.specs.List.{list_any};
 ghost use Rattle.httparse.specs.Spans.{IsHeaderWithin, header_bytes};
-ghost use Rattle.http_model.specs.Head.{is_named, names_close, values_of};
+ghost use Rattle.http_model.specs.Head.{caller_in, is_named, names_close, values_of};
+ghost use Rattle.http_wire.specs.Callers.{caller_told};
 ghost use Rattle.http_wire.specs.Lengths.{IsLength};
 
 use crate::connection::names_close;
@@ -66,5 +67,36 @@ pub(crate) fn length_given(bytes: &[u8], headers: &[HeaderSpan]) -> Length
     match decimal(text) {
         Some(n) => Length::Given(n),
         None => Length::Bad,
+    }
+}
+
+/// What the `Caller` headers say, as they stand in a head.
+#[derive(Clone, Copy, Debug, PartialEq, Eq)]
+pub(crate) enum CallerText<'a> {
+    /// There is none.
+    Absent,
+    /// The one has this value.
+    Given(&'a [u8]),
+    /// There are several.
+    Several,
+}
+
+/// Reads the `Caller` headers.
+pub(crate) fn caller_given<'a>(bytes: &'a [u8], headers: &[HeaderSpan]) -> CallerText<'a>
+    requires { All (IsHeaderWithin (length bytes.now)) headers.now }
+    ensures { caller_told result ≡ caller_in (values_of (codes "caller") (map (header_bytes bytes.now) headers.now)) }
+{
+    let mut found: Option<&'a [u8]> = None;
+    'headers: for header in headers {
+        if is_word(header.name.of(bytes), b"caller") {
+            if found.is_some() {
+                return CallerText::Several;
+            }
+            found = Some(header.value.of(bytes));
+        }
+    }
+    match found {
+        Some(text) => CallerText::Given(text),
+        None => CallerText::Absent,
     }
 }

@@ -15,4 +15,4 @@ mod texts;
 pub use cutter::{Cutter, MOST_PIECE, MOST_REQUEST};
 pub use http_model::HeadRefusal;
 pub use next::Next;
-pub use request::{Request, Version};
+pub use request::{Caller, Request, Version};

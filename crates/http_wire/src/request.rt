@@ -1,10 +1,13 @@
 //! A whole request.
-ghost use Rattle.std.specs.Prelude.{◌≡◌, ◌≤◌, length, bytes_eq, codes, IsUtf8};
+ghost use Rattle.std.specs.Prelude.{◌≡◌, ◌≤◌, length, bytes_eq, codes, IfOk, IsUtf8};
 ghost use Rattle.httparse.specs.Grammar.{IsToken};
 ghost use Rattle.httparse.specs.Spans.{IsWithin, span_bytes};
 ghost use Rattle.http_wire.specs.Answers.{Answers};
+ghost use Rattle.http_wire.specs.Callers.{caller_told, caller_seen};
 ghost use Rattle.http_wire.specs.Seen.{request_at};
 
+use crate::head::Framing;
+use crate::header_fields::CallerText;
 use crate::next::Next;
 use crate::texts::path_of;
 use http::Method;
@@ -20,6 +23,17 @@ pub enum Version {
     Http11,
 }
 
+/// What the `Caller` headers of a request say of who asks.
+#[derive(Debug, PartialEq, Drop)]
+pub enum Caller {
+    /// There is none.
+    Absent,
+    /// The one has this value, without the blanks round it.
+    Given(Vec<u8>),
+    /// There are several.
+    Several,
+}
+
 /// A request with its whole body.
 #[derive(Debug, Drop)]
 pub struct Request {
@@ -27,6 +41,8 @@ pub struct Request {
     /// The target, with what follows a `?`.
     pub target: String,
     pub version: Version,
+    /// Who asks.
+    pub caller: Caller,
     /// Whether the session ends after the answer: HTTP/1.0, or `Connection: close`.
     pub close: bool,
     /// Whether the answer is a head alone: the method is HEAD.
@@ -54,7 +70,7 @@ impl Request {
         alloc: Global,
         head: &[u8],
         spans: &RequestSpans,
-        close: bool,
+        framing: Framing<'_>,
         body: &[u8],
     ) -> Result<Request, AllocError>
         requires method_within { IsWithin (length head.now) spans.now.method }
@@ -62,7 +78,7 @@ impl Request {
         requires target_within { IsWithin (length head.now) spans.now.path }
         requires target { IsUtf8 (span_bytes head.now spans.now.path) }
         requires version { spans.now.version ≤ 1 }
-        ensures seen { IfOk result (λ request. seen request ≡ request_at head.now spans.now close body.now) }
+        ensures seen { IfOk result (λ request. seen request ≡ request_at head.now spans.now framing.entry body.now) }
         ensures head_only { IfOk result (λ request. request.head_only ≡ is_head_only (seen request)) }
     {
         let method_text = spans.method.of(head);
@@ -80,7 +96,8 @@ impl Request {
             } else {
                 Version::Http11
             },
-            close,
+            caller: copied_caller(alloc, framing.caller)?,
+            close: framing.close,
             head_only: is_head(method_text),
             body: Vec::from_slice(alloc, body)?,
         })
@@ -92,7 +109,7 @@ pub(crate) fn message(
     alloc: Global,
     head: &[u8],
     spans: &RequestSpans,
-    close: bool,
+    framing: Framing<'_>,
     body: &[u8],
 ) -> Next
     requires method_within { IsWithin (length head.now) spans.now.method }
@@ -100,15 +117,25 @@ pub(crate) fn message(
     requires target_within { IsWithin (length head.now) spans.now.path }
     requires target { IsUtf8 (span_bytes head.now spans.now.path) }
     requires version { spans.now.version ≤ 1 }
-    ensures { Answers (request_at head.now spans.now close body.now) result }
+    ensures { Answers (request_at head.now spans.now framing.entry body.now) result }
 {
-    match Request::copied(alloc, head, spans, close, body) {
+    match Request::copied(alloc, head, spans, framing, body) {
         Ok(request) => Next::Message(request),
         Err(AllocError) => Next::Memory {
-            close,
+            close: framing.close,
             head_only: is_head(spans.method.of(head)),
         },
     }
+}
+
+fn copied_caller(alloc: Global, caller: CallerText<'_>) -> Result<Caller, AllocError>
+    ensures { IfOk result (λ copy. caller_seen copy ≡ caller_told caller.entry) }
+{
+    Ok(match caller {
+        CallerText::Absent => Caller::Absent,
+        CallerText::Given(value) => Caller::Given(Vec::from_slice(alloc, value)?),
+        CallerText::Several => Caller::Several,
+    })
 }
 
 /// Whether the method is HEAD.

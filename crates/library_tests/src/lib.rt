@@ -1,5 +1,5 @@
-//! Tests of libraries that no call of the program reaches yet: policies, nodes of what was deleted, trees of
-//! merges, and what another server answers.
+//! Tests of libraries on their own: policies, nodes of what was deleted, trees of merges, and what another server
+//! answers. No call of the program reaches the last two yet.
 #![tactic(auto)]
 
 #[cfg(test)]

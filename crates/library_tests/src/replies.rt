@@ -5,9 +5,9 @@ use reply_reader::{Front, HEADER_ROOM, read_reply};
 use std::alloc::Global;
 use std::test::Fail;
 
-// A page of a content, a landing and a move.
+// A page of entries of each kind, with and without who made them.
 const PAGE: &str =
-    r#"{"code":"log","entries":[{"id":"ba7816bf8f01cfea414140de5dae2223b00361a396177a9cb410ff61f20015ad","kind":"content","number":0,"size":3},{"draft":"ba7816bf8f01cfea414140de5dae2223b00361a396177a9cb410ff61f20015ad","ids":["e3b0c44298fc1c149afbf4c8996fb92427ae41e4649b934ca495991b7852b855"],"kind":"landing","moment":1000,"name":"main","number":1,"old":"ba7816bf8f01cfea414140de5dae2223b00361a396177a9cb410ff61f20015ad"},{"from":null,"kind":"bookmark","name":"main","number":2,"to":"ba7816bf8f01cfea414140de5dae2223b00361a396177a9cb410ff61f20015ad"}],"total":3}"#;
+    r#"{"code":"log","entries":[{"id":"ba7816bf8f01cfea414140de5dae2223b00361a396177a9cb410ff61f20015ad","kind":"content","number":0,"size":3},{"draft":"ba7816bf8f01cfea414140de5dae2223b00361a396177a9cb410ff61f20015ad","ids":["e3b0c44298fc1c149afbf4c8996fb92427ae41e4649b934ca495991b7852b855"],"kind":"landing","moment":1000,"name":"main","number":1,"old":"ba7816bf8f01cfea414140de5dae2223b00361a396177a9cb410ff61f20015ad"},{"from":null,"kind":"bookmark","name":"main","number":2,"to":"ba7816bf8f01cfea414140de5dae2223b00361a396177a9cb410ff61f20015ad"},{"caller":"ann","kind":"policy","number":3,"rules":2},{"id":"ba7816bf8f01cfea414140de5dae2223b00361a396177a9cb410ff61f20015ad","kind":"changeset","number":4},{"caller":"ann","draft":"ba7816bf8f01cfea414140de5dae2223b00361a396177a9cb410ff61f20015ad","ids":[],"kind":"landing","name":"main","number":5,"old":"ba7816bf8f01cfea414140de5dae2223b00361a396177a9cb410ff61f20015ad"},{"caller":"bob","from":"ba7816bf8f01cfea414140de5dae2223b00361a396177a9cb410ff61f20015ad","kind":"bookmark","name":"main","number":6,"to":null},{"id":"ba7816bf8f01cfea414140de5dae2223b00361a396177a9cb410ff61f20015ad","kind":"whole","number":7,"parts":["ba7816bf8f01cfea414140de5dae2223b00361a396177a9cb410ff61f20015ad","e3b0c44298fc1c149afbf4c8996fb92427ae41e4649b934ca495991b7852b855"],"size":3}],"total":8}"#;
 
 // How many entries the page has that starts at this number, and its total.
 fn page(alloc: Global, from: u64, text: &str) -> Option<(usize, u64)> {
@@ -34,7 +34,7 @@ fn front(alloc: Global, text: &str) -> Result<String, Fail> {
 #[test]
 fn a_page_is_read_where_it_is_one(rt: HostRuntime) -> Result<(), Fail> {
     let alloc = rt.alloc();
-    assert_eq!(rt; page(alloc, 0, PAGE), Some((3, 3)));
+    assert_eq!(rt; page(alloc, 0, PAGE), Some((8, 8)));
     assert_eq!(rt; page(alloc, 1, PAGE), None);
     assert_eq!(rt;
         page(alloc, 0, r#"{"code":"log","entries":[],"total":0}"#),

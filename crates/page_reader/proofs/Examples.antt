@@ -2,7 +2,7 @@
 use Rattle.std.proofs.Common.{ℕ, refl, List, [], ◌∷◌, codes, lit<, lit≤, inl, inr, None, Some, arith}
 use Rattle.std.specs.Fmt.{digits}
 use Rattle.hex.specs.Hex.{encode_with}
-use Rattle.reply_model.specs.Log.{ContentLine, BookmarkLine}
+use Rattle.reply_model.specs.Log.{ContentLine, BookmarkLine, PolicyLine}
 use Rattle.page_reader.specs.Pages.{Counts, IsPage}
 
 -- the SHA-256 of the bytes "abc" (FIPS 180-4)
@@ -17,7 +17,11 @@ one_content = record { text_is = refl; told = ((refl, lit< tt), tt); counts = in
 
 a_new_bookmark : IsPage 7 (codes "{\"code\":\"log\",\"entries\":[{\"from\":null,\"kind\":\"bookmark\",\"name\":\"main\",\"number\":7,\"to\":\"ba7816bf8f01cfea414140de5dae2223b00361a396177a9cb410ff61f20015ad\"}],\"total\":12}") (BookmarkLine (record { name = codes "main"; from = None; to = Some abc; caller = None }) ∷ []) 12
 unfolding abc digits encode_with
-a_new_bookmark = record { text_is = refl; told = ((refl, tt, refl, refl), tt); counts = inl (lit< tt, lit≤ tt, lit≤ tt); small = lit< tt }
+a_new_bookmark = record { text_is = refl; told = ((refl, tt, refl, tt), tt); counts = inl (lit< tt, lit≤ tt, lit≤ tt); small = lit< tt }
+
+a_first_policy : IsPage 3 (codes "{\"code\":\"log\",\"entries\":[{\"caller\":\"root\",\"kind\":\"policy\",\"number\":3,\"rules\":2}],\"total\":4}") (PolicyLine (codes "root") 2 ∷ []) 4
+unfolding digits
+a_first_policy = record { text_is = refl; told = ((refl, lit< tt), tt); counts = inl (lit< tt, lit≤ tt, lit≤ tt); small = lit< tt }
 
 nothing_more : IsPage 12 (codes "{\"code\":\"log\",\"entries\":[],\"total\":12}") [] 12
 unfolding digits

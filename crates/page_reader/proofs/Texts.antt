@@ -1,6 +1,6 @@
 -- The text of a page is UTF-8.
 use Rattle.std.proofs.Common.{◌≡◌, ℕ, zero, suc, ◌+◌, ◌<◌, ◌≤◌, ◌^◌, Bool, true, false, cond, List, [], ◌∷◌, ◌++◌, length, take, get_or, map, Option, Some, None, refl, inl, inr, sym, subst, ap, ◌∙◌, arith, codes, decimal}
-use Rattle.std.specs.Prelude.{nat_lt, ◌==◌, not, if◌then◌else◌, position, is_none, ⊤}
+use Rattle.std.specs.Prelude.{nat_lt, ◌==◌, not, if◌then◌else◌, position, is_none, ⊤, IfSome}
 use Rattle.std.specs.List.{position_or_len, AllByRecursion}
 use Rattle.std.specs.Option.{option_or}
 use Rattle.std.specs.Str.{IsUtf8}
@@ -22,7 +22,7 @@ use Rattle.history_model.specs.Bookmark.{is_name_byte, is_name}
 use Rattle.reply_model.specs.Log.{LogLine, ContentLine, WholeLine, ChangesetLine, BookmarkLine, LandingLine, PolicyLine}
 use Rattle.repo_text.specs.Spelling.{id_data, maybe_id_data}
 use Rattle.page_reader.specs.Pages.{IsTold, Counts, IsPage}
-use Rattle.page_reader.specs.Values.{line_data, lines_data, page_data}
+use Rattle.page_reader.specs.Values.{bookmark_data, landing_data, line_data, lines_data, page_data}
 use Rattle.page_reader.proofs.Lines.{page_is_spelled}
 
 -- ---- names
@@ -153,18 +153,31 @@ ids_are_text (x ∷ ids) = (id_is_text x, ids_are_text ids)
 ascii : (s : List ℕ) → are_ascii s ≡ true → IsUtf8 s
 ascii s is = IsUtf8-are_ascii s is
 
+bookmark_has_texts : (n : ℕ) (caller : Option (List ℕ)) (name : List ℕ) (from to : Option Id) → n < 2 ^ 64 → is_name name ≡ true → IfSome caller (λ c. is_name c ≡ true) → HasTexts (bookmark_data n caller name from to)
+bookmark_has_texts n None name from to small named told = (ascii (codes "from") refl, maybe_id_is_text from, (ascii (codes "kind") refl, ascii (codes "bookmark") refl, (ascii (codes "name") refl, name_is_text name named, (ascii (codes "number") refl, small, (ascii (codes "to") refl, maybe_id_is_text to, tt)))))
+bookmark_has_texts n (Some caller) name from to small named told = (ascii (codes "caller") refl, name_is_text caller told, (ascii (codes "from") refl, maybe_id_is_text from, (ascii (codes "kind") refl, ascii (codes "bookmark") refl, (ascii (codes "name") refl, name_is_text name named, (ascii (codes "number") refl, small, (ascii (codes "to") refl, maybe_id_is_text to, tt))))))
+
+landing_has_texts : (n : ℕ) (caller : Option (List ℕ)) (name : List ℕ) (old draft : Id) (moment : Option ℕ) (ids : List Id) → n < 2 ^ 64 → is_name name ≡ true → IfSome moment (λ m. m < 2 ^ 64) → IfSome caller (λ c. is_name c ≡ true)
+    → HasTexts (landing_data n caller name old draft moment ids)
+landing_has_texts n None name old draft None ids small named dated told =
+    (ascii (codes "draft") refl, id_is_text draft, (ascii (codes "ids") refl, ids_are_text ids, (ascii (codes "kind") refl, ascii (codes "landing") refl, (ascii (codes "name") refl, name_is_text name named, (ascii (codes "number") refl, small, (ascii (codes "old") refl, id_is_text old, tt))))))
+landing_has_texts n None name old draft (Some moment) ids small named dated told =
+    (ascii (codes "draft") refl, id_is_text draft, (ascii (codes "ids") refl, ids_are_text ids, (ascii (codes "kind") refl, ascii (codes "landing") refl, (ascii (codes "moment") refl, dated, (ascii (codes "name") refl, name_is_text name named, (ascii (codes "number") refl, small, (ascii (codes "old") refl, id_is_text old, tt)))))))
+landing_has_texts n (Some caller) name old draft None ids small named dated told =
+    (ascii (codes "caller") refl, name_is_text caller told, (ascii (codes "draft") refl, id_is_text draft, (ascii (codes "ids") refl, ids_are_text ids, (ascii (codes "kind") refl, ascii (codes "landing") refl, (ascii (codes "name") refl, name_is_text name named, (ascii (codes "number") refl, small, (ascii (codes "old") refl, id_is_text old, tt)))))))
+landing_has_texts n (Some caller) name old draft (Some moment) ids small named dated told =
+    (ascii (codes "caller") refl, name_is_text caller told, (ascii (codes "draft") refl, id_is_text draft, (ascii (codes "ids") refl, ids_are_text ids, (ascii (codes "kind") refl, ascii (codes "landing") refl, (ascii (codes "moment") refl, dated, (ascii (codes "name") refl, name_is_text name named, (ascii (codes "number") refl, small, (ascii (codes "old") refl, id_is_text old, tt))))))))
+
 line_has_texts : (n : ℕ) (line : LogLine) → n < 2 ^ 64 → IsTold line → HasTexts (line_data n line)
 line_has_texts n (ContentLine x size) small told =
     ((ascii (codes "id") refl, id_is_text x, (ascii (codes "kind") refl, ascii (codes "content") refl, (ascii (codes "number") refl, small, (ascii (codes "size") refl, told.1, tt)))))
-line_has_texts n (WholeLine x size parts) small told = absurd told
+line_has_texts n (WholeLine x size parts) small told =
+    ((ascii (codes "id") refl, id_is_text x, (ascii (codes "kind") refl, ascii (codes "whole") refl, (ascii (codes "number") refl, small, (ascii (codes "parts") refl, ids_are_text parts, (ascii (codes "size") refl, told.1, tt))))))
 line_has_texts n (ChangesetLine x) small told = (ascii (codes "id") refl, id_is_text x, (ascii (codes "kind") refl, ascii (codes "changeset") refl, (ascii (codes "number") refl, small, tt)))
-line_has_texts n (BookmarkLine move) small told =
-    (ascii (codes "from") refl, maybe_id_is_text move.from, (ascii (codes "kind") refl, ascii (codes "bookmark") refl, (ascii (codes "name") refl, name_is_text move.name told.0, (ascii (codes "number") refl, small, (ascii (codes "to") refl, maybe_id_is_text move.to, tt)))))
-line_has_texts n (LandingLine caller name old draft None ids) small told =
-    (ascii (codes "draft") refl, id_is_text draft, (ascii (codes "ids") refl, ids_are_text ids, (ascii (codes "kind") refl, ascii (codes "landing") refl, (ascii (codes "name") refl, name_is_text name told.0, (ascii (codes "number") refl, small, (ascii (codes "old") refl, id_is_text old, tt))))))
-line_has_texts n (LandingLine caller name old draft (Some moment) ids) small told =
-    (ascii (codes "draft") refl, id_is_text draft, (ascii (codes "ids") refl, ids_are_text ids, (ascii (codes "kind") refl, ascii (codes "landing") refl, (ascii (codes "moment") refl, told.3, (ascii (codes "name") refl, name_is_text name told.0, (ascii (codes "number") refl, small, (ascii (codes "old") refl, id_is_text old, tt)))))))
-line_has_texts n (PolicyLine caller rules) small told = absurd told
+line_has_texts n (BookmarkLine move) small told = bookmark_has_texts n move.caller move.name move.from move.to small told.0 told.3
+line_has_texts n (LandingLine caller name old draft moment ids) small told = landing_has_texts n caller name old draft moment ids small told.0 told.3 told.5
+line_has_texts n (PolicyLine caller rules) small told =
+    (ascii (codes "caller") refl, name_is_text caller told.0, (ascii (codes "kind") refl, ascii (codes "policy") refl, (ascii (codes "number") refl, small, (ascii (codes "rules") refl, told.1, tt))))
 
 lines_have_texts : (n : ℕ) (lines : List LogLine) → n + length lines < 2 ^ 64 → AllByRecursion IsTold lines → ItemsHaveTexts (items_of (lines_data n lines))
 lines_have_texts n [] small told = tt

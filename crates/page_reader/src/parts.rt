@@ -109,7 +109,7 @@ pub(crate) fn maybe_id_at(value: &Value, name: &str) -> Result<Option<Id>, PageF
     }
 }
 
-/// The bookmark's name of this name.
+/// The name of a bookmark, or of a caller, under this name.
 pub(crate) fn name_at(alloc: Global, value: &Value, name: &str) -> Result<BookName, PageFault>
     ensures found { (text : List ℕ) → IsTrue (is_name text) → get name.now (view value.now) ≡ Some (string text) → Finds result (λ found. found ≡ text) }
     ensures rule { IfOk result (λ found. IsTrue (is_name found)) }
@@ -119,6 +119,21 @@ pub(crate) fn name_at(alloc: Global, value: &Value, name: &str) -> Result<BookNa
         Ok(name) => Ok(name),
         Err(NameFault::Memory) => Err(PageFault::Memory),
         Err(NameFault::BadName { .. }) => Err(PageFault::BadPart),
+    }
+}
+
+/// The name under this name, where there is one.
+pub(crate) fn maybe_name_at(
+    alloc: Global,
+    value: &Value,
+    name: &str,
+) -> Result<Option<BookName>, PageFault>
+    ensures found { (text : Option (List ℕ)) → IfSome text (λ t. IsTrue (is_name t)) → get name.now (view value.now) ≡ option_map (λ t. string t) text → Finds result (λ found. found ≡ text) }
+    ensures rule { IfOk result (λ found. IfSome found (λ n. IsTrue (is_name n))) }
+{
+    match value.get(name) {
+        None => Ok(None),
+        Some(_) => Ok(Some(name_at(alloc, value, name)?)),
     }
 }
 

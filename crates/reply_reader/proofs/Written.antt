@@ -17,10 +17,11 @@ use Rattle.httparse.proofs.TrimLemmas.{AllPass-reverse, trim_ows_space}
 use Rattle.http_model.specs.Head.{is_decimal}
 use Rattle.http_wire.proofs.HeadLemmas.{append_none}
 use Rattle.session_model.specs.declared.status.Status.{Status}
-use Rattle.session_model.specs.declared.status.Status.TheVariants.{Fine, BadRequest, NotFound, MethodNotAllowed, Conflict, LengthRequired, ContentTooLarge, UnprocessableContent, HeaderFieldsTooLarge, InternalServerError, NotImplemented, ServiceUnavailable, InsufficientStorage}
-use Rattle.session_model.specs.declared.method.Method.{Method}
+use Rattle.session_model.specs.declared.status.Status.TheVariants.{Fine, BadRequest, Forbidden, NotFound, MethodNotAllowed, Conflict, LengthRequired, ContentTooLarge, UnprocessableContent, HeaderFieldsTooLarge, InternalServerError, NotImplemented, ServiceUnavailable, InsufficientStorage}
+use Rattle.session_model.specs.declared.method.Methods.{Methods}
 use Rattle.session_model.specs.declared.method.Method.TheVariants.{Get, Post, Put}
-use Rattle.session_model.specs.Methods.{method_text}
+use Rattle.session_model.specs.declared.method.Methods.TheVariants.{One, GetAndPut}
+use Rattle.session_model.specs.Methods.{methods_text}
 use Rattle.session_model.specs.Statuses.{number_of, reason_of}
 use Rattle.session_model.specs.Responses as responses
 use Rattle.session_model.specs.Responses.{MediaType, Json, Octets, media_name, Response, head_text, text_of}
@@ -79,18 +80,18 @@ trimmed_media Octets = refl
 abbrev field_of : List ℕ → List ℕ → Field
 field_of name value = record { name = name; raw = 32 ∷ value; end = crlf }
 
-abbrev allow_fields : Option Method → List Field
+abbrev allow_fields : Option Methods → List Field
 allow_fields None = []
-allow_fields (Some method) = field_of (codes "Allow") (method_text method) ∷ []
+allow_fields (Some methods) = field_of (codes "Allow") (methods_text methods) ∷ []
 
 abbrev close_fields : Bool → List Field
 close_fields false = []
 close_fields true = field_of (codes "Connection") (codes "close") ∷ []
 
-abbrev fields_of : MediaType → ℕ → Option Method → Bool → List Field
+abbrev fields_of : MediaType → ℕ → Option Methods → Bool → List Field
 fields_of media size allow close = field_of (codes "Content-Type") (media_name media) ∷ (field_of (codes "Content-Length") (decimal size) ∷ (allow_fields allow ++ close_fields close))
 
-abbrev tree_of : Status → MediaType → ℕ → Option Method → Bool → ResponseHead
+abbrev tree_of : Status → MediaType → ℕ → Option Methods → Bool → ResponseHead
 tree_of status media size allow close = record {
   blank = [];
   minor = 1;
@@ -123,30 +124,31 @@ pieces_are : (code reason media size allow close rest : List ℕ) → pieces cod
 pieces_are code reason media size allow close rest =
     regroup (codes "HTTP/1.1 ") code (codes " ") reason responses.crlf (codes "Content-Type") (codes ": ") media (codes "Content-Length") size allow close rest
 
-abbrev head_pieces : Status → MediaType → ℕ → Option Method → Bool → List ℕ → List ℕ
+abbrev head_pieces : Status → MediaType → ℕ → Option Methods → Bool → List ℕ → List ℕ
 head_pieces status media size allow close rest =
-    pieces (decimal (number_of status)) (reason_of status) (media_name media) (decimal size) (responses.allow_field (option_map method_text allow)) (responses.close_field close) rest
+    pieces (decimal (number_of status)) (reason_of status) (media_name media) (decimal size) (responses.allow_field (option_map methods_text allow)) (responses.close_field close) rest
 
-text_is : (status : Status) (media : MediaType) (size : ℕ) (allow : Option Method) (close : Bool) (rest : List ℕ) → head_pieces status media size allow close rest ≡ print_response (tree_of status media size allow close) ++ rest
+text_is : (status : Status) (media : MediaType) (size : ℕ) (allow : Option Methods) (close : Bool) (rest : List ℕ) → head_pieces status media size allow close rest ≡ print_response (tree_of status media size allow close) ++ rest
 text_is status media size None false rest =
     pieces_are (decimal (number_of status)) (reason_of status) (media_name media) (decimal size) [] [] rest ∙ sym (print_response-append (tree_of status media size None false) rest)
-text_is status media size (Some method) false rest =
-    pieces_are (decimal (number_of status)) (reason_of status) (media_name media) (decimal size) (responses.field (codes "Allow") (method_text method)) [] rest ∙ sym (print_response-append (tree_of status media size (Some method) false) rest)
+text_is status media size (Some methods) false rest =
+    pieces_are (decimal (number_of status)) (reason_of status) (media_name media) (decimal size) (responses.field (codes "Allow") (methods_text methods)) [] rest ∙ sym (print_response-append (tree_of status media size (Some methods) false) rest)
 text_is status media size None true rest =
     pieces_are (decimal (number_of status)) (reason_of status) (media_name media) (decimal size) [] (responses.field (codes "Connection") (codes "close")) rest ∙ sym (print_response-append (tree_of status media size None true) rest)
-text_is status media size (Some method) true rest =
-    pieces_are (decimal (number_of status)) (reason_of status) (media_name media) (decimal size) (responses.field (codes "Allow") (method_text method)) (responses.field (codes "Connection") (codes "close")) rest ∙ sym (print_response-append (tree_of status media size (Some method) true) rest)
+text_is status media size (Some methods) true rest =
+    pieces_are (decimal (number_of status)) (reason_of status) (media_name media) (decimal size) (responses.field (codes "Allow") (methods_text methods)) (responses.field (codes "Connection") (codes "close")) rest ∙ sym (print_response-append (tree_of status media size (Some methods) true) rest)
 
 -- ---- it is short
 
-pieces_len : (code reason media size allow close : List ℕ) → length code ≤ 3 → length reason ≤ 31 → length media ≤ 24 → length size ≤ 8 → length allow ≤ 13 → length close ≤ 19 → length (pieces code reason media size allow close []) ≤ 200
+pieces_len : (code reason media size allow close : List ℕ) → length code ≤ 3 → length reason ≤ 31 → length media ≤ 24 → length size ≤ 8 → length allow ≤ 17 → length close ≤ 19 → length (pieces code reason media size allow close []) ≤ 200
 pieces_len code reason media size allow close a b c d e f = simp length-append (omega arith)
 
-allow_len : (allow : Option Method) → length (responses.allow_field (option_map method_text allow)) ≤ 13
+allow_len : (allow : Option Methods) → length (responses.allow_field (option_map methods_text allow)) ≤ 17
 allow_len None = lit≤ tt
-allow_len (Some Get) = lit≤ tt
-allow_len (Some Post) = lit≤ tt
-allow_len (Some Put) = lit≤ tt
+allow_len (Some (One Get)) = lit≤ tt
+allow_len (Some (One Post)) = lit≤ tt
+allow_len (Some (One Put)) = lit≤ tt
+allow_len (Some GetAndPut) = lit≤ tt
 
 close_len : (close : Bool) → length (responses.close_field close) ≤ 19
 close_len false = lit≤ tt
@@ -167,6 +169,7 @@ plain_status : (status : Status) → IsPlainStatus status
 unfolding digits
 plain_status Fine = record { digits = refl; all = refl; value = refl; reason = refl; short = lit≤ tt }
 plain_status BadRequest = record { digits = refl; all = refl; value = refl; reason = refl; short = lit≤ tt }
+plain_status Forbidden = record { digits = refl; all = refl; value = refl; reason = refl; short = lit≤ tt }
 plain_status NotFound = record { digits = refl; all = refl; value = refl; reason = refl; short = lit≤ tt }
 plain_status MethodNotAllowed = record { digits = refl; all = refl; value = refl; reason = refl; short = lit≤ tt }
 plain_status Conflict = record { digits = refl; all = refl; value = refl; reason = refl; short = lit≤ tt }
@@ -179,14 +182,14 @@ plain_status NotImplemented = record { digits = refl; all = refl; value = refl; 
 plain_status ServiceUnavailable = record { digits = refl; all = refl; value = refl; reason = refl; short = lit≤ tt }
 plain_status InsufficientStorage = record { digits = refl; all = refl; value = refl; reason = refl; short = lit≤ tt }
 
-tree_len : (status : Status) (media : MediaType) (size : ℕ) (allow : Option Method) (close : Bool) → size < 10 ^ 8 → length (print_response (tree_of status media size allow close)) ≤ 16384
+tree_len : (status : Status) (media : MediaType) (size : ℕ) (allow : Option Methods) (close : Bool) → size < 10 ^ 8 → length (print_response (tree_of status media size allow close)) ≤ 16384
 tree_len status media size allow close small =
     let plain = plain_status status in
     let code = plain.digits in
     let text = ap length (sym (text_is status media size allow close [])) in
     let whole = length-append (print_response (tree_of status media size allow close)) [] in
     let digits = length-decimal-le 8 size (lit< tt) small (omega arith) in
-    let few = pieces_len (decimal (number_of status)) (reason_of status) (media_name media) (decimal size) (responses.allow_field (option_map method_text allow)) (responses.close_field close) (omega arith) plain.short (media_len media) digits (allow_len allow) (close_len close) in
+    let few = pieces_len (decimal (number_of status)) (reason_of status) (media_name media) (decimal size) (responses.allow_field (option_map methods_text allow)) (responses.close_field close) (omega arith) plain.short (media_len media) digits (allow_len allow) (close_len close) in
     omega arith
 
 -- ---- it is a head
@@ -201,12 +204,13 @@ media_bytes : (media : MediaType) → AllPass is_value_byte (media_name media)
 media_bytes Json = AllPass-from_list_all is_value_byte (codes "application/json") refl
 media_bytes Octets = AllPass-from_list_all is_value_byte (codes "application/octet-stream") refl
 
-method_bytes : (method : Method) → AllPass is_value_byte (method_text method)
-method_bytes Get = AllPass-from_list_all is_value_byte (codes "GET") refl
-method_bytes Post = AllPass-from_list_all is_value_byte (codes "POST") refl
-method_bytes Put = AllPass-from_list_all is_value_byte (codes "PUT") refl
+methods_bytes : (methods : Methods) → AllPass is_value_byte (methods_text methods)
+methods_bytes (One Get) = AllPass-from_list_all is_value_byte (codes "GET") refl
+methods_bytes (One Post) = AllPass-from_list_all is_value_byte (codes "POST") refl
+methods_bytes (One Put) = AllPass-from_list_all is_value_byte (codes "PUT") refl
+methods_bytes GetAndPut = AllPass-from_list_all is_value_byte (codes "GET, PUT") refl
 
-are_fields : (media : MediaType) (size : ℕ) (allow : Option Method) (close : Bool) → size < 2 ^ 64 → All IsField (fields_of media size allow close)
+are_fields : (media : MediaType) (size : ℕ) (allow : Option Methods) (close : Bool) → size < 2 ^ 64 → All IsField (fields_of media size allow close)
 unfolding httparse_on_literals
 are_fields media size allow close small =
     All-cons IsField (field_of (codes "Content-Type") (media_name media)) (field_of (codes "Content-Length") (decimal size) ∷ (allow_fields allow ++ close_fields close)) (is_field (codes "Content-Type") (media_name media) (lit< tt) refl (media_bytes media))
@@ -216,11 +220,11 @@ are_fields media size allow close small =
     closing false = All-nil IsField
     closing true = All-cons IsField (field_of (codes "Connection") (codes "close")) [] (is_field (codes "Connection") (codes "close") (lit< tt) refl (AllPass-from_list_all is_value_byte (codes "close") refl)) (All-nil IsField)
 
-    others : (allow : Option Method) (close : Bool) → All IsField (allow_fields allow ++ close_fields close)
+    others : (allow : Option Methods) (close : Bool) → All IsField (allow_fields allow ++ close_fields close)
     others None close = closing close
-    others (Some method) close = All-cons IsField (field_of (codes "Allow") (method_text method)) (close_fields close) (is_field (codes "Allow") (method_text method) (lit< tt) refl (method_bytes method)) (closing close)
+    others (Some methods) close = All-cons IsField (field_of (codes "Allow") (methods_text methods)) (close_fields close) (is_field (codes "Allow") (methods_text methods) (lit< tt) refl (methods_bytes methods)) (closing close)
 
-is_tree : (status : Status) (media : MediaType) (size : ℕ) (allow : Option Method) (close : Bool) → size < 2 ^ 64 → IsResponseHead (tree_of status media size allow close)
+is_tree : (status : Status) (media : MediaType) (size : ℕ) (allow : Option Methods) (close : Bool) → size < 2 ^ 64 → IsResponseHead (tree_of status media size allow close)
 is_tree status media size allow close small =
     let plain = plain_status status in
     record {
@@ -232,25 +236,25 @@ is_tree status media size allow close small =
 
 -- ---- what it says
 
-types : (status : Status) (media : MediaType) (size : ℕ) (allow : Option Method) (close : Bool) → values_in (codes "content-type") (tree_of status media size allow close) ≡ trim_ows (32 ∷ media_name media) ∷ []
+types : (status : Status) (media : MediaType) (size : ℕ) (allow : Option Methods) (close : Bool) → values_in (codes "content-type") (tree_of status media size allow close) ≡ trim_ows (32 ∷ media_name media) ∷ []
 types status media size None false = refl
 types status media size None true = refl
-types status media size (Some method) false = refl
-types status media size (Some method) true = refl
+types status media size (Some methods) false = refl
+types status media size (Some methods) true = refl
 
-lengths : (status : Status) (media : MediaType) (size : ℕ) (allow : Option Method) (close : Bool) → values_in (codes "content-length") (tree_of status media size allow close) ≡ trim_ows (32 ∷ decimal size) ∷ []
+lengths : (status : Status) (media : MediaType) (size : ℕ) (allow : Option Methods) (close : Bool) → values_in (codes "content-length") (tree_of status media size allow close) ≡ trim_ows (32 ∷ decimal size) ∷ []
 lengths status media size None false = refl
 lengths status media size None true = refl
-lengths status media size (Some method) false = refl
-lengths status media size (Some method) true = refl
+lengths status media size (Some methods) false = refl
+lengths status media size (Some methods) true = refl
 
-codings : (status : Status) (media : MediaType) (size : ℕ) (allow : Option Method) (close : Bool) → values_in (codes "transfer-encoding") (tree_of status media size allow close) ≡ []
+codings : (status : Status) (media : MediaType) (size : ℕ) (allow : Option Methods) (close : Bool) → values_in (codes "transfer-encoding") (tree_of status media size allow close) ≡ []
 codings status media size None false = refl
 codings status media size None true = refl
-codings status media size (Some method) false = refl
-codings status media size (Some method) true = refl
+codings status media size (Some methods) false = refl
+codings status media size (Some methods) true = refl
 
-tells : (limit : ℕ) (status : Status) (media : MediaType) (size : ℕ) (allow : Option Method) (close : Bool) → size ≤ limit → limit ≤ 67108864 → Tells limit (tree_of status media size allow close) (number_of status) media size
+tells : (limit : ℕ) (status : Status) (media : MediaType) (size : ℕ) (allow : Option Methods) (close : Bool) → size ≤ limit → limit ≤ 67108864 → Tells limit (tree_of status media size allow close) (number_of status) media size
 tells limit status media size allow close fits most =
     let small : size < 2 ^ 64 = omega arith in
     record {
@@ -264,7 +268,7 @@ tells limit status media size allow close fits most =
       most = fits;
     }
 
-pub written_reply : (limit : ℕ) (r : Response) (allow : Option Method) (close : Bool) (rest : List ℕ) → r.allow ≡ option_map method_text allow → length r.body ≤ limit → limit ≤ 67108864 → IsReply limit (text_of r close false ++ rest) (response_reply r) rest
+pub written_reply : (limit : ℕ) (r : Response) (allow : Option Methods) (close : Bool) (rest : List ℕ) → r.allow ≡ option_map methods_text allow → length r.body ≤ limit → limit ≤ 67108864 → IsReply limit (text_of r close false ++ rest) (response_reply r) rest
 written_reply limit r allow close rest told fits most =
     let small : length r.body < 2 ^ 64 = omega arith in
     let text : text_of r close false ++ rest ≡ print_response (tree_of r.status r.media (length r.body) allow close) ++ (r.body ++ rest) =

@@ -1,7 +1,7 @@
 //! The short bodies, written into room that was reserved. They take no memory.
 ghost use Rattle.std.specs.Prelude.{◌≡◌, ◌+◌, ◌*◌, ◌≤◌, ◌++◌, [], length, vec_len, vec_capacity, codes, flat_map, map, ◌∷◌};
 ghost use Rattle.std.specs.List.{join_with_byte};
-ghost use Rattle.session_model.specs.Bodies.{coded, content_body, bookmark_body, landed_body, id_text, ids_text, maybe_id_text, name_text};
+ghost use Rattle.session_model.specs.Bodies.{coded, content_body, whole_body, bookmark_body, landed_body, policy_body, id_text, ids_text, maybe_id_text, name_text};
 ghost use Rattle.repo_text.specs.Short.{body_text, coded_id, coded_place, bad_bytes, IsShort};
 
 use crate::response::put;
@@ -27,10 +27,14 @@ pub enum Body<'a> {
     CodedId { code: &'a str, id: Id },
     /// A content that was stored, and its length in bytes.
     Content { id: Id, size: usize },
+    /// Contents that were joined and stored, and their length in bytes together.
+    Whole { id: Id, size: u64 },
     /// Where a bookmark stands, `None` where it is deleted.
     Bookmark { head: Option<Id>, name: &'a str },
     /// A landing: the head before, and the ids of the new changesets, of which the last is the head.
     Landed { old: Id, ids: &'a [Id] },
+    /// A policy that was set, and its number in the log.
+    Policy { number: u64 },
     /// The bytes of a content have another id.
     BadBytes { wanted: Id, found: Id },
 }
@@ -153,6 +157,34 @@ fn put_content(out: &mut Vec<u8>, id: &Id, size: usize)
     put(out, b"}");
 }
 
+// What answers contents that were joined.
+fn put_whole(out: &mut Vec<u8>, id: &Id, size: u64)
+    requires { vec_len out.old + 192 ≤ vec_capacity out.old }
+    ensures items { out.new.items ≡ out.old.items ++ whole_body id.now size }
+    ensures short { vec_len out.new ≤ vec_len out.old + 192 }
+    ensures room { vec_capacity out.old ≤ vec_capacity out.new }
+{
+    let mut digits = Buffer::new();
+    put(out, b"{\"code\":\"whole\",\"id\":");
+    put_id(out, id);
+    put(out, b",\"size\":");
+    put(out, digits.format(size).as_bytes());
+    put(out, b"}");
+}
+
+// What answers a policy that was set.
+fn put_policy(out: &mut Vec<u8>, number: u64)
+    requires { vec_len out.old + 64 ≤ vec_capacity out.old }
+    ensures items { out.new.items ≡ out.old.items ++ policy_body number }
+    ensures short { vec_len out.new ≤ vec_len out.old + 64 }
+    ensures room { vec_capacity out.old ≤ vec_capacity out.new }
+{
+    let mut digits = Buffer::new();
+    put(out, b"{\"code\":\"policy\",\"number\":");
+    put(out, digits.format(number).as_bytes());
+    put(out, b"}");
+}
+
 // What tells where a bookmark stands.
 fn put_bookmark(out: &mut Vec<u8>, head: Option<Id>, name: &str)
     requires short { length name.now ≤ LONGEST_NAME }
@@ -209,8 +241,10 @@ pub fn put_body(out: &mut Vec<u8>, body: &Body<'_>)
     match body {
         Body::CodedId { code, id } => put_coded_id(out, code, id),
         Body::Content { id, size } => put_content(out, id, *size),
+        Body::Whole { id, size } => put_whole(out, id, *size),
         Body::Bookmark { head, name } => put_bookmark(out, *head, name),
         Body::Landed { old, ids } => put_landed(out, old, ids),
+        Body::Policy { number } => put_policy(out, *number),
         Body::BadBytes { wanted, found } => put_bad_bytes(out, wanted, found),
     }
 }

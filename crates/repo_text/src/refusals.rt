@@ -8,8 +8,9 @@ ghost use Rattle.repo_text.specs.Shown.{response_of};
 
 use crate::refused::Refused;
 use crate::values::{
-    clash_value, code_value, coded_id_value, count_value, distance_value, full_value, length_value,
-    missing_content_value, moved_value, place_value, self_conflict_value, wrong_size_value,
+    clash_value, code_value, coded_id_value, count_value, denied_value, distance_value, full_value,
+    length_value, line_value, missing_content_value, moved_value, place_value, self_conflict_value,
+    unresolved_value, wrong_size_value,
 };
 use object_id::Id;
 use repo_calls::Refusal;
@@ -36,11 +37,16 @@ fn status_of(refusal: &Refusal) -> Status
     ensures { result ≡ (response_to refusal.now).status }
 {
     match refusal {
+        Refusal::BadParts { .. } => Status::BadRequest,
+        Refusal::Denied { .. } => Status::Forbidden,
         Refusal::NoChangeset { .. } | Refusal::NoBookmark => Status::NotFound,
-        Refusal::Collision { .. }
+        Refusal::OldFormat
+        | Refusal::Collision { .. }
         | Refusal::Moved { .. }
         | Refusal::NoRoot
         | Refusal::AlreadyIn
+        | Refusal::MergeInStack { .. }
+        | Refusal::MergeInRange { .. }
         | Refusal::Clash { .. } => Status::Conflict,
         Refusal::TooLong { .. }
         | Refusal::TooFarBehind { .. }
@@ -49,9 +55,13 @@ fn status_of(refusal: &Refusal) -> Status
         Refusal::BadEncoding { .. }
         | Refusal::SelfConflict { .. }
         | Refusal::Merge
+        | Refusal::NoPiece { .. }
+        | Refusal::NotAPiece { .. }
         | Refusal::NoParent { .. }
         | Refusal::NoContent { .. }
-        | Refusal::WrongSize { .. } => Status::UnprocessableContent,
+        | Refusal::WrongSize { .. }
+        | Refusal::Unresolved { .. }
+        | Refusal::BadPolicy { .. } => Status::UnprocessableContent,
         Refusal::Full { .. } => Status::InsufficientStorage,
         Refusal::Down => Status::InternalServerError,
         Refusal::Memory => Status::ServiceUnavailable,
@@ -66,6 +76,10 @@ fn value_of(alloc: Global, refusal: &Refusal) -> Result<Value, AllocError>
         Refusal::BadEncoding { at } => place_value(alloc, "bad-encoding", *at),
         Refusal::SelfConflict { short, long } => self_conflict_value(alloc, short, long),
         Refusal::Merge => code_value(alloc, "merge"),
+        Refusal::BadParts { length } => length_value(alloc, "bad-parts", *length),
+        Refusal::OldFormat => code_value(alloc, "old-format"),
+        Refusal::NoPiece { id } => coded_id_value(alloc, "no-piece", id),
+        Refusal::NotAPiece { id } => coded_id_value(alloc, "not-a-piece", id),
         Refusal::NoParent { id } => coded_id_value(alloc, "no-parent", id),
         Refusal::NoContent { path, id } => missing_content_value(alloc, path, id),
         Refusal::WrongSize {
@@ -73,6 +87,7 @@ fn value_of(alloc: Global, refusal: &Refusal) -> Result<Value, AllocError>
             wanted,
             found,
         } => wrong_size_value(alloc, path, *wanted, *found),
+        Refusal::Unresolved { path } => unresolved_value(alloc, path),
         Refusal::Collision { id } => coded_id_value(alloc, "collision", id),
         Refusal::NoChangeset { id } => coded_id_value(alloc, "no-changeset", id),
         Refusal::Moved { found } => moved_value(alloc, *found),
@@ -81,8 +96,12 @@ fn value_of(alloc: Global, refusal: &Refusal) -> Result<Value, AllocError>
         Refusal::TooFarBehind { distance } => distance_value(alloc, *distance),
         Refusal::AlreadyIn => code_value(alloc, "already-in"),
         Refusal::StackTooLong { count } => count_value(alloc, *count),
+        Refusal::MergeInStack { id } => coded_id_value(alloc, "merge-in-stack", id),
+        Refusal::MergeInRange { id } => coded_id_value(alloc, "merge-in-range", id),
+        Refusal::Denied { place, rule } => denied_value(alloc, place, *rule),
         Refusal::Clash { left, right } => clash_value(alloc, left, right),
         Refusal::TooLarge { length } => length_value(alloc, "too-large", *length),
+        Refusal::BadPolicy { line } => line_value(alloc, *line),
         Refusal::Full { size, length } => full_value(alloc, *size, *length),
         Refusal::Down => code_value(alloc, "down"),
         Refusal::Memory => Err(AllocError),

@@ -4,7 +4,7 @@ ghost use Rattle.session_model.specs.Responses.{head_text, text_of, status_line,
 ghost use Rattle.repo_text.specs.Seen.{response_of, allow_of, media_of};
 
 use itoa::Buffer;
-use session_model::{Method, Status};
+use session_model::{Methods, Status};
 
 /// Room for the head of any response, in bytes.
 pub const HEAD_ROOM: usize = 256;
@@ -29,12 +29,12 @@ fn media_text(media: Media) -> &'static str
     }
 }
 
-/// A response. Where the route has another method than the request, `allow` names it.
+/// A response. Where the route has other methods than the request, `allow` names them.
 #[derive(Clone, Copy, Debug)]
 pub struct Response<'a> {
     pub status: Status,
     pub media: Media,
-    pub allow: Option<Method>,
+    pub allow: Option<Methods>,
     pub body: &'a [u8],
 }
 
@@ -81,14 +81,14 @@ fn put_media(out: &mut Vec<u8>, media: Media)
     put_field(out, b"Content-Type", media_text(media).as_bytes());
 }
 
-fn put_allow(out: &mut Vec<u8>, allow: Option<Method>)
+fn put_allow(out: &mut Vec<u8>, allow: Option<Methods>)
     requires { vec_len out.old + 25 ≤ vec_capacity out.old }
     ensures items { out.new.items ≡ out.old.items ++ allow_field (allow_of allow) }
     ensures room { vec_capacity out.old ≤ vec_capacity out.new }
     ensures short { vec_len out.new ≤ vec_len out.old + 25 }
 {
-    if let Some(method) = allow {
-        put_field(out, b"Allow", method.text().as_bytes());
+    if let Some(methods) = allow {
+        put_field(out, b"Allow", methods.text().as_bytes());
     }
 }
 

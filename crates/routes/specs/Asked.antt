@@ -2,7 +2,8 @@
 --     call_seen call      what a call asks for
 --     Asks result asked      a request asks for this. Where memory ran out, nothing is said
 use Rattle.std.specs.Prelude.{◌≡◌, Result, Ok, Err}
-use Rattle.repo_calls.specs.Calls.{ask_seen}
+use Rattle.reply_model.specs.After.{Looks}
+use Rattle.repo_calls.specs.Calls as calls
 use Rattle.repo_calls.specs.Asking.{question_seen}
 use Rattle.session_model.specs.Asking as model
 use Rattle.routes.specs.declared.asking.Call.{Call}
@@ -11,8 +12,8 @@ use Rattle.routes.specs.declared.route_refusal.RouteRefusal.{RouteRefusal}
 use Rattle.routes.specs.Failed.{failed, unless_memory}
 
 abbrev pub call_seen : Call → model.Asked
-call_seen (Change ask) = model.Change (ask_seen ask)
-call_seen (Read question) = model.Read (question_seen question)
+call_seen (Change ask) = model.Calls (calls.call_seen ask)
+call_seen (Read question) = model.Calls (Looks (question_seen question))
 
 abbrev pub Asks : Result Call RouteRefusal → model.Asked → Type 0
 Asks (Ok call) asked = asked ≡ call_seen call

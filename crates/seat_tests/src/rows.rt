@@ -47,6 +47,23 @@ GET /history/ABC/dir | 404 Not Found | {"code":"not-a-file"}
 GET /history/ABC/unread | 500 Internal Server Error | {"code":"read-fault"}
 GET /history/ABC | 404 Not Found | {"code":"no-route"}
 PUT /history/ABC/a | 405 Method Not Allowed | {"code":"method"} | Allow: GET
+GET /deleted/ABC | 200 OK | deleted
+GET /deleted/ABC/a/b | 200 OK | deleted a/b
+GET /deleted/ABC/none | 404 Not Found | {"code":"no-path"}
+PUT /deleted/ABC | 405 Method Not Allowed | {"code":"method"} | Allow: GET
+GET /pathlog/ABC/a/b | 200 OK | {"code":"path-log","ids":["NIL","ABC"]}
+GET /pathlog/NIL/a | 404 Not Found | {"code":"no-changeset","id":"NIL"}
+GET /pathlog/ABC//a | 400 Bad Request | {"code":"bad-path","place":0}
+GET /pathlog/ABC | 404 Not Found | {"code":"no-route"}
+PUT /pathlog/ABC/a | 405 Method Not Allowed | {"code":"method"} | Allow: GET
+GET /policy | 200 OK | allow ann lib
+GET /policy/7 | 404 Not Found | {"code":"no-policy"}
+GET /policy/x | 400 Bad Request | {"code":"bad-number"}
+PUT /policy | 503 Service Unavailable | {"code":"memory"}
+POST /policy | 405 Method Not Allowed | {"code":"method"} | Allow: GET, PUT
+PUT /policy/7 | 405 Method Not Allowed | {"code":"method"} | Allow: GET
+PUT /whole | 503 Service Unavailable | {"code":"memory"}
+GET /whole | 405 Method Not Allowed | {"code":"method"} | Allow: PUT
 GET /copies/ABC | 200 OK | {"code":"copies","copies":[{"from":"p","parent":0,"to":"q"},{"from":"d/p","parent":1,"to":"r\"s"}]}
 GET /copies/%42A7816bf8f01cfea414140de5dae2223b00361a396177a9cb410ff61f20015ad | 200 OK | {"code":"copies","copies":[{"from":"p","parent":0,"to":"q"},{"from":"d/p","parent":1,"to":"r\"s"}]}
 GET /copies/NIL | 404 Not Found | {"code":"no-changeset","id":"NIL"}

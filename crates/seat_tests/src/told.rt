@@ -47,7 +47,10 @@ impl Seat for Told {
             }),
             Question::Fsnode(id, dir) => Ok(Seen::Bytes(self.node(alloc, id, "fsnode", dir)?)),
             Question::Unode(id, path) => Ok(Seen::Bytes(self.node(alloc, id, "unode", path)?)),
+            Question::Deleted(id, dir) => Ok(Seen::Bytes(self.node(alloc, id, "deleted", dir)?)),
             Question::History(id, path) => Ok(Seen::Ids(self.history(alloc, id, path)?)),
+            Question::PathLog(id, path) => Ok(Seen::Ids(self.history(alloc, id, path)?)),
+            Question::Policy(number) => Ok(Seen::Bytes(self.policy(alloc, number)?)),
             Question::Copies(id) => Ok(Seen::Copies(self.copies(alloc, id)?)),
             Question::Log(0) => Ok(Seen::Log(self.page(alloc)?)),
             _ => Err(AskFault::Memory),
@@ -120,6 +123,14 @@ impl Told {
         self.know(id)?;
         self.find(path)?;
         Ok(Vec::from_slice(alloc, &[self.other, self.known])?)
+    }
+
+    // One policy is held, and no entry of the log is one.
+    fn policy(&self, alloc: Global, number: Option<u64>) -> Result<Vec<u8>, AskFault> {
+        match number {
+            None => Ok(Vec::from_slice(alloc, b"allow ann lib")?),
+            Some(_) => Err(AskFault::NoPolicy),
+        }
     }
 
     fn copies(&self, alloc: Global, id: Id) -> Result<Vec<CopiedPath>, AskFault> {

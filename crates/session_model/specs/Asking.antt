@@ -1,94 +1,108 @@
 -- What a request asks for, and the response to each answer.
---     asked q      the change or the read that a request asks for, or the response to one that asks for nothing
---     granted ask g, refused refusal      the response to a change that is granted and that is refused
+--     asked q      the call that a request asks for, or the response to one that asks for nothing
+--     granted call g, refused refusal      the response to a change that is granted and that is refused
 --     seen question s, absent a      the response to a read that shows something, and to one that doesn't
---     change_response ask answer, read_response question answer      the response to each answer
+--     change_response call answer, read_response question answer      the response to each answer
+--     response call answer      the response to the answer of any call that a request asks for
 use Rattle.std.specs.Prelude.{ℕ, if◌then◌else◌, List, [], ◌∷◌, length, bytes_eq, codes, decimal, Option, None, Some, Result, Ok, Err}
 use Rattle.byte_fields.specs.Bytes.{Id}
 use Rattle.changeset_model.specs.Path.{Path}
 use Rattle.reply_model.specs.Log.{lines_of}
-use Rattle.reply_model.specs.Opening.{nobody}
-use Rattle.reply_model.specs.Reply.{◌>>=◌, Ask, PutContent, PutWhole, PutChangeset, SetBookmark, LandDraft, Granted, ContentPut, WholePut, ChangesetPut, BookmarkSet, Landed, Refusal, Down, TooLong, BadEncoding, SelfConflict, Merge, BadParts, OldFormat, NoPiece, NotAPiece, NoParent, NoContent, WrongSize, Unresolved, Collision, NoChangeset, Moved, NoBookmark, NoRoot, TooFarBehind, AlreadyIn, StackTooLong, MergeInStack, MergeInRange, Clash, TooLarge, Full, Question, HeadOf, ContentOf, ChangesetOf, LogFrom, FsnodeOf, UnodeOf, HistoryOf, CopiesOf, Seen, SeenHead, SeenBytes, SeenLog, SeenIds, SeenCopies, Absent, AbsentContent, AbsentChangeset, NoPath, NotADir, NotAFile}
-use Rattle.reply_model.specs.After.{Answer, Grants, Refuses, Shows, Lacks, Roots, DiskFault, ReadFault, BadBytes, NodeCollision, Memory}
+use Rattle.reply_model.specs.Reply.{◌>>=◌, PutContent, PutChangeset, SetBookmark, LandDraft, SetPolicy, Granted, ContentPut, WholePut, ChangesetPut, BookmarkSet, Landed, PolicySet, Refusal, Down, TooLong, BadEncoding, SelfConflict, Merge, BadParts, OldFormat, NoPiece, NotAPiece, NoParent, NoContent, WrongSize, Unresolved, Collision, NoChangeset, Moved, NoBookmark, NoRoot, TooFarBehind, AlreadyIn, StackTooLong, MergeInStack, MergeInRange, Denied, Clash, TooLarge, BadPolicy, Full, Question, HeadOf, ContentOf, ChangesetOf, LogFrom, FsnodeOf, UnodeOf, HistoryOf, CopiesOf, PathLogOf, DeletedOf, PolicyOf, Seen, SeenHead, SeenBytes, SeenLog, SeenIds, SeenCopies, Absent, AbsentContent, AbsentChangeset, NoPath, NotADir, NotAFile, NoPolicy}
+use Rattle.reply_model.specs.After.{Call, Asks, Joins, Looks, Derives, Answer, Grants, Refuses, Shows, Lacks, Roots, DiskFault, ReadFault, BadBytes, NodeCollision, Memory}
 use Rattle.http_model.specs.Head.{path_of}
 use Rattle.http_model.specs.Stream.{Request}
-use Rattle.session_model.specs.declared.status.Status.TheVariants.{Fine, BadRequest, NotFound, MethodNotAllowed, Conflict, ContentTooLarge, UnprocessableContent, InternalServerError, InsufficientStorage}
+use Rattle.session_model.specs.declared.status.Status.TheVariants.{Fine, BadRequest, Forbidden, NotFound, MethodNotAllowed, Conflict, ContentTooLarge, UnprocessableContent, InternalServerError, InsufficientStorage}
+use Rattle.session_model.specs.declared.method.Method.TheVariants.{Put}
+use Rattle.session_model.specs.declared.method.Methods.{Methods}
 use Rattle.session_model.specs.declared.route_name.RouteName.{RouteName}
-use Rattle.session_model.specs.declared.route_name.RouteName.TheVariants.{Contents, Content, Changesets, Changeset, Head, Move, Land, Log, RootFsnode, Fsnode, RootUnode, Unode, History, Copies}
-use Rattle.session_model.specs.Methods.{method_text, method_of}
+use Rattle.session_model.specs.declared.route_name.RouteName.TheVariants.{Contents, Content, Wholes, Changesets, Changeset, Head, Move, Land, Policy, NumberedPolicy, Log, RootFsnode, Fsnode, RootUnode, Unode, RootDeleted, Deleted, History, PathLog, Copies}
+use Rattle.session_model.specs.Methods.{method_text, methods_text, has_method, methods_of}
 use Rattle.session_model.specs.Responses.{Response, Json}
-use Rattle.session_model.specs.Bodies.{coded, id_text, maybe_id_text, path_text, content_body, whole_body, changeset_body, bookmark_body, landed_body, log_body, history_body, copies_body, json, of_code, octets, memory}
+use Rattle.session_model.specs.Bodies.{coded, id_text, maybe_id_text, maybe_number_text, path_text, content_body, whole_body, changeset_body, bookmark_body, landed_body, policy_body, log_body, history_body, path_log_body, copies_body, json, of_code, octets, memory}
 use Rattle.session_model.specs.Routes.{Route, value, is_target, route_of}
-use Rattle.session_model.specs.Parameters.{name_parameter, id_parameter, maybe_id_parameter, number_parameter, path_parameter}
+use Rattle.session_model.specs.Parameters.{name_parameter, id_parameter, maybe_id_parameter, number_parameter, path_parameter, caller_named}
 
 -- ---- requests
 
 pub data Asked : Type 0 where
-  Change : Ask → Asked
-  Read : Question → Asked
+  Calls : Call → Asked
   Fails : Response → Asked
+
+-- a read of what has the id in the path
+abbrev pub by_id : (Id → Question) → (ℕ → List ℕ) → Result Asked Response
+by_id question value = do
+  x ← id_parameter (value 0)
+  Ok (Calls (Looks (question x)))
 
 -- of the root of a changeset's tree
 abbrev pub at_root : (Id → Path → Question) → (ℕ → List ℕ) → Result Asked Response
-at_root question value = do
-  x ← id_parameter (value 0)
-  Ok (Read (question x []))
+at_root question value = by_id (λ x. question x []) value
 
 -- of a path in a changeset's tree
 abbrev pub at_path : (Id → Path → Question) → (ℕ → List ℕ) → Result Asked Response
 at_path question value = do
   x ← id_parameter (value 0)
   p ← path_parameter (value 1)
-  Ok (Read (question x p))
+  Ok (Calls (Looks (question x p)))
 
--- The parameters from left to right: the first that is refused decides. A request tells neither who asks nor when: a landing's moment is left open, and 0 stands in its place.
-abbrev pub by_name : RouteName → (ℕ → List ℕ) → List ℕ → Result Asked Response
-by_name Contents value body = Ok (Change (PutContent body))
-by_name Content value body = do
-  x ← id_parameter (value 0)
-  Ok (Read (ContentOf x))
-by_name Changesets value body = Ok (Change (PutChangeset body))
-by_name Changeset value body = do
-  x ← id_parameter (value 0)
-  Ok (Read (ChangesetOf x))
-by_name Head value body = do
+abbrev pub sets_policy : Request → Result Asked Response
+sets_policy q = do
+  caller ← caller_named q.caller
+  Ok (Calls (Asks (SetPolicy caller q.body)))
+
+-- The parameters from left to right, and then who asks: the first that is refused decides. A request doesn't tell when: a landing's moment is left open, and 0 stands in its place.
+abbrev pub by_name : RouteName → (ℕ → List ℕ) → Request → Result Asked Response
+by_name Contents value q = Ok (Calls (Asks (PutContent q.body)))
+by_name Content value q = by_id ContentOf value
+by_name Wholes value q = Ok (Calls (Joins q.body))
+by_name Changesets value q = Ok (Calls (Asks (PutChangeset q.body)))
+by_name Changeset value q = by_id ChangesetOf value
+by_name Head value q = do
   m ← name_parameter (value 0)
-  Ok (Read (HeadOf m))
-by_name Move value body = do
+  Ok (Calls (Looks (HeadOf m)))
+by_name Move value q = do
   m ← name_parameter (value 0)
   before ← maybe_id_parameter (value 1)
   after ← maybe_id_parameter (value 2)
-  Ok (Change (SetBookmark nobody m before after))
-by_name Land value body = do
+  caller ← caller_named q.caller
+  Ok (Calls (Asks (SetBookmark caller m before after)))
+by_name Land value q = do
   m ← name_parameter (value 0)
   d ← id_parameter (value 1)
-  Ok (Change (LandDraft nobody m d 0))
-by_name Log value body = do
+  caller ← caller_named q.caller
+  Ok (Calls (Asks (LandDraft caller m d 0)))
+by_name Policy value q = if bytes_eq q.method (method_text Put) then sets_policy q else Ok (Calls (Looks (PolicyOf None)))
+by_name NumberedPolicy value q = do
   n ← number_parameter (value 0)
-  Ok (Read (LogFrom n))
-by_name RootFsnode value body = at_root FsnodeOf value
-by_name Fsnode value body = at_path FsnodeOf value
-by_name RootUnode value body = at_root UnodeOf value
-by_name Unode value body = at_path UnodeOf value
-by_name History value body = at_path HistoryOf value
-by_name Copies value body = do
-  x ← id_parameter (value 0)
-  Ok (Read (CopiesOf x))
+  Ok (Calls (Looks (PolicyOf (Some n))))
+by_name Log value q = do
+  n ← number_parameter (value 0)
+  Ok (Calls (Looks (LogFrom n)))
+by_name RootFsnode value q = at_root FsnodeOf value
+by_name Fsnode value q = at_path FsnodeOf value
+by_name RootUnode value q = at_root UnodeOf value
+by_name Unode value q = at_path UnodeOf value
+by_name RootDeleted value q = at_root DeletedOf value
+by_name Deleted value q = at_path DeletedOf value
+by_name History value q = at_path HistoryOf value
+by_name PathLog value q = at_path PathLogOf value
+by_name Copies value q = by_id CopiesOf value
 
-abbrev pub by_route : Route → List ℕ → Result Asked Response
-by_route route body = by_name route.name (value route) body
+abbrev pub by_route : Route → Request → Result Asked Response
+by_route route q = by_name route.name (value route) q
 
 abbrev pub asked_or : Result Asked Response → Asked
 asked_or (Ok asked) = asked
 asked_or (Err r) = Fails r
 
--- the route has another method
-abbrev pub not_allowed : List ℕ → Response
-not_allowed methods = record { status = MethodNotAllowed; media = Json; allow = Some methods; body = coded (codes "method") [] }
+-- the route has other methods
+abbrev pub not_allowed : Methods → Response
+not_allowed methods = record { status = MethodNotAllowed; media = Json; allow = Some (methods_text methods); body = coded (codes "method") [] }
 
 abbrev pub on_route : Option Route → Request → Asked
 on_route None q = Fails (of_code NotFound (codes "no-route"))
-on_route (Some route) q = if bytes_eq q.method (method_text (method_of route.name)) then asked_or (by_route route q.body) else Fails (not_allowed (method_text (method_of route.name)))
+on_route (Some route) q = if has_method (methods_of route.name) q.method then asked_or (by_route route q) else Fails (not_allowed (methods_of route.name))
 
 abbrev pub asked : Request → Asked
 asked q = let path = path_of q.target in if is_target path then on_route (route_of path) q else Fails (of_code BadRequest (codes "bad-target"))
@@ -96,12 +110,13 @@ asked q = let path = path_of q.target in if is_target path then on_route (route_
 -- ---- responses to changes
 
 -- no change is granted what another one asks for
-abbrev pub granted : Ask → Granted → Response
-granted (PutContent bytes) (ContentPut x) = json Fine (content_body x (length bytes))
-granted (PutWhole body pieces) (WholePut x size) = json Fine (whole_body x size)
-granted (PutChangeset bytes) (ChangesetPut x) = json Fine (changeset_body x)
-granted (SetBookmark caller name from to) BookmarkSet = json Fine (bookmark_body to name)
-granted (LandDraft caller name draft moment) (Landed old ids) = json Fine (landed_body old ids)
+abbrev pub granted : Call → Granted → Response
+granted (Asks (PutContent bytes)) (ContentPut x) = json Fine (content_body x (length bytes))
+granted (Joins body) (WholePut x size) = json Fine (whole_body x size)
+granted (Asks (PutChangeset bytes)) (ChangesetPut x) = json Fine (changeset_body x)
+granted (Asks (SetBookmark caller name from to)) BookmarkSet = json Fine (bookmark_body to name)
+granted (Asks (LandDraft caller name draft moment)) (Landed old ids) = json Fine (landed_body old ids)
+granted (Asks (SetPolicy caller text)) (PolicySet number) = json Fine (policy_body number)
 granted _ _ = of_code Fine []
 
 abbrev pub refused : Refusal → Response
@@ -128,22 +143,32 @@ refused AlreadyIn = of_code Conflict (codes "already-in")
 refused (StackTooLong n) = json ContentTooLarge (coded (codes "stack-too-long") ((codes "count", decimal n) ∷ []))
 refused (MergeInStack x) = json Conflict (coded (codes "merge-in-stack") ((codes "id", id_text x) ∷ []))
 refused (MergeInRange x) = json Conflict (coded (codes "merge-in-range") ((codes "id", id_text x) ∷ []))
+refused (Denied p rule) = json Forbidden (coded (codes "denied") ((codes "path", path_text p) ∷ (codes "rule", maybe_number_text rule) ∷ []))
 refused (Clash left right) = json Conflict (coded (codes "clash") ((codes "left", path_text left) ∷ (codes "right", path_text right) ∷ []))
 refused (TooLarge n) = json ContentTooLarge (coded (codes "too-large") ((codes "length", decimal n) ∷ []))
+refused (BadPolicy line) = json UnprocessableContent (coded (codes "bad-policy") ((codes "line", decimal line) ∷ []))
 refused (Full size n) = json InsufficientStorage (coded (codes "full") ((codes "length", decimal n) ∷ (codes "size", decimal size) ∷ []))
 
-abbrev pub change_response : Ask → Answer → Response
-change_response ask (Grants g) = granted ask g
-change_response ask (Refuses refusal) = refused refusal
-change_response ask DiskFault = of_code InternalServerError (codes "disk-fault")
-change_response ask Memory = memory
+-- the disk gave no bytes of a content, or those of another one
+abbrev pub read_fault : Response
+read_fault = of_code InternalServerError (codes "read-fault")
+
+abbrev pub bad_bytes : Id → Id → Response
+bad_bytes wanted found = json InternalServerError (coded (codes "bad-bytes") ((codes "found", id_text found) ∷ (codes "wanted", id_text wanted) ∷ []))
+
+abbrev pub change_response : Call → Answer → Response
+change_response call (Grants g) = granted call g
+change_response call (Refuses refusal) = refused refusal
+change_response call DiskFault = of_code InternalServerError (codes "disk-fault")
+-- of contents that are joined
+change_response call ReadFault = read_fault
+change_response call (BadBytes wanted found) = bad_bytes wanted found
+change_response call Memory = memory
 -- no other answer is given to a change
-change_response ask (Shows s) = memory
-change_response ask (Lacks a) = memory
-change_response ask (Roots fs un) = memory
-change_response ask ReadFault = memory
-change_response ask (BadBytes wanted found) = memory
-change_response ask (NodeCollision x) = memory
+change_response call (Shows s) = memory
+change_response call (Lacks a) = memory
+change_response call (Roots fs un gone) = memory
+change_response call (NodeCollision x) = memory
 
 -- ---- responses to reads
 
@@ -158,6 +183,9 @@ seen (FsnodeOf x d) (SeenBytes bytes) = octets bytes
 seen (UnodeOf x p) (SeenBytes bytes) = octets bytes
 seen (HistoryOf x p) (SeenIds ids) = json Fine (history_body ids)
 seen (CopiesOf x) (SeenCopies copies) = json Fine (copies_body copies)
+seen (PathLogOf x p) (SeenIds ids) = json Fine (path_log_body ids)
+seen (DeletedOf x d) (SeenBytes bytes) = octets bytes
+seen (PolicyOf number) (SeenBytes bytes) = octets bytes
 seen _ _ = of_code Fine []
 
 abbrev pub absent : Absent → Response
@@ -166,16 +194,26 @@ absent (AbsentChangeset x) = json NotFound (coded (codes "no-changeset") ((codes
 absent NoPath = of_code NotFound (codes "no-path")
 absent NotADir = of_code NotFound (codes "not-a-dir")
 absent NotAFile = of_code NotFound (codes "not-a-file")
+absent NoPolicy = of_code NotFound (codes "no-policy")
 
 abbrev pub read_response : Question → Answer → Response
 read_response question (Shows s) = seen question s
 read_response question (Lacks a) = absent a
-read_response question ReadFault = of_code InternalServerError (codes "read-fault")
-read_response question (BadBytes wanted found) = json InternalServerError (coded (codes "bad-bytes") ((codes "found", id_text found) ∷ (codes "wanted", id_text wanted) ∷ []))
+read_response question ReadFault = read_fault
+read_response question (BadBytes wanted found) = bad_bytes wanted found
 read_response question (NodeCollision x) = json Conflict (coded (codes "collision") ((codes "id", id_text x) ∷ []))
 read_response question Memory = memory
 -- no other answer is given to a read
 read_response question (Grants g) = memory
 read_response question (Refuses refusal) = memory
-read_response question (Roots fs un) = memory
+read_response question (Roots fs un gone) = memory
 read_response question DiskFault = memory
+
+-- ---- responses to calls
+
+abbrev pub response : Call → Answer → Response
+response (Asks ask) answer = change_response (Asks ask) answer
+response (Joins body) answer = change_response (Joins body) answer
+response (Looks question) answer = read_response question answer
+-- no request asks for it
+response (Derives x) answer = memory

@@ -1,10 +1,8 @@
 -- When a landing is made. A request doesn't tell that.
 --     Dated tells replies      as these replies are, but for a landing: that is made at some moment that a clock tells, whatever moment was asked for
-use Rattle.std.specs.Prelude.{ℕ, List}
-use Rattle.history_model.specs.History.{Entry}
-use Rattle.history_model.specs.Journal.{Header}
-use Rattle.reply_model.specs.After.{Relation, Call, Asks, Joins, Looks, Derives, Answer}
-use Rattle.reply_model.specs.Reply.{PutContent, PutWhole, PutChangeset, SetBookmark, LandDraft}
+use Rattle.std.specs.Prelude.{ℕ}
+use Rattle.reply_model.specs.After.{Relation, Asks, Joins, Looks, Derives}
+use Rattle.reply_model.specs.Reply.{PutContent, PutWhole, PutChangeset, SetBookmark, LandDraft, SetPolicy}
 
 abbrev pub Dated : (ℕ → Type 0) → Relation → Relation
 Dated tells replies header h who (Asks (PutContent bytes)) answer new = replies header h who (Asks (PutContent bytes)) answer new
@@ -12,6 +10,7 @@ Dated tells replies header h who (Asks (PutWhole body pieces)) answer new = repl
 Dated tells replies header h who (Asks (PutChangeset bytes)) answer new = replies header h who (Asks (PutChangeset bytes)) answer new
 Dated tells replies header h who (Asks (SetBookmark caller name from to)) answer new = replies header h who (Asks (SetBookmark caller name from to)) answer new
 Dated tells replies header h who (Asks (LandDraft caller name draft asked)) answer new = (moment : ℕ) × tells moment × replies header h who (Asks (LandDraft caller name draft moment)) answer new
+Dated tells replies header h who (Asks (SetPolicy caller text)) answer new = replies header h who (Asks (SetPolicy caller text)) answer new
 Dated tells replies header h who (Joins body) answer new = replies header h who (Joins body) answer new
 Dated tells replies header h who (Looks question) answer new = replies header h who (Looks question) answer new
 Dated tells replies header h who (Derives x) answer new = replies header h who (Derives x) answer new

@@ -9,7 +9,7 @@ use Rattle.std.specs.List.{concat}
 use mathlib.Core.List.{IsPrefix}
 use Rattle.history_model.specs.History.{Entry}
 use Rattle.history_model.specs.Journal.{Header}
-use Rattle.reply_model.specs.After.{Relation, Answer, Call, Asks, Looks}
+use Rattle.reply_model.specs.After.{Relation, Answer, Call}
 use Rattle.http_model.specs.declared.head_refusal.HeadRefusal.{HeadRefusal}
 use Rattle.http_model.specs.declared.head_refusal.HeadRefusal.TheVariants as refusals
 use Rattle.http_model.specs.Refusals.{code_of, status_of}
@@ -20,7 +20,7 @@ use Rattle.session_model.specs.declared.status.Status.TheVariants.{BadRequest, L
 use Rattle.session_model.specs.Responses.{Response, text_of}
 use Rattle.session_model.specs.Bodies.{of_code, memory}
 use Rattle.session_model.specs.Asking as asking
-use Rattle.session_model.specs.Asking.{Asked, asked, change_response, read_response}
+use Rattle.session_model.specs.Asking.{Asked, asked, response}
 
 -- ---- one request
 
@@ -28,18 +28,17 @@ abbrev pub text_for : Request → Response → List ℕ
 text_for q r = text_of r q.close (is_head_only q)
 
 -- a call is answered as the repository answers it at h, which may be by want of memory
-pub record AnswersCall (replies : Relation) (header : Header) (who : ℕ) (h : List Entry) (call : Call) (respond : Answer → Response) (q : Request) (out : List ℕ) (after : List Entry) : Type 0 where
+pub record AnswersCall (replies : Relation) (header : Header) (who : ℕ) (h : List Entry) (call : Call) (q : Request) (out : List ℕ) (after : List Entry) : Type 0 where
   pub answer : Answer
   pub answered : replies header h who call answer after
-  pub text : out ≡ text_for q (respond answer)
+  pub text : out ≡ text_for q (response call answer)
 
 pub record AnswersAlone (h : List Entry) (q : Request) (r : Response) (out : List ℕ) (after : List Entry) : Type 0 where
   pub same : after ≡ h
   pub text : out ≡ text_for q r
 
 abbrev pub AnswersAsked : Relation → Header → ℕ → List Entry → Asked → Request → List ℕ → List Entry → Type 0
-AnswersAsked replies header who h (asking.Change ask) q out after = AnswersCall replies header who h (Asks ask) (change_response ask) q out after
-AnswersAsked replies header who h (asking.Read question) q out after = AnswersCall replies header who h (Looks question) (read_response question) q out after
+AnswersAsked replies header who h (asking.Calls call) q out after = AnswersCall replies header who h call q out after
 AnswersAsked replies header who h (asking.Fails r) q out after = AnswersAlone h q r out after
 
 -- where there is no memory to tell what is asked for, that is told, and nothing changes

@@ -1,7 +1,7 @@
 //! The routes by their names.
 ghost use Rattle.std.specs.Prelude.{◌≡◌};
 
-use crate::method::Method;
+use crate::method::{Method, Methods};
 
 /// Which route a path has.
 #[derive(Clone, Copy, Debug, PartialEq, Eq)]
@@ -10,6 +10,8 @@ pub enum RouteName {
     Contents,
     /// A content.
     Content,
+    /// Contents that are joined, to store them as one.
+    Wholes,
     /// Changesets, to store one.
     Changesets,
     /// A changeset.
@@ -20,6 +22,10 @@ pub enum RouteName {
     Move,
     /// A bookmark with a draft, to land it there.
     Land,
+    /// The policy that is held, to read it or to set one.
+    Policy,
+    /// The policy of a number in the log.
+    NumberedPolicy,
     /// A page of the log.
     Log,
     /// The fsnode of a changeset's root.
@@ -30,32 +36,45 @@ pub enum RouteName {
     RootUnode,
     /// The unode of a file or a directory.
     Unode,
+    /// The deleted node of a changeset's root.
+    RootDeleted,
+    /// The deleted node of a path.
+    Deleted,
     /// The history of a file.
     History,
+    /// The changesets at which a path changed.
+    PathLog,
     /// What a changeset sets as copies.
     Copies,
 }
 
 impl RouteName {
-    ghost use Rattle.session_model.specs.Methods.{method_of};
+    ghost use Rattle.session_model.specs.Methods.{methods_of};
 
-    /// The one method that it has.
-    pub fn method(self) -> Method
-        ensures { result ≡ method_of self }
+    /// The methods that it has.
+    pub fn methods(self) -> Methods
+        ensures { result ≡ methods_of self }
     {
         match self {
-            RouteName::Contents | RouteName::Changesets | RouteName::Move => Method::Put,
-            RouteName::Land => Method::Post,
+            RouteName::Contents | RouteName::Wholes | RouteName::Changesets | RouteName::Move => {
+                Methods::One(Method::Put)
+            }
+            RouteName::Land => Methods::One(Method::Post),
+            RouteName::Policy => Methods::GetAndPut,
             RouteName::Content
             | RouteName::Changeset
             | RouteName::Head
+            | RouteName::NumberedPolicy
             | RouteName::Log
             | RouteName::RootFsnode
             | RouteName::Fsnode
             | RouteName::RootUnode
             | RouteName::Unode
+            | RouteName::RootDeleted
+            | RouteName::Deleted
             | RouteName::History
-            | RouteName::Copies => Method::Get,
+            | RouteName::PathLog
+            | RouteName::Copies => Methods::One(Method::Get),
         }
     }
 }

@@ -1,6 +1,6 @@
 use Rattle.std.proofs.Common.{◌≡◌, subst}
 use Rattle.reply_model.specs.After as after_call
-use Rattle.repo_calls.specs.Calls.{ask_seen}
+use Rattle.repo_calls.specs.Calls.{call_seen}
 use Rattle.repo_calls.specs.Asking.{question_seen}
 use Rattle.session_model.specs.Asking.{change_response, read_response}
 use Rattle.session_model.specs.Dating.{Dated}
@@ -17,9 +17,9 @@ returns-in-Ok-Change-clause-answers g c =
     let seat = g.T.Seat in
     let before = c.args.seat.now in
     let tells = g.C.Clock.tells c.args.clock.now in
-    let ask = ask_seen c.in-Ok-Change.ask in
+    let ask = c.in-Ok-Change.ask in
     change_answers (Dated tells (seat.replies (seat.home before))) _ _ _ (seen c.args.request.now) ask _ _ (rw c.in-Ok-Change.field-0-is at c.in-Ok-Change.ensures.asks)
-    (subst (λ b. Replied (Dated tells (seat.replies (seat.home before))) (seat.header before) (seat.number before) (seat.front before) (after_call.Asks ask) (change_response ask) c.args.request.now.close b c.change.new.buffer (seat.front c.change.new.seat)) c.requires c.change.ensures.answers)
+    (subst (λ b. Replied (Dated tells (seat.replies (seat.home before))) (seat.header before) (seat.number before) (seat.front before) (call_seen ask) (change_response (call_seen ask)) c.args.request.now.close b c.change.new.buffer (seat.front c.change.new.seat)) c.requires c.change.ensures.answers)
 
 pub returns-in-Ok-Read-clause-answers : goal.returns-in-Ok-Read-clause-answers
 returns-in-Ok-Read-clause-answers g c =

@@ -21,3 +21,6 @@ returns-in-NotAFile c = λ question. in_case _ _ question _ _ _ c.in-NotAFile.is
 
 pub returns-in-ReadFault : goal.returns-in-ReadFault
 returns-in-ReadFault c = λ question. in_case _ _ question _ _ _ c.in-ReadFault.is c.put_code-in-ReadFault.ensures
+
+pub returns-in-NoPolicy : goal.returns-in-NoPolicy
+returns-in-NoPolicy c = λ question. in_case _ _ question _ _ _ c.in-NoPolicy.is c.put_code-in-NoPolicy.ensures

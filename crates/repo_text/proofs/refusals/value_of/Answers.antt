@@ -6,11 +6,12 @@ use Rattle.changeset_model.specs.Path.{text_of}
 use Rattle.serde_json.specs.Data.{Data}
 use Rattle.serde_json.specs.View.{view}
 use Rattle.serde_json.specs.declared.value.Value.{Value}
-use Rattle.session_model.specs.Bodies.{maybe_id_text}
+use Rattle.session_model.specs.Bodies.{maybe_id_text, maybe_number_text}
+use Rattle.repo_calls.specs.Calls.{denied_path}
 use Rattle.repo_calls.specs.declared.refusal.Refusal.{Refusal}
 use Rattle.repo_text.specs.Refusing.{response_to}
-use Rattle.repo_text.specs.Spelling.{Spells, maybe_id_data}
-use Rattle.repo_text.proofs.Spelled.{number_part, path_part, id_part, coded_spelled, number_spelled, string_spelled, id_spelled, maybe_id_spelled}
+use Rattle.repo_text.specs.Spelling.{Spells, maybe_id_data, maybe_number_data}
+use Rattle.repo_text.proofs.Spelled.{number_part, path_part, id_part, coded_spelled, number_spelled, string_spelled, id_spelled, maybe_id_spelled, maybe_number_spelled}
 use Rattle.repo_text.proofs.refusals.value_of.Goals as goal
 
 -- the value of the case that this refusal is
@@ -30,8 +31,38 @@ returns-in-SelfConflict c = in_case _ _ _ _ c.in-SelfConflict.is c.self_conflict
 pub returns-in-Merge : goal.returns-in-Merge
 returns-in-Merge c = in_case _ _ _ _ c.in-Merge.is c.code_value.ensures (coded_spelled (codes "merge") ([]) refl tt)
 
+pub returns-in-BadParts : goal.returns-in-BadParts
+returns-in-BadParts c = in_case _ _ _ _ c.in-BadParts.is c.length_value-in-BadParts.ensures (coded_spelled (codes "bad-parts") (number_part (codes "length") c.in-BadParts.length ∷ []) refl ((refl, number_spelled c.in-BadParts.length), tt))
+
+pub returns-in-OldFormat : goal.returns-in-OldFormat
+returns-in-OldFormat c = in_case _ _ _ _ c.in-OldFormat.is c.code_value-in-OldFormat.ensures (coded_spelled (codes "old-format") ([]) refl tt)
+
+pub returns-in-NoPiece : goal.returns-in-NoPiece
+returns-in-NoPiece c = in_case _ _ _ _ c.in-NoPiece.is c.coded_id_value.ensures.value (coded_spelled (codes "no-piece") (id_part c.in-NoPiece.id ∷ []) refl ((refl, id_spelled c.in-NoPiece.id c.coded_id_value.ensures.plain), tt))
+
+pub returns-in-NotAPiece : goal.returns-in-NotAPiece
+returns-in-NotAPiece c = in_case _ _ _ _ c.in-NotAPiece.is c.coded_id_value-in-NotAPiece.ensures.value (coded_spelled (codes "not-a-piece") (id_part c.in-NotAPiece.id ∷ []) refl ((refl, id_spelled c.in-NotAPiece.id c.coded_id_value-in-NotAPiece.ensures.plain), tt))
+
+pub returns-in-MergeInStack : goal.returns-in-MergeInStack
+returns-in-MergeInStack c = in_case _ _ _ _ c.in-MergeInStack.is c.coded_id_value-in-MergeInStack.ensures.value (coded_spelled (codes "merge-in-stack") (id_part c.in-MergeInStack.id ∷ []) refl ((refl, id_spelled c.in-MergeInStack.id c.coded_id_value-in-MergeInStack.ensures.plain), tt))
+
+pub returns-in-MergeInRange : goal.returns-in-MergeInRange
+returns-in-MergeInRange c = in_case _ _ _ _ c.in-MergeInRange.is c.coded_id_value-in-MergeInRange.ensures.value (coded_spelled (codes "merge-in-range") (id_part c.in-MergeInRange.id ∷ []) refl ((refl, id_spelled c.in-MergeInRange.id c.coded_id_value-in-MergeInRange.ensures.plain), tt))
+
+pub returns-in-Unresolved : goal.returns-in-Unresolved
+returns-in-Unresolved c = in_case _ _ _ _ c.in-Unresolved.is c.unresolved_value.ensures (coded_spelled (codes "unresolved") (path_part (codes "path") c.in-Unresolved.path ∷ []) refl ((refl, string_spelled (text_of c.in-Unresolved.path)), tt))
+
+pub returns-in-Denied : goal.returns-in-Denied
+returns-in-Denied c =
+    let path = denied_path c.in-Denied.place in
+    let rule = c.in-Denied.rule in
+    in_case _ _ _ _ c.in-Denied.is c.denied_value.ensures (coded_spelled (codes "denied") (path_part (codes "path") path ∷ (codes "rule", maybe_number_data rule, maybe_number_text rule) ∷ []) refl ((refl, string_spelled (text_of path)), ((refl, maybe_number_spelled rule), tt)))
+
+pub returns-in-BadPolicy : goal.returns-in-BadPolicy
+returns-in-BadPolicy c = in_case _ _ _ _ c.in-BadPolicy.is c.line_value.ensures (coded_spelled (codes "bad-policy") (number_part (codes "line") c.in-BadPolicy.line ∷ []) refl ((refl, number_spelled c.in-BadPolicy.line), tt))
+
 pub returns-in-NoParent : goal.returns-in-NoParent
-returns-in-NoParent c = in_case _ _ _ _ c.in-NoParent.is c.coded_id_value.ensures.value (coded_spelled (codes "no-parent") (id_part c.in-NoParent.id ∷ []) refl ((refl, id_spelled c.in-NoParent.id c.coded_id_value.ensures.plain), tt))
+returns-in-NoParent c = in_case _ _ _ _ c.in-NoParent.is c.coded_id_value-in-NoParent.ensures.value (coded_spelled (codes "no-parent") (id_part c.in-NoParent.id ∷ []) refl ((refl, id_spelled c.in-NoParent.id c.coded_id_value-in-NoParent.ensures.plain), tt))
 
 pub returns-in-NoContent : goal.returns-in-NoContent
 returns-in-NoContent c = in_case _ _ _ _ c.in-NoContent.is c.missing_content_value.ensures.value (coded_spelled (codes "missing-content") (id_part c.in-NoContent.id ∷ path_part (codes "path") c.in-NoContent.path ∷ []) refl ((refl, id_spelled c.in-NoContent.id c.missing_content_value.ensures.plain), ((refl, string_spelled (text_of c.in-NoContent.path)), tt)))

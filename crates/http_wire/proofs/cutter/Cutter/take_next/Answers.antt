@@ -32,7 +32,7 @@ abbrev waiting_bytes : goal.After-self-in-Head-3-1 → List ℕ
 waiting_bytes c = take (length c.as_slice.result.now - c.self.inside.start) (drop c.self.inside.start c.as_slice.result.now)
 
 abbrev asked : goal.After-self-in-Head-3-1 → model.Request
-asked c = request_at (take c.in-Head.len (waiting_bytes c)) c.in-Head.spans c.in-Head.framing.close (take ((c.in-Head.len + c.in-Head.framing.body) - c.in-Head.len) (drop c.in-Head.len (waiting_bytes c)))
+asked c = request_at (take c.in-Head.len (waiting_bytes c)) c.in-Head.spans c.in-Head.framing (take ((c.in-Head.len + c.in-Head.framing.body) - c.in-Head.len) (drop c.in-Head.len (waiting_bytes c)))
 
 abbrev left : goal.After-self-in-Head-3-1 → List ℕ
 left c = drop (c.self.inside.start + (c.in-Head.len + c.in-Head.framing.body)) c.self.inside.bytes.items

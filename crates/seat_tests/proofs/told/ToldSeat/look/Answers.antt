@@ -5,7 +5,7 @@ use Rattle.reply_model.specs.After.{Answer, Call, Looks, Shows}
 use Rattle.reply_model.specs.Log.{lines_of}
 use Rattle.reply_model.specs.Reply.{SeenLog}
 use Rattle.repo_calls.specs.declared.calls.AskFault.{AskFault}
-use Rattle.repo_calls.specs.declared.calls.AskFault.TheVariants.{NoContent, NoChangeset, NoPath, NotADir, NotAFile, Collision, ReadFault, BadBytes, Memory}
+use Rattle.repo_calls.specs.declared.calls.AskFault.TheVariants.{NoContent, NoChangeset, NoPath, NotADir, NotAFile, NoPolicy, Collision, ReadFault, BadBytes, Memory}
 use Rattle.repo_calls.specs.declared.calls.Question.{Question}
 use Rattle.repo_calls.specs.declared.calls.Question.TheVariants.{Log}
 use Rattle.repo_calls.specs.declared.calls.Seen.{Seen}
@@ -21,6 +21,7 @@ is_told call (NoChangeset id) = tt
 is_told call NoPath = tt
 is_told call NotADir = tt
 is_told call NotAFile = tt
+is_told call NoPolicy = tt
 is_told call (Collision id) = tt
 is_told call ReadFault = tt
 is_told call (BadBytes wanted found) = tt
@@ -36,8 +37,17 @@ returns-in_err-node-in-Fsnode-clause-reply c = told (Looks (question_seen c.args
 pub returns-in_err-node-in-Unode-clause-reply : goal.returns-in_err-node-in-Unode-clause-reply
 returns-in_err-node-in-Unode-clause-reply c = told (Looks (question_seen c.args.question.now)) c.from_residual-in_err-node-in-Unode.result c.from_residual-in_err-node-in-Unode.ensures.0
 
+pub returns-in_err-node-in-Deleted-clause-reply : goal.returns-in_err-node-in-Deleted-clause-reply
+returns-in_err-node-in-Deleted-clause-reply c = told (Looks (question_seen c.args.question.now)) c.from_residual-in_err-node-in-Deleted.result c.from_residual-in_err-node-in-Deleted.ensures.0
+
 pub returns-in_err-history-in-History-clause-reply : goal.returns-in_err-history-in-History-clause-reply
 returns-in_err-history-in-History-clause-reply c = told (Looks (question_seen c.args.question.now)) c.from_residual-in_err-history-in-History.result c.from_residual-in_err-history-in-History.ensures.0
+
+pub returns-in_err-history-in-PathLog-clause-reply : goal.returns-in_err-history-in-PathLog-clause-reply
+returns-in_err-history-in-PathLog-clause-reply c = told (Looks (question_seen c.args.question.now)) c.from_residual-in_err-history-in-PathLog.result c.from_residual-in_err-history-in-PathLog.ensures.0
+
+pub returns-in_err-policy-in-Policy-clause-reply : goal.returns-in_err-policy-in-Policy-clause-reply
+returns-in_err-policy-in-Policy-clause-reply c = told (Looks (question_seen c.args.question.now)) c.from_residual-in_err-policy-in-Policy.result c.from_residual-in_err-policy-in-Policy.ensures.0
 
 pub returns-in_err-copies-in-Copies-clause-reply : goal.returns-in_err-copies-in-Copies-clause-reply
 returns-in_err-copies-in-Copies-clause-reply c = told (Looks (question_seen c.args.question.now)) c.from_residual-in_err-copies-in-Copies.result c.from_residual-in_err-copies-in-Copies.ensures.0
