@@ -8,7 +8,7 @@ use Rattle.history_model.specs.History.{Body, Content, Whole, Change, Book, Land
 use Rattle.history_model.specs.Journal.{Header}
 use Rattle.http_model.specs.Stream.{Request}
 use Rattle.reply_model.specs.After.{Call, Asks, Joins, Looks, Derives, Answer, entry_by, entries_of}
-use Rattle.reply_model.specs.Reply.{PutContent, PutWhole, PutChangeset, SetBookmark, LandDraft}
+use Rattle.reply_model.specs.Reply.{PutContent, PutWhole, PutChangeset, SetBookmark, LandDraft, SetPolicy}
 use Rattle.session_model.specs.Asking as asking
 use Rattle.session_model.specs.Asking.{Asked, asked}
 use Rattle.session_model.specs.Dating.{Dated}
@@ -63,13 +63,13 @@ dated_add tells honest header h who (Asks (PutWhole body pieces)) answer after r
 dated_add tells honest header h who (Asks (PutChangeset bytes)) answer after r = replies_add header h who (Asks (PutChangeset bytes)) answer after r.answered
 dated_add tells honest header h who (Asks (SetBookmark caller name from to)) answer after r = replies_add header h who (Asks (SetBookmark caller name from to)) answer after r.answered
 dated_add tells honest header h who (Asks (LandDraft caller name draft moment)) answer after r = replies_add header h who (Asks (LandDraft caller name draft r.0)) answer after r.2.answered
+dated_add tells honest header h who (Asks (SetPolicy caller text)) answer after r = replies_add header h who (Asks (SetPolicy caller text)) answer after r.answered
 dated_add tells honest header h who (Joins body) answer after r = replies_add header h who (Joins body) answer after r.answered
 dated_add tells honest header h who (Looks question) answer after r = replies_add header h who (Looks question) answer after r.answered
 dated_add tells honest header h who (Derives x) answer after r = replies_add header h who (Derives x) answer after r.answered
 
 asked_adds : (tells : ℕ → Type 0) (honest : Bool) (header : Header) (who : ℕ) (h : List Entry) (a : Asked) (q : Request) (out : List ℕ) (after : List Entry) → AnswersAsked (Dated tells (Honestly honest RepliesAlone)) header who h a q out after → Adds who h after
-asked_adds tells honest header who h (asking.Change ask) q out after answers = dated_add tells honest header h who (Asks ask) answers.answer after answers.answered
-asked_adds tells honest header who h (asking.Read question) q out after answers = dated_add tells honest header h who (Looks question) answers.answer after answers.answered
+asked_adds tells honest header who h (asking.Calls call) q out after answers = dated_add tells honest header h who call answers.answer after answers.answered
 asked_adds tells honest header who h (asking.Fails r) q out after answers = nothing_added who h after answers.same
 
 answers_add : (tells : ℕ → Type 0) (honest : Bool) (header : Header) (who : ℕ) (h : List Entry) (q : Request) (out : List ℕ) (after : List Entry) → Answers (Dated tells (Honestly honest RepliesAlone)) header who h q out after → Adds who h after

@@ -9,7 +9,7 @@ use Rattle.ports.specs.Openers.{Shelf, given}
 use Rattle.disk_model.specs.Images.{IsImage}
 use Rattle.disk_model.specs.Meaning.{Meaning, IsLong}
 use Rattle.disk_model.specs.Calls.{Kept, LeavesOnly, Looked}
-use Rattle.changeset_model.specs.Version.{First}
+use Rattle.changeset_model.specs.Version.{Second}
 use Rattle.history_model.specs.Journal.{Keeps}
 use Rattle.repo_journal.specs.Sealing.{Makes}
 use Rattle.repo_journal.specs.declared.header.TheConstants.{EMPTY_SIZE}
@@ -19,11 +19,11 @@ use Rattle.command_line.specs.declared.report.Report.TheVariants.{Ready, Counted
 abbrev pub Unopened : Report → ℕ → ℕ → Type 0
 Unopened report before after = (report ≡ DiskFault) × Rose before after
 
--- the file was empty, and is that of a repository without an entry, of the first version
+-- the file was empty, and is that of a repository without an entry, of the second version
 pub record IsMade (capacity made : ℕ) (old new : Meaning) : Type 0 where
   pub made_is : made ≡ capacity
   pub empty : ForSome old.reads (λ file. length file ≡ 0)
-  pub stands : IsTrue old.honest → Keeps (record { capacity = capacity; version = First }) (IsImage new.state) []
+  pub stands : IsTrue old.honest → Keeps (record { capacity = capacity; version = Second }) (IsImage new.state) []
   pub long : IsLong new.reads EMPTY_SIZE
 
 -- the file has bytes, and stays as it was

@@ -1,7 +1,7 @@
 //! Making a repository.
 ghost use Rattle.std.specs.Prelude.{◌≡◌, true, IfSome, IsTrue, None, is_none};
 ghost use Rattle.ports.specs.Faults.{Counts};
-ghost use Rattle.changeset_model.specs.Version.{First};
+ghost use Rattle.changeset_model.specs.Version.{Second};
 ghost use Rattle.history_model.specs.Journal.{is_header};
 ghost use Rattle.command_line.specs.Making.{Attempts, AttemptsIn, Unopened};
 
@@ -11,9 +11,9 @@ use blob_disk::Disk;
 use ports::Opener;
 use repo_journal::{InitFault, init};
 
-/// Makes a repository with a capacity in bytes, of the first version, in the file of this name, which is made where there is none.
+/// Makes a repository with a capacity in bytes, of the second version, in the file of this name, which is made where there is none.
 pub fn init_file<D: Disk, O: Opener<D>>(opener: &mut O, file: &str, capacity: u64) -> Outcome<D>
-    requires { IsTrue (is_header (record { capacity = capacity; version = First })) }
+    requires { IsTrue (is_header (record { capacity = capacity; version = Second })) }
     ensures unopened { result.disk ≡ None → Unopened result.report (O.faults opener.old) (O.faults opener.new) }
     ensures opened { IfSome result.disk (λ disk. AttemptsIn D.meaning file.now capacity (O.shelf opener.old) disk result.report) }
     ensures faults { Counts (O.faults opener.old) (O.faults opener.new) (is_none result.disk) }
@@ -32,7 +32,7 @@ pub fn init_file<D: Disk, O: Opener<D>>(opener: &mut O, file: &str, capacity: u6
 }
 
 fn init_disk<D: Disk>(disk: &mut D, capacity: u64) -> Report
-    requires { IsTrue (is_header (record { capacity = capacity; version = First })) }
+    requires { IsTrue (is_header (record { capacity = capacity; version = Second })) }
     ensures { Attempts capacity (D.meaning disk.old) (D.meaning disk.new) result }
 {
     match init(disk, capacity) {

@@ -107,12 +107,14 @@ fn left<R: Wait>(rt: &R, alloc: Global) -> Result<(u64, Id), Fail> {
 }
 
 fn land<S: Seat>(alloc: Global, seat: &mut S) -> Result<(), Fail> {
+    let caller = &BookName::parse(alloc, "ann")?;
     let name = &BookName::parse(alloc, "main")?;
     let draft = Id::from_hex(BLOCKING_ID)?;
     let moment = 0;
     seat.change(
         alloc,
         &Ask::Land {
+            caller,
             name,
             draft,
             moment,

@@ -12,7 +12,7 @@ use Rattle.reply_model.specs.Opening.{nobody}
 use Rattle.reply_model.specs.After.{After, Answer, Asks, entries_of}
 use Rattle.reply_model.proofs.Fronts.{replies_after}
 use Rattle.byte_fields.proofs.Lists.{prefix_self}
-use Rattle.repo_calls.specs.Calls.{granted_seen, refused}
+use Rattle.repo_calls.specs.Calls.{denied_path, granted_seen, refused}
 use Rattle.repo_calls.specs.declared.ask.Granted.{Granted}
 use Rattle.repo_calls.specs.declared.refusal.Refusal as own
 use Rattle.repo_calls.specs.declared.refusal.Refusal.TheVariants as refusals
@@ -30,13 +30,13 @@ use Rattle.repo_state.specs.Alone.{RepliesAlone}
 use Rattle.repo_state.specs.State.{HasNoFault, IsQuiet, IsSealedAlone}
 use Rattle.repo_calls.specs.Asking.{stored_answer}
 use Rattle.repo_calls.specs.declared.calls.ChangeFault.{ChangeFault}
-use Rattle.repo_calls.specs.declared.calls.ChangeFault.TheVariants.{Refused, DiskFault}
+use Rattle.repo_calls.specs.declared.calls.ChangeFault.TheVariants.{Refused, DiskFault, ReadFault, BadBytes}
 use Rattle.run_gen.specs.Stacks.{base, base_id, main}
 use Rattle.run_gen.specs.Loads.{base_entry}
 use Rattle.run_gen.specs.declared.fault.LoadFault.TheVariants.{Memory as NoMemory}
 use Rattle.run_gen.specs.Begun.{Enters, IsFresh, MayBe, load_capacity, load_header}
 use Rattle.run_gen.specs.Outcomes.{fault_of}
-use Rattle.run_gen.proofs.Outcomes.{never_fails}
+use Rattle.run_gen.proofs.Outcomes.{never_fails, never_misread, never_unread}
 
 base_judged : judge load_header [] (PutChangeset (spelling base)) ≡ Ok (record { granted = ChangesetPut base_id; made = Some (Change base) })
 unfolding is_utf8 chars lib.Utf8.encode
@@ -63,9 +63,14 @@ module _ (header : Header) (h : List Entry) (ask : Ask) (granted : reply.Granted
   refusal_is (refusals.BadEncoding at) a = never_refused (reply.BadEncoding at) a.answers.1
   refusal_is (refusals.SelfConflict short long) a = never_refused (reply.SelfConflict short long) a.answers.1
   refusal_is refusals.Merge a = never_refused reply.Merge a.answers.1
+  refusal_is (refusals.BadParts length) a = never_refused (reply.BadParts length) a.answers.1
+  refusal_is refusals.OldFormat a = never_refused reply.OldFormat a.answers.1
+  refusal_is (refusals.NoPiece id) a = never_refused (reply.NoPiece id) a.answers.1
+  refusal_is (refusals.NotAPiece id) a = never_refused (reply.NotAPiece id) a.answers.1
   refusal_is (refusals.NoParent id) a = never_refused (reply.NoParent id) a.answers.1
   refusal_is (refusals.NoContent path id) a = never_refused (reply.NoContent path id) a.answers.1
   refusal_is (refusals.WrongSize path wanted found) a = never_refused (reply.WrongSize path wanted found) a.answers.1
+  refusal_is (refusals.Unresolved path) a = never_refused (reply.Unresolved path) a.answers.1
   refusal_is (refusals.Collision id) a = never_refused (reply.Collision id) a.answers.1
   refusal_is (refusals.NoChangeset id) a = never_refused (reply.NoChangeset id) a.answers.1
   refusal_is (refusals.Moved found) a = never_refused (reply.Moved found) a.answers.1
@@ -74,8 +79,12 @@ module _ (header : Header) (h : List Entry) (ask : Ask) (granted : reply.Granted
   refusal_is (refusals.TooFarBehind distance) a = never_refused (reply.TooFarBehind distance) a.answers.1
   refusal_is refusals.AlreadyIn a = never_refused reply.AlreadyIn a.answers.1
   refusal_is (refusals.StackTooLong count) a = never_refused (reply.StackTooLong count) a.answers.1
+  refusal_is (refusals.MergeInStack id) a = never_refused (reply.MergeInStack id) a.answers.1
+  refusal_is (refusals.MergeInRange id) a = never_refused (reply.MergeInRange id) a.answers.1
+  refusal_is (refusals.Denied place rule) a = never_refused (reply.Denied (denied_path place) rule) a.answers.1
   refusal_is (refusals.Clash left right) a = never_refused (reply.Clash left right) a.answers.1
   refusal_is (refusals.TooLarge length) a = never_refused (reply.TooLarge length) a.answers.1
+  refusal_is (refusals.BadPolicy line) a = never_refused (reply.BadPolicy line) a.answers.1
   refusal_is (refusals.Full size length) a = never_refused (reply.Full size length) a.answers.1
   refusal_is refusals.Memory a = refl
 
@@ -86,6 +95,8 @@ module _ (header : Header) (h : List Entry) (ask : Ask) (granted : reply.Granted
   may_be (Ok g) a none = tt
   may_be (Err (Refused refusal)) a none = refusal_is refusal a
   may_be (Err DiskFault) a none = never_fails header 0 h new ask (after (stored_answer (Err DiskFault)) a) none
+  may_be (Err ReadFault) a none = never_unread header 0 h new ask (after (stored_answer (Err ReadFault)) a)
+  may_be (Err (BadBytes wanted found)) a none = never_misread header 0 h new ask wanted found (after (stored_answer (Err (BadBytes wanted found))) a)
 
   same_made : (g : reply.Granted) (made : Option Body) → judge header h ask ≡ Ok (record { granted = g; made = made }) → made ≡ Some body
   same_made g made got = ap (λ (r : Result Judged Refusal). made_in r) (sym got ∙ is)

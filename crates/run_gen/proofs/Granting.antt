@@ -1,17 +1,22 @@
 -- What a change is granted, and the entry that it makes.
 use Rattle.std.proofs.Common.{◌≡◌, ◌≢◌, ◌<◌, ℕ, true, false, Bool, cond, List, [], ◌∷◌, map, length, refl, subst, arith}
 use Rattle.std.specs.Prelude.{Option, None, Some, option_map, Result, Ok, Err, is_some, find, bytes_eq, nat_lt, ok_or, ◌==◌, not}
+use Rattle.std.specs.List.{concat}
 use Rattle.std.specs.Option.{option_eq, option_to_list}
+use Rattle.std.specs.Result.{result_err}
 use Rattle.std.proofs.lemmas.Bool.{eqb-false}
 use Rattle.sha2.specs.Sha256.{sha256}
 use Rattle.byte_fields.specs.Bytes.{Id, first_some}
 use Rattle.changeset_model.specs.Changeset.{Changeset, id_of, sets_of, touched_paths}
 use Rattle.changeset_model.specs.Decoding.{decoded}
-use Rattle.history_model.specs.History.{Body, Content, Whole, Change, Book, Land, Policy, Fault, Entry, is_down, known, is_known, content_len}
+use Rattle.changeset_model.specs.Version.{is_second}
+use Rattle.history_model.specs.History.{Body, Content, Whole, Change, Book, Land, Policy, Fault, Entry, stored, is_down, known, is_known, content_len}
 use Rattle.history_model.specs.Bookmark.{head}
 use Rattle.history_model.specs.Pushrebase.{fork, clash, rewrite, moment_of}
 use Rattle.history_model.specs.Journal.{Header, payload_len, most_payload, size, is_full}
-use Rattle.reply_model.specs.Reply.{told, is_merge, unresolved_of, Down, Merge, NoParent, Unresolved, MergeInStack, MergeInRange, content_refusal, collides, Collision, NoChangeset, Moved, TooLarge, first_collision, NoBookmark, NoRoot, TooFarBehind, AlreadyIn, StackTooLong, Clash, most_range, most_stack, Ask, PutContent, PutWhole, PutChangeset, SetBookmark, LandDraft, Refusal, Granted, ContentPut, ChangesetPut, BookmarkSet, Landed, Judged, ◌>>=◌, Full, refuse_if, refuse_some, unchanged, entered, put_content, accepted, put_changeset, set_bookmark, enter_landing, land, by_ask, judge}
+use Rattle.policy_model.specs.Grammar.{parse}
+use Rattle.policy_model.specs.Rules.{bookmark_place, policy_place}
+use Rattle.reply_model.specs.Reply.{denial, denied_at, parts_of, OldFormat, BadPolicy, WholePut, PolicySet, SetPolicy, put_whole, set_policy, told, is_merge, unresolved_of, Down, Merge, NoParent, Unresolved, MergeInStack, MergeInRange, content_refusal, collides, Collision, NoChangeset, Moved, TooLarge, first_collision, NoBookmark, NoRoot, TooFarBehind, AlreadyIn, StackTooLong, Clash, most_range, most_stack, Ask, PutContent, PutWhole, PutChangeset, SetBookmark, LandDraft, Refusal, Granted, ContentPut, ChangesetPut, BookmarkSet, Landed, Judged, ◌>>=◌, Full, refuse_if, refuse_some, unchanged, entered, put_content, accepted, put_changeset, set_bookmark, enter_landing, land, by_ask, judge}
 use Rattle.run_gen.specs.Calls.{heads_in, landings_in}
 use Rattle.run_gen.specs.Grants.{FitsAsk}
 use Rattle.opening_laws.proofs.Made.{not_refused as passed}
@@ -36,6 +41,7 @@ KeptIn (PutWhole body pieces) made = KeptBy made
 KeptIn (PutChangeset bytes) made = KeptBy made
 KeptIn (SetBookmark caller name from to) made = Unit {0}
 KeptIn (LandDraft caller name draft moment) made = KeptBy made
+KeptIn (SetPolicy caller text) made = KeptBy made
 
 pub record Suits (ask : Ask) (granted : Granted) (made : Option Body) : Type 0 where
   pub landings : landings_in (option_to_list made) ≡ length (heads_in granted)
@@ -72,6 +78,15 @@ content_suits header h bytes =
     through ask _ (λ _. cond (is_some (content_len h (sha256 bytes))) (unchanged granted) (entered header h granted body))
     (λ _ _. either ask (is_some (content_len h (sha256 bytes))) _ _ (one ask granted (record { landings = refl; kept = tt; fits = refl })) (entering header h ask granted body (record { landings = refl; kept = tt; fits = refl })))
 
+whole_suits : (header : Header) (h : List Entry) (body : List ℕ) (pieces : List (List ℕ)) → Granting (PutWhole body pieces) (put_whole header h body pieces)
+whole_suits header h body pieces =
+    let ask : Ask = PutWhole body pieces in
+    let x : Id = sha256 (concat pieces) in
+    let n : ℕ = length (concat pieces) in
+    through ask (parts_of header h body) _ (λ parts _.
+    either ask (is_some (content_len h x)) _ _ (one ask (WholePut x n) (record { landings = refl; kept = tt; fits = refl }))
+    (entering header h ask (WholePut x n) (Whole x n parts) (record { landings = refl; kept = tt; fits = refl })))
+
 changeset_suits : (header : Header) (h : List Entry) (bytes : List ℕ) → Granting (PutChangeset bytes) (put_changeset header h bytes)
 changeset_suits header h bytes =
     let ask : Ask = PutChangeset bytes in
@@ -89,8 +104,17 @@ bookmark_suits header h caller name from to =
     let ask : Ask = SetBookmark caller name from to in
     through ask (refuse_some (find (λ x. not (is_known (known h) x)) (option_to_list to)) NoChangeset) _ (λ _ _.
     through ask (refuse_if (not (option_eq bytes_eq (head h name) from)) (Moved (head h name))) _ (λ _ _.
+    through ask (refuse_some (denied_at h caller (bookmark_place name ∷ [])) denial) _ (λ _ _.
     either ask (option_eq bytes_eq from to) _ _ (one ask BookmarkSet (record { landings = refl; kept = tt; fits = refl }))
-    (entering header h ask BookmarkSet (Book (record { name = name; from = from; to = to; caller = told h caller })) (record { landings = refl; kept = tt; fits = refl }))))
+    (entering header h ask BookmarkSet (Book (record { name = name; from = from; to = to; caller = told h caller })) (record { landings = refl; kept = tt; fits = refl })))))
+
+policy_suits : (header : Header) (h : List Entry) (caller text : List ℕ) → Granting (SetPolicy caller text) (set_policy header h caller text)
+policy_suits header h caller text =
+    let ask : Ask = SetPolicy caller text in
+    through ask (refuse_if (not (is_second header.version)) OldFormat) _ (λ _ _.
+    through ask (refuse_some (result_err (parse text)) BadPolicy) _ (λ _ _.
+    through ask (refuse_some (denied_at h caller (policy_place ∷ [])) denial) _ (λ _ _.
+    entering header h ask (PolicySet (length (stored h))) (Policy caller text) (record { landings = refl; kept = tt; fits = refl }))))
 
 some_rewritten : (stack : List Changeset) (head : Id) (moment : ℕ) → length stack ≢ 0 → 0 < length (rewrite stack head moment)
 some_rewritten [] head moment some = absurd (some refl)
@@ -115,15 +139,17 @@ land_suits header h caller name draft moment =
     through ask (refuse_if (nat_lt most_stack (length f.stack)) (StackTooLong (length f.stack))) _ (λ _ _.
     through ask (refuse_some (option_map id_of (find is_merge f.stack)) MergeInStack) _ (λ _ _.
     through ask (refuse_some (option_map id_of (find is_merge f.range)) MergeInRange) _ (λ _ _.
+    through ask (refuse_some (denied_at h caller (touched_paths f.stack)) denial) _ (λ _ _.
     through ask (refuse_some (clash (touched_paths f.stack) (touched_paths f.range)) (λ pair. Clash pair.0 pair.1)) _ (λ _ _.
-    landing_suits header h caller name (told h caller) old draft (rewrite f.stack old moment) moment (moment_of f.stack moment) (some_rewritten f.stack old moment (eqb-false (length f.stack) 0 (passed (length f.stack == 0) AlreadyIn x e))))))))))))
+    landing_suits header h caller name (told h caller) old draft (rewrite f.stack old moment) moment (moment_of f.stack moment) (some_rewritten f.stack old moment (eqb-false (length f.stack) 0 (passed (length f.stack == 0) AlreadyIn x e)))))))))))))
 
 asked_suits : (header : Header) (h : List Entry) (ask : Ask) → Granting ask (by_ask header h ask)
 asked_suits header h (PutContent bytes) = content_suits header h bytes
-asked_suits header h (PutWhole body pieces) = record { each = tt }
+asked_suits header h (PutWhole body pieces) = whole_suits header h body pieces
 asked_suits header h (PutChangeset bytes) = changeset_suits header h bytes
 asked_suits header h (SetBookmark caller name from to) = bookmark_suits header h caller name from to
 asked_suits header h (LandDraft caller name draft moment) = land_suits header h caller name draft moment
+asked_suits header h (SetPolicy caller text) = policy_suits header h caller text
 
 judging : (header : Header) (h : List Entry) (ask : Ask) → Granting ask (judge header h ask)
 judging header h ask = through ask (refuse_if (is_down h) Down) (λ _. by_ask header h ask) (λ _ _. asked_suits header h ask)

@@ -6,9 +6,9 @@ use Rattle.byte_fields.specs.Bytes.{Id}
 use Rattle.history_model.specs.History.{Entry}
 use Rattle.history_model.specs.Journal.{Header}
 use Rattle.reply_model.specs.Reply as reply
-use Rattle.reply_model.specs.Reply.{Ask, PutContent, PutWhole, PutChangeset, SetBookmark, LandDraft}
-use Rattle.reply_model.specs.After.{After, Asks, DiskFault, Grants}
-use Rattle.repo_calls.specs.Calls.{granted_seen, refused}
+use Rattle.reply_model.specs.Reply.{Ask, PutContent, PutWhole, PutChangeset, SetBookmark, LandDraft, SetPolicy}
+use Rattle.reply_model.specs.After.{After, Asks, BadBytes, DiskFault, Grants, ReadFault}
+use Rattle.repo_calls.specs.Calls.{denied_path, granted_seen, refused}
 use Rattle.repo_calls.specs.declared.ask.Granted.{Granted}
 use Rattle.repo_calls.specs.declared.refusal.Refusal.{Refusal}
 use Rattle.repo_calls.specs.declared.refusal.Refusal.TheVariants as refusals
@@ -34,9 +34,14 @@ module _ (header : Header) (who : ℕ) (from to : List Entry) (ask : Ask) where
   stopped none (refusals.BadEncoding at) a = one_refused header who from to ask (reply.BadEncoding at) a
   stopped none (refusals.SelfConflict short long) a = one_refused header who from to ask (reply.SelfConflict short long) a
   stopped none refusals.Merge a = one_refused header who from to ask reply.Merge a
+  stopped none (refusals.BadParts length) a = one_refused header who from to ask (reply.BadParts length) a
+  stopped none refusals.OldFormat a = one_refused header who from to ask reply.OldFormat a
+  stopped none (refusals.NoPiece id) a = one_refused header who from to ask (reply.NoPiece id) a
+  stopped none (refusals.NotAPiece id) a = one_refused header who from to ask (reply.NotAPiece id) a
   stopped none (refusals.NoParent id) a = one_refused header who from to ask (reply.NoParent id) a
   stopped none (refusals.NoContent path id) a = one_refused header who from to ask (reply.NoContent path id) a
   stopped none (refusals.WrongSize path wanted found) a = one_refused header who from to ask (reply.WrongSize path wanted found) a
+  stopped none (refusals.Unresolved path) a = one_refused header who from to ask (reply.Unresolved path) a
   stopped none (refusals.Collision id) a = one_refused header who from to ask (reply.Collision id) a
   stopped none (refusals.NoChangeset id) a = one_refused header who from to ask (reply.NoChangeset id) a
   stopped none (refusals.Moved found) a = one_refused header who from to ask (reply.Moved found) a
@@ -45,8 +50,12 @@ module _ (header : Header) (who : ℕ) (from to : List Entry) (ask : Ask) where
   stopped none (refusals.TooFarBehind distance) a = one_refused header who from to ask (reply.TooFarBehind distance) a
   stopped none refusals.AlreadyIn a = one_refused header who from to ask reply.AlreadyIn a
   stopped none (refusals.StackTooLong count) a = one_refused header who from to ask (reply.StackTooLong count) a
+  stopped none (refusals.MergeInStack id) a = one_refused header who from to ask (reply.MergeInStack id) a
+  stopped none (refusals.MergeInRange id) a = one_refused header who from to ask (reply.MergeInRange id) a
+  stopped none (refusals.Denied place rule) a = one_refused header who from to ask (reply.Denied (denied_path place) rule) a
   stopped none (refusals.Clash left right) a = one_refused header who from to ask (reply.Clash left right) a
   stopped none (refusals.TooLarge length) a = one_refused header who from to ask (reply.TooLarge length) a
+  stopped none (refusals.BadPolicy line) a = one_refused header who from to ask (reply.BadPolicy line) a
   stopped none (refusals.Full size length) a = one_refused header who from to ask (reply.Full size length) a
   stopped none refusals.Memory a = cut_off header who from to (ask ∷ []) (memory_sees header from who ask to a none)
 
@@ -54,12 +63,20 @@ module _ (header : Header) (who : ℕ) (from to : List Entry) (ask : Ask) where
   pub never_fails : After header from who (Asks ask) DiskFault to → HasNoFault to → ⊥
   never_fails a none = true≢false (sym (a.grows.failed a.answers.0) ∙ is_up to none)
 
+  -- a change that joins no contents reads none
+  pub never_unread : After header from who (Asks ask) ReadFault to → ⊥
+  never_unread a = a.answers
+
+  pub never_misread : (wanted found : Id) → After header from who (Asks ask) (BadBytes wanted found) to → ⊥
+  never_misread wanted found a = a.answers
+
 pub upload_leaves : (ask : Ask) (answer : Result Granted LoadFault) → is_upload ask ≡ true → IfOk answer (λ granted. FitsAsk ask (granted_seen granted)) → heads_left answer ≡ []
 upload_leaves (PutContent bytes) (Ok granted) is fits = fits
 upload_leaves (PutWhole body pieces) (Ok granted) is fits = fits
 upload_leaves (PutChangeset bytes) (Ok granted) is fits = fits
 upload_leaves (SetBookmark caller name from to) (Ok granted) is fits = absurd cc
 upload_leaves (LandDraft caller name draft moment) (Ok granted) is fits = absurd cc
+upload_leaves (SetPolicy caller text) (Ok granted) is fits = absurd cc
 upload_leaves ask (Err fault) is fits = refl
 
 -- ---- the head that a landing left

@@ -8,7 +8,7 @@ use Rattle.std.specs.Option.{option_to_list}
 use Rattle.byte_fields.specs.Bytes.{Id}
 use Rattle.history_model.specs.History.{Body, Content, Whole, Change, Book, Land, Policy, Fault, Entry}
 use Rattle.history_model.specs.Journal.{Header}
-use Rattle.reply_model.specs.Reply.{Ask, Granted, ContentPut, WholePut, ChangesetPut, BookmarkSet, Landed}
+use Rattle.reply_model.specs.Reply.{Ask, Granted, ContentPut, WholePut, ChangesetPut, BookmarkSet, Landed, PolicySet}
 use Rattle.reply_model.specs.After.{After, Asks, Grants}
 
 pub record Call : Type 0 where
@@ -37,6 +37,7 @@ heads_in (WholePut x n) = []
 heads_in (ChangesetPut x) = []
 heads_in BookmarkSet = []
 heads_in (Landed old ids) = last_id old ids ∷ []
+heads_in (PolicySet n) = []
 
 abbrev pub asks_of : List Call → List Ask
 asks_of calls = map (λ call. call.ask) calls

@@ -13,3 +13,4 @@ pub mod Answers
 pub mod Clients
 pub mod Running
 pub mod Loads
+pub mod Naming

@@ -1,22 +1,26 @@
 //! One change that a client asks for.
 ghost use Rattle.std.specs.Prelude.{◌≡◌, ◌∷◌, [], IfOk, IsTrue};
 ghost use Rattle.bookmark_lock.specs.Place.{moved};
+ghost use Rattle.reply_model.specs.After.{Asks};
+ghost use Rattle.reply_model.specs.Reply as model;
 ghost use Rattle.reply_model.specs.Reply.{LandDraft};
 ghost use Rattle.reply_model.specs.Opening.{nobody};
-ghost use Rattle.repo_calls.specs.Calls.{ask_seen, granted_seen};
+ghost use Rattle.repo_calls.specs.Calls.{call_seen, granted_seen};
 ghost use Rattle.repo_state.specs.State.{IsQuiet};
 ghost use Rattle.run_gen.specs.Answers.{Answered};
 ghost use Rattle.run_gen.specs.Calls.{heads_in, last_id};
 ghost use Rattle.run_gen.specs.Grants.{FitsAsk, IsLanding, IsSameOutcome};
 ghost use Rattle.run_gen.specs.Outcomes.{fault_of as fault_seen, heads_given, heads_left};
+ghost use Rattle.run_gen.specs.Naming.{IsNamed};
 ghost use Rattle.run_gen.specs.Parts.{is_upload};
+ghost use Rattle.run_gen.specs.Stacks.{main};
 
 use crate::LoadFault;
+use crate::names::Names;
 use blob_disk::Disk;
 use object_id::Id;
 use ports::NoGate;
 use repo_calls::{Ask, ChangeFault, Granted, Landed, Refusal};
-use repo_path::BookName;
 use shared_repo::{Repo, RepoSeat};
 use std::alloc::Global;
 use std::sync::Wait;
@@ -32,9 +36,14 @@ pub(crate) fn fault_of(refusal: Refusal) -> LoadFault
         | Refusal::BadEncoding { .. }
         | Refusal::SelfConflict { .. }
         | Refusal::Merge
+        | Refusal::BadParts { .. }
+        | Refusal::OldFormat
+        | Refusal::NoPiece { .. }
+        | Refusal::NotAPiece { .. }
         | Refusal::NoParent { .. }
         | Refusal::NoContent { .. }
         | Refusal::WrongSize { .. }
+        | Refusal::Unresolved { .. }
         | Refusal::Collision { .. }
         | Refusal::NoChangeset { .. }
         | Refusal::Moved { .. }
@@ -43,13 +52,17 @@ pub(crate) fn fault_of(refusal: Refusal) -> LoadFault
         | Refusal::TooFarBehind { .. }
         | Refusal::AlreadyIn
         | Refusal::StackTooLong { .. }
+        | Refusal::MergeInStack { .. }
+        | Refusal::MergeInRange { .. }
+        | Refusal::Denied { .. }
         | Refusal::Clash { .. }
         | Refusal::TooLarge { .. }
+        | Refusal::BadPolicy { .. }
         | Refusal::Full { .. } => LoadFault::Refused,
     }
 }
 
-// Asks for a change. No call of the disk fails.
+// Asks for a change, which joins no contents. No call of the disk fails.
 fn ask<R: Wait, D: Disk>(
     rt: &R,
     alloc: Global,
@@ -59,14 +72,18 @@ fn ask<R: Wait, D: Disk>(
 ) -> Result<Granted, LoadFault>
     requires place { seat.old.lock ≡ repo.now }
     requires quiet { IsQuiet repo.now.opening }
+    requires asks { (asked : model.Ask) × (call_seen change.now ≡ Asks asked) }
     ensures seat { seat.new ≡ moved seat.old seat.new }
-    ensures answered { Answered repo.now.opening.header seat.old.number seat.old.front (ask_seen change.now ∷ []) (heads_left result) result seat.new.front }
-    ensures fits { IfOk result (λ granted. FitsAsk (ask_seen change.now) (granted_seen granted)) }
+    ensures answered { (asked : model.Ask) → call_seen change.now ≡ Asks asked
+        → Answered repo.now.opening.header seat.old.number seat.old.front (asked ∷ []) (heads_left result) result seat.new.front }
+    ensures fits { (asked : model.Ask) → call_seen change.now ≡ Asks asked → IfOk result (λ granted. FitsAsk asked (granted_seen granted)) }
 {
     match repo.change(rt, alloc, seat, change, &NoGate) {
         Ok(granted) => Ok(granted),
         Err(ChangeFault::Refused(refusal)) => Err(fault_of(refusal)),
         Err(ChangeFault::DiskFault) => unreachable!(),
+        Err(ChangeFault::ReadFault) => unreachable!(),
+        Err(ChangeFault::BadBytes { .. }) => unreachable!(),
     }
 }
 
@@ -80,9 +97,10 @@ pub(crate) fn put<R: Wait, D: Disk>(
 ) -> Result<(), LoadFault>
     requires place { seat.old.lock ≡ repo.now }
     requires quiet { IsQuiet repo.now.opening }
-    requires upload { IsTrue (is_upload (ask_seen upload.now)) }
+    requires upload { (asked : model.Ask) × (call_seen upload.now ≡ Asks asked) × IsTrue (is_upload asked) }
     ensures seat { seat.new ≡ moved seat.old seat.new }
-    ensures answered { Answered repo.now.opening.header seat.old.number seat.old.front (ask_seen upload.now ∷ []) [] result seat.new.front }
+    ensures answered { (asked : model.Ask) → call_seen upload.now ≡ Asks asked
+        → Answered repo.now.opening.header seat.old.number seat.old.front (asked ∷ []) [] result seat.new.front }
 {
     let answer = ask(rt, alloc, repo, seat, upload);
     whether(answer)
@@ -108,22 +126,24 @@ fn head_of(landed: &Landed) -> Id
     }
 }
 
-/// Asks for a landing at the moment 0, and gives the head that it left.
+/// Asks for a landing at the moment 0, for a caller who isn't named, and gives the head that it left.
 pub(crate) fn land<R: Wait, D: Disk>(
     rt: &R,
     alloc: Global,
     repo: &Repo<D>,
     seat: &mut RepoSeat,
-    name: &BookName,
+    names: &Names,
     draft: Id,
 ) -> Result<Id, LoadFault>
     requires place { seat.old.lock ≡ repo.now }
     requires quiet { IsQuiet repo.now.opening }
+    requires names { IsNamed names.now }
     ensures seat { seat.new ≡ moved seat.old seat.new }
-    ensures answered { Answered repo.now.opening.header seat.old.number seat.old.front (LandDraft nobody name.now draft 0 ∷ []) (heads_given result) result seat.new.front }
+    ensures answered { Answered repo.now.opening.header seat.old.number seat.old.front (LandDraft nobody main draft 0 ∷ []) (heads_given result) result seat.new.front }
 {
     let landing = Ask::Land {
-        name,
+        caller: &names.caller,
+        name: &names.main,
         draft,
         moment: 0,
     };
@@ -150,7 +170,9 @@ fn head_in(granted: Granted) -> Id
     match granted {
         Granted::Landing(landed) => head_of(&landed),
         Granted::Content(_) => unreachable!(),
+        Granted::Whole { .. } => unreachable!(),
         Granted::Changeset(_) => unreachable!(),
         Granted::Bookmark => unreachable!(),
+        Granted::Policy { .. } => unreachable!(),
     }
 }

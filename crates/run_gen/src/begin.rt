@@ -2,12 +2,14 @@
 ghost use Rattle.std.specs.Prelude.{◌≡◌, ◌∷◌, ◌++◌, [], IfOk, IsOk, OnOk};
 ghost use Rattle.blob_disk.specs.MemDisk.{told_of};
 ghost use Rattle.history_model.specs.History.{Body, unnumbered};
-ghost use Rattle.repo_calls.specs.Calls.{ask_seen};
+ghost use Rattle.reply_model.specs.After.{Asks};
+ghost use Rattle.reply_model.specs.Reply as model;
+ghost use Rattle.repo_calls.specs.Calls.{call_seen};
 ghost use Rattle.repo_state.specs.State.{IsAllSealed, IsQuiet};
 ghost use Rattle.run_gen.specs.Begun.{Enters, IsFresh, IsLed, IsMade, IsNew, MayBe};
 
 use crate::asking::fault_of;
-use crate::clients::main_name;
+use crate::names::Names;
 use crate::{LoadFault, base_encoding};
 use blob_disk::MemDisk;
 use object_id::Id;
@@ -71,16 +73,18 @@ fn whether(answer: Result<Granted, ChangeFault>) -> Result<(), AllocError>
             LoadFault::Refused => unreachable!(),
         },
         Err(ChangeFault::DiskFault) => unreachable!(),
+        Err(ChangeFault::ReadFault) => unreachable!(),
+        Err(ChangeFault::BadBytes { .. }) => unreachable!(),
     }
 }
 
 // Makes a change that is granted, and makes an entry, which is sealed.
 fn store(alloc: Global, state: &mut Alone<MemDisk>, change: &Ask) -> Result<(), AllocError>
     requires quiet { IsQuiet state.old.opening }
-    requires enters { (body : Body) × Enters state.old.header state.old.history (ask_seen change.now) body }
+    requires enters { (asked : model.Ask) × (call_seen change.now ≡ Asks asked) × (body : Body) × Enters state.old.header state.old.history asked body }
     ensures header { state.new.header ≡ state.old.header }
     ensures opening { state.new.opening ≡ state.old.opening }
-    ensures entered { (body : Body) → Enters state.old.header state.old.history (ask_seen change.now) body → OnOk result (state.new.history ≡ state.old.history ++ unnumbered body ∷ []) }
+    ensures entered { (asked : model.Ask) (body : Body) → call_seen change.now ≡ Asks asked → Enters state.old.header state.old.history asked body → OnOk result (state.new.history ≡ state.old.history ++ unnumbered body ∷ []) }
 {
     let answer = state.store(alloc, change);
     whether(answer)
@@ -91,7 +95,7 @@ fn lead(alloc: Global, state: &mut Alone<MemDisk>) -> Result<(), AllocError>
     requires { IsNew state.old }
     ensures { OnOk result (IsLed state.new) }
 {
-    let name = main_name(alloc)?;
+    let names = Names::new(alloc)?;
     let base = base_encoding();
     store(alloc, state, &Ask::PutChangeset(&base))?;
     let to = Some(Id::of(&base));
@@ -99,7 +103,8 @@ fn lead(alloc: Global, state: &mut Alone<MemDisk>) -> Result<(), AllocError>
         alloc,
         state,
         &Ask::SetBookmark {
-            name: &name,
+            caller: &names.caller,
+            name: &names.main,
             from: None,
             to,
         },

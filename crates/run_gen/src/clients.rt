@@ -1,29 +1,18 @@
 //! One client of a load.
-ghost use Rattle.std.specs.Prelude.{◌≡◌, ◌+◌, ◌<◌, ◌^◌, IfOk};
+ghost use Rattle.std.specs.Prelude.{◌≡◌, ◌+◌, ◌<◌, ◌^◌};
 ghost use Rattle.bookmark_lock.specs.Place.{moved};
 ghost use Rattle.repo_state.specs.State.{IsQuiet};
 ghost use Rattle.run_gen.specs.Clients.{Ran};
-ghost use Rattle.run_gen.specs.Stacks.{main};
+ghost use Rattle.run_gen.specs.Naming.{IsNamed};
 
+use crate::names::Names;
 use crate::stack::land_stack;
-use crate::{Draws, LoadFault, MAIN, base_encoding};
+use crate::{Draws, LoadFault, base_encoding};
 use blob_disk::Disk;
 use object_id::Id;
-use repo_path::{BookName, NameFault};
 use shared_repo::{Repo, RepoSeat};
-use std::alloc::{AllocError, Global};
+use std::alloc::Global;
 use std::sync::Wait;
-
-/// The name of the bookmark that stacks are landed on.
-pub(crate) fn main_name(alloc: Global) -> Result<BookName, AllocError>
-    ensures { IfOk result (λ name. name ≡ main) }
-{
-    match BookName::parse(alloc, MAIN) {
-        Ok(name) => Ok(name),
-        Err(NameFault::BadName { at: _ }) => unreachable!(),
-        Err(NameFault::Memory) => Err(AllocError),
-    }
-}
 
 // Lands the stacks, one after another.
 fn land_all<R: Wait, D: Disk>(
@@ -31,14 +20,14 @@ fn land_all<R: Wait, D: Disk>(
     alloc: Global,
     repo: &Repo<D>,
     seat: &mut RepoSeat,
-    name: &BookName,
+    names: &Names,
     number: u64,
     seed: u64,
     stacks: u64,
 ) -> Result<(), LoadFault>
     requires place { seat.old.lock ≡ repo.now }
     requires quiet { IsQuiet repo.now.opening }
-    requires name { name.now ≡ main }
+    requires names { IsNamed names.now }
     requires number { number < 8 }
     requires seed { seed + number < 2 ^ 64 }
     requires stacks { 0 < stacks }
@@ -49,7 +38,7 @@ fn land_all<R: Wait, D: Disk>(
     let mut parent = Id::of(&base_encoding());
     for stack in 0..stacks {
         match land_stack(
-            rt, alloc, repo, seat, name, &mut draws, number, stack, parent,
+            rt, alloc, repo, seat, names, &mut draws, number, stack, parent,
         ) {
             Ok(head) => parent = head,
             Err(fault) => return Err(fault),
@@ -80,8 +69,8 @@ pub fn client<R: Wait, D: Disk>(
     ensures seat { seat.new ≡ moved seat.old seat.new }
     ensures ran { Ran repo.now.opening.header seat.old.number seat.old.front number seed stacks result seat.new.front }
 {
-    let Ok(name) = main_name(alloc) else {
+    let Ok(names) = Names::new(alloc) else {
         return Err(LoadFault::Memory);
     };
-    land_all(rt, alloc, repo, seat, &name, number, seed, stacks)
+    land_all(rt, alloc, repo, seat, &names, number, seed, stacks)
 }

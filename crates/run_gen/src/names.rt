@@ -1,12 +1,55 @@
-//! The texts of a client's changesets.
+//! The names that a load goes by, and the texts of a client's changesets.
 ghost use Rattle.std.specs.Prelude.{◌≡◌, ◌<◌, IfOk, IsTrue, OnOk, string_bytes};
 ghost use Rattle.changeset_model.specs.Changeset.{is_author, is_message};
 ghost use Rattle.changeset_model.specs.Path.{is_path, text_of};
-ghost use Rattle.run_gen.specs.Stacks.{client_name, message_of, path_of};
+ghost use Rattle.history_model.specs.Bookmark.{is_name};
+ghost use Rattle.run_gen.specs.Naming.{IsNamed};
+ghost use Rattle.run_gen.specs.Stacks.{client_name, main, message_of, path_of};
 
+use crate::MAIN;
 use crate::part::Part;
-use repo_path::{PathFault, RepoPath};
+use repo_path::{BookName, NameFault, PathFault, RepoPath};
 use std::alloc::{AllocError, Global};
+
+// Who lands where nobody is named.
+const NOBODY: &str = "anonymous";
+
+/// The bookmark that stacks are landed on, and who lands them.
+#[derive(Drop)]
+pub(crate) struct Names {
+    pub(crate) main: BookName,
+    pub(crate) caller: BookName,
+}
+
+impl Names {
+    /// The bookmark `main`, and a caller who isn't named.
+    pub(crate) fn new(alloc: Global) -> Result<Names, AllocError>
+        ensures { IfOk result (λ names. IsNamed names) }
+    {
+        Ok(Names {
+            main: main_name(alloc)?,
+            caller: name(alloc, NOBODY)?,
+        })
+    }
+}
+
+/// The name of the bookmark that stacks are landed on.
+pub(crate) fn main_name(alloc: Global) -> Result<BookName, AllocError>
+    ensures { IfOk result (λ name. name ≡ main) }
+{
+    name(alloc, MAIN)
+}
+
+fn name(alloc: Global, text: &str) -> Result<BookName, AllocError>
+    requires { IsTrue (is_name text.now) }
+    ensures { IfOk result (λ name. name ≡ text.now) }
+{
+    match BookName::parse(alloc, text) {
+        Ok(name) => Ok(name),
+        Err(NameFault::BadName { at: _ }) => unreachable!(),
+        Err(NameFault::Memory) => Err(AllocError),
+    }
+}
 
 /// The author of a client's changesets.
 pub(crate) fn author(alloc: Global, client: u64) -> Result<String, AllocError>

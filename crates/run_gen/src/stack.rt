@@ -4,17 +4,18 @@ ghost use Rattle.changeset_model.specs.Changeset.{id_of};
 ghost use Rattle.bookmark_lock.specs.Place.{moved};
 ghost use Rattle.reply_model.specs.Reply.{PutChangeset};
 ghost use Rattle.repo_state.specs.State.{IsQuiet};
-ghost use Rattle.run_gen.specs.Stacks.{after_part, changeset_of, main, part_asks, part_of, parts_on, stack_of};
+ghost use Rattle.run_gen.specs.Stacks.{after_part, changeset_of, part_asks, part_of, parts_on, stack_of};
 ghost use Rattle.run_gen.specs.Answers.{Answered};
 ghost use Rattle.run_gen.specs.Outcomes.{heads_given};
+ghost use Rattle.run_gen.specs.Naming.{IsNamed};
 ghost use Rattle.run_gen.specs.Parts.{content_asks};
 
 use crate::asking::{land, put};
+use crate::names::Names;
 use crate::{Draws, LoadFault, Upload, next_upload};
 use blob_disk::Disk;
 use object_id::Id;
 use repo_calls::Ask;
-use repo_path::BookName;
 use shared_repo::{Repo, RepoSeat};
 use std::alloc::Global;
 use std::sync::Wait;
@@ -128,7 +129,7 @@ pub(crate) fn land_stack<R: Wait, D: Disk>(
     alloc: Global,
     repo: &Repo<D>,
     seat: &mut RepoSeat,
-    name: &BookName,
+    names: &Names,
     draws: &mut Draws,
     client: u64,
     stack: u64,
@@ -136,14 +137,14 @@ pub(crate) fn land_stack<R: Wait, D: Disk>(
 ) -> Result<Id, LoadFault>
     requires place { seat.old.lock ≡ repo.now }
     requires quiet { IsQuiet repo.now.opening }
-    requires name { name.now ≡ main }
+    requires names { IsNamed names.now }
     requires client { client < 8 }
     ensures seat { seat.new ≡ moved seat.old seat.new }
     ensures answered { Answered repo.now.opening.header seat.old.number seat.old.front (stack_of client stack parent draws.old).asks (heads_given result) result seat.new.front }
     ensures state { OnOk result (draws.new ≡ (stack_of client stack parent draws.old).state) }
 {
     match put_parts(rt, alloc, repo, seat, draws, client, stack, parent) {
-        Ok(draft) => land(rt, alloc, repo, seat, name, draft),
+        Ok(draft) => land(rt, alloc, repo, seat, names, draft),
         Err(fault) => Err(fault),
     }
 }

@@ -7,7 +7,7 @@ ghost use Rattle.run_gen.specs.Stacks.{main};
 ghost use Rattle.manifest_model.specs.Fsnode.{fsnode, fsnode_id};
 ghost use Rattle.run_gen.specs.Sums.{SumsUp};
 
-use crate::clients::main_name;
+use crate::names::main_name;
 use blob_disk::Disk;
 use object_id::Id;
 use repo_calls::{Question, Seen};

@@ -1,4 +1,4 @@
-//! A landing between whose plan and entry another connection moves `main` away and back.
+//! A landing between whose plan and entry another connection moves `main` away and back, or sets a policy.
 use crate::gates::FirstWaits;
 use crate::given::opener_of;
 use crate::landings::{LANDED, STORED, requests_of, uploads_of};
@@ -31,6 +31,18 @@ ffb74880ae0d3038b6e6e402ea0840634c79efb3c927e280d44f36567ece7169/6f0fd4791e99010
 /// The log of the file that is left, from the sixth entry on: both moves, and the draft as it was.
 const LOG: &str =
     "HTTP/1.1 200 OK\r\nContent-Type: application/json\r\nContent-Length: 685\r\n\r\n{\"code\":\"log\",\"entries\":[{\"from\":\"ffb74880ae0d3038b6e6e402ea0840634c79efb3c927e280d44f36567ece7169\",\"kind\":\"bookmark\",\"name\":\"main\",\"number\":5,\"to\":\"6f0fd4791e9901030b778dc51bebc28effb042f328726c7f1689026f5b9c68c8\"},{\"from\":\"6f0fd4791e9901030b778dc51bebc28effb042f328726c7f1689026f5b9c68c8\",\"kind\":\"bookmark\",\"name\":\"main\",\"number\":6,\"to\":\"ffb74880ae0d3038b6e6e402ea0840634c79efb3c927e280d44f36567ece7169\"},{\"draft\":\"e8795b6f358309976a85a48b88590a7b77ffcdc1ce55d29a761853d4ff0669f0\",\"ids\":[\"e8795b6f358309976a85a48b88590a7b77ffcdc1ce55d29a761853d4ff0669f0\"],\"kind\":\"landing\",\"name\":\"main\",\"number\":7,\"old\":\"ffb74880ae0d3038b6e6e402ea0840634c79efb3c927e280d44f36567ece7169\"}],\"total\":8}";
+
+/// A policy by which the draft isn't landed.
+const POLICY: &[u8] = b"PUT /policy HTTP/1.1\r\nContent-Length: 12\r\n\r\nallow ann /\n";
+
+/// How many bytes the answers have to it, and to a landing of the draft under it.
+const SET: u64 = 99;
+
+const DENIED: u64 = 118;
+
+/// The log of the file that is left then, from the sixth entry on.
+const NO_MORE: &str =
+    "HTTP/1.1 200 OK\r\nContent-Type: application/json\r\nContent-Length: 37\r\n\r\n{\"code\":\"log\",\"entries\":[],\"total\":5}";
 
 /// A link whose input may come only once a landing came to the gate.
 #[derive(Drop)]
@@ -93,12 +105,12 @@ fn accept_of<'a>(
     alloc: Global,
     sent: &Arc<AtomicU64>,
     came: &'a AtomicU64,
+    then: &[u8],
 ) -> Result<MemAccept<LateLink<'a>>, Fail> {
     let landing = requests_of(alloc, DRAFT)?;
-    let moves = moves_of(alloc)?;
     let mut links = Vec::new(alloc);
     links.push(late_link(alloc, landing.as_slice(), sent, None)?)?;
-    links.push(late_link(alloc, moves.as_slice(), sent, Some(came))?)?;
+    links.push(late_link(alloc, then, sent, Some(came))?)?;
     Ok(MemAccept::new(links, Vec::new(alloc)))
 }
 
@@ -108,8 +120,9 @@ fn landed<'a, R: Threads + Wait + Sync>(
     alloc: Global,
     sent: &Arc<AtomicU64>,
     gate: &'a FirstWaits,
+    then: &[u8],
 ) -> Result<(Ran<MemDisk, MemAccept<LateLink<'a>>, LateLink<'a>>, MemLink), Fail> {
-    let accept = accept_of(alloc, sent, gate.came())?;
+    let accept = accept_of(alloc, sent, gate.came(), then)?;
     let opener = opener_of(alloc, WITH_MAIN, None)?;
     let line = "hg_cli serve repository A 2 0 2";
     ran(rt, alloc, line, b"", opener, accept, gate)
@@ -135,7 +148,8 @@ fn a_head_that_is_back_is_landed_on_at_the_first_attempt(rt: HostRuntime) -> Res
     let alloc = rt.alloc();
     let sent = Arc::new(alloc, AtomicU64::new(0))?;
     let gate = FirstWaits::new(&sent, 2 * STORED + BOOKMARK);
-    let (ran, link) = landed(&rt, alloc, &sent, &gate)?;
+    let moves = moves_of(alloc)?;
+    let (ran, link) = landed(&rt, alloc, &sent, &gate, moves.as_slice())?;
     assert_eq!(rt; gate.told(), (1, 0));
     assert_eq!(rt; ran.status, Status::Done);
     assert_eq!(rt; link.written(), b"served 2 entries 8\n".as_slice());
@@ -145,5 +159,20 @@ fn a_head_that_is_back_is_landed_on_at_the_first_attempt(rt: HostRuntime) -> Res
     );
     let link = log_of(&rt, alloc, ran.disk)?;
     assert_eq!(rt; link.written(), LOG.as_bytes());
+    Ok(())
+}
+
+#[test]
+fn a_policy_that_comes_between_a_plan_and_its_entry_decides(rt: HostRuntime) -> Result<(), Fail> {
+    let alloc = rt.alloc();
+    let sent = Arc::new(alloc, AtomicU64::new(0))?;
+    let gate = FirstWaits::new(&sent, STORED);
+    let (ran, link) = landed(&rt, alloc, &sent, &gate, POLICY)?;
+    assert_eq!(rt; gate.told(), (1, 0));
+    assert_eq!(rt; ran.status, Status::Done);
+    assert_eq!(rt; link.written(), b"served 2 entries 5\n".as_slice());
+    assert_eq!(rt; sent.load(Ordering::SeqCst), STORED + SET + DENIED);
+    let link = log_of(&rt, alloc, ran.disk)?;
+    assert_eq!(rt; link.written(), NO_MORE.as_bytes());
     Ok(())
 }

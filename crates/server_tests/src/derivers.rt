@@ -80,8 +80,17 @@ fn put_each(alloc: Global, entries: &mut Vec<LogEntry>) -> Result<(), Fail> {
         size: 7,
     })?;
     entries.push(LogEntry::Changeset { id: id("root") })?;
+    entries.push(LogEntry::Whole {
+        id: id("whole"),
+        size: 14,
+        parts: ids_of(alloc, &["content", "content"])?,
+    })?;
     entries.push(moved(alloc)?)?;
     entries.push(landed(alloc)?)?;
+    entries.push(LogEntry::Policy {
+        caller: name(alloc, "ann")?,
+        rules: 1,
+    })?;
     Ok(())
 }
 
@@ -91,7 +100,7 @@ fn page_of_each(alloc: Global) -> Result<LogPage, Fail> {
     put_each(alloc, &mut entries)?;
     entries.push(LogEntry::Changeset { id: id("more") })?;
     entries.push(LogEntry::Changeset { id: id("root") })?;
-    Ok(LogPage { entries, total: 6 })
+    Ok(LogPage { entries, total: 8 })
 }
 
 // What one that derives was asked for.

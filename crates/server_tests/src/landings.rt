@@ -32,17 +32,19 @@ fn change(alloc: Global, alone: &mut Alone<MemDisk>, ask: &Ask) -> Result<(), Fa
     Ok(())
 }
 
-fn main_name(alloc: Global) -> Result<BookName, Fail> {
-    Ok(BookName::parse(alloc, "main")?)
+fn name_of(alloc: Global, text: &str) -> Result<BookName, Fail> {
+    Ok(BookName::parse(alloc, text)?)
 }
 
 // Stores the content and the root, and makes the bookmark there.
-fn make_main(alloc: Global, alone: &mut Alone<MemDisk>, name: &BookName) -> Result<(), Fail> {
+fn make_main(alloc: Global, alone: &mut Alone<MemDisk>) -> Result<(), Fail> {
+    let (caller, name) = (name_of(alloc, "ann")?, name_of(alloc, "main")?);
     let root = hex::decode(alloc, ROOT)?;
     change(alloc, alone, &Ask::PutContent(b"abc"))?;
     change(alloc, alone, &Ask::PutChangeset(root.as_slice()))?;
     let ask = Ask::SetBookmark {
-        name,
+        caller: &caller,
+        name: &name,
         from: None,
         to: Some(Id::of(root.as_slice())),
     };
@@ -51,9 +53,8 @@ fn make_main(alloc: Global, alone: &mut Alone<MemDisk>, name: &BookName) -> Resu
 
 // A repository with the content and the root, where `main` stands.
 fn with_main(alloc: Global) -> Result<Alone<MemDisk>, Fail> {
-    let name = main_name(alloc)?;
     let mut alone = new_repository(alloc)?;
-    make_main(alloc, &mut alone, &name)?;
+    make_main(alloc, &mut alone)?;
     Ok(alone)
 }
 

@@ -13,10 +13,10 @@ use std::sync::Wait;
 use std::test::Fail;
 use std::thread::Threads;
 
-/// The file of a new repository of 65,536 bytes: the mark, the capacity and a closed gate.
-const NEW: &str = "0x424f4e5341490001000000000001000000";
+/// The file of a new repository of 65,536 bytes: the mark of the second version, the capacity and a closed gate.
+const NEW: &str = "0x424f4e5341490002000000000001000000";
 
-/// The same with the content `abc`: an open gate, a length, the payload and a closed gate.
+/// One of the first version with the content `abc`: an open gate, a length, the payload and a closed gate.
 const WITH_CONTENT: &str = "0x424f4e5341490001000000000001000001000000044261626300";
 
 /// Sessions on one file, one after another. The ids are SHA-256 (FIPS 180-4).
@@ -43,6 +43,61 @@ PUT /bookmark/main/none/ffb74880ae0d3038b6e6e402ea0840634c79efb3c927e280d44f3656
 POST /land/main/e8795b6f358309976a85a48b88590a7b77ffcdc1ce55d29a761853d4ff0669f0 |  | 200 OK | {"code":"landed","head":"e8795b6f358309976a85a48b88590a7b77ffcdc1ce55d29a761853d4ff0669f0","ids":["e8795b6f358309976a85a48b88590a7b77ffcdc1ce55d29a761853d4ff0669f0"],"old":"ffb74880ae0d3038b6e6e402ea0840634c79efb3c927e280d44f36567ece7169"}
 GET /bookmark/main |  | 200 OK | {"code":"bookmark","head":"e8795b6f358309976a85a48b88590a7b77ffcdc1ce55d29a761853d4ff0669f0","name":"main"}"#;
 
+/// Policies, and what they decide of landings and moves: a policy of 42 bytes, two uploads of 107 and 106, landings of 188
+/// and 187, a policy of 18 and a move of 77, each with five more.
+const FIFTH: &str = r#"GET /policy |  | 404 Not Found | {"code":"no-policy"}
+PUT /policy | allow ann | 422 Unprocessable Content | {"code":"bad-policy","line":0}
+PUT /policy |  | 422 Unprocessable Content | {"code":"bad-policy","line":0}
+PUT /policy | 0x616c6c6f7720616e6e206c69620a64656e79202a206c69620a616c6c6f77202a202f0a64656e79202a206c6962 | 422 Unprocessable Content | {"code":"bad-policy","line":3}
+PUT /policy @root | 0x616c6c6f7720616e6e206c69620a64656e79202a206c69620a616c6c6f77202a202f0a | 200 OK | {"code":"policy","number":5}
+GET /policy |  | 200 OK | 0x616c6c6f7720616e6e206c69620a64656e79202a206c69620a616c6c6f77202a202f0a
+GET /policy/5 |  | 200 OK | 0x616c6c6f7720616e6e206c69620a64656e79202a206c69620a616c6c6f77202a202f0a
+GET /policy/4 |  | 404 Not Found | {"code":"no-policy"}
+GET /policy/6 |  | 404 Not Found | {"code":"no-policy"}
+POST /policy |  | 405 Method Not Allowed | {"code":"method"} | Allow: GET, PUT
+PUT /changeset | 0x430101e8795b6f358309976a85a48b88590a7b77ffcdc1ce55d29a761853d4ff0669f0000161000000000000000000000000000000000000000100056c69622f7801000000000000000003ba7816bf8f01cfea414140de5dae2223b00361a396177a9cb410ff61f20015ad | 200 OK | {"code":"changeset","id":"b2e281c47486cc950a4bc4037210cedc6161c0789ae355c08ccf7392cde2f1c7"}
+PUT /changeset @bob | 0x430101e8795b6f358309976a85a48b88590a7b77ffcdc1ce55d29a761853d4ff0669f0000161000000000000000000000000000000000000000100046c69627801000000000000000003ba7816bf8f01cfea414140de5dae2223b00361a396177a9cb410ff61f20015ad | 200 OK | {"code":"changeset","id":"d156599c94343a330d6026d62a03b9d0e282104c45824fd5e8291726c279b0d9"}
+POST /land/main/b2e281c47486cc950a4bc4037210cedc6161c0789ae355c08ccf7392cde2f1c7 @bob |  | 403 Forbidden | {"code":"denied","path":"lib/x","rule":1}
+POST /land/main/b2e281c47486cc950a4bc4037210cedc6161c0789ae355c08ccf7392cde2f1c7 |  | 403 Forbidden | {"code":"denied","path":"lib/x","rule":1}
+POST /land/main/b2e281c47486cc950a4bc4037210cedc6161c0789ae355c08ccf7392cde2f1c7 @ann |  | 200 OK | {"code":"landed","head":"b2e281c47486cc950a4bc4037210cedc6161c0789ae355c08ccf7392cde2f1c7","ids":["b2e281c47486cc950a4bc4037210cedc6161c0789ae355c08ccf7392cde2f1c7"],"old":"e8795b6f358309976a85a48b88590a7b77ffcdc1ce55d29a761853d4ff0669f0"}
+POST /land/main/d156599c94343a330d6026d62a03b9d0e282104c45824fd5e8291726c279b0d9 @bob |  | 200 OK | {"code":"landed","head":"cfb4ab8452d155596bdc9a51610fc7fee812dd9eee25ee8350a9710741f186c1","ids":["cfb4ab8452d155596bdc9a51610fc7fee812dd9eee25ee8350a9710741f186c1"],"old":"b2e281c47486cc950a4bc4037210cedc6161c0789ae355c08ccf7392cde2f1c7"}
+PUT /policy @ann | 0x616c6c6f7720616e6e202f0a | 200 OK | {"code":"policy","number":10}
+PUT /bookmark/main/cfb4ab8452d155596bdc9a51610fc7fee812dd9eee25ee8350a9710741f186c1/none @bob |  | 403 Forbidden | {"code":"denied","path":".bookmarks/main","rule":null}
+PUT /bookmark/main/cfb4ab8452d155596bdc9a51610fc7fee812dd9eee25ee8350a9710741f186c1/cfb4ab8452d155596bdc9a51610fc7fee812dd9eee25ee8350a9710741f186c1 @bob |  | 403 Forbidden | {"code":"denied","path":".bookmarks/main","rule":null}
+PUT /bookmark/main/none/cfb4ab8452d155596bdc9a51610fc7fee812dd9eee25ee8350a9710741f186c1 @bob |  | 409 Conflict | {"code":"moved","found":"cfb4ab8452d155596bdc9a51610fc7fee812dd9eee25ee8350a9710741f186c1"}
+PUT /policy @bob | 0x616c6c6f7720626f62202f0a | 403 Forbidden | {"code":"denied","path":".policy","rule":null}
+PUT /bookmark/main/cfb4ab8452d155596bdc9a51610fc7fee812dd9eee25ee8350a9710741f186c1/e8795b6f358309976a85a48b88590a7b77ffcdc1ce55d29a761853d4ff0669f0 @ann |  | 200 OK | {"code":"bookmark","head":"e8795b6f358309976a85a48b88590a7b77ffcdc1ce55d29a761853d4ff0669f0","name":"main"}
+GET /policy |  | 200 OK | 0x616c6c6f7720616e6e202f0a
+GET /log/5 |  | 200 OK | {"code":"log","entries":[{"caller":"root","kind":"policy","number":5,"rules":3},{"id":"b2e281c47486cc950a4bc4037210cedc6161c0789ae355c08ccf7392cde2f1c7","kind":"changeset","number":6},{"id":"d156599c94343a330d6026d62a03b9d0e282104c45824fd5e8291726c279b0d9","kind":"changeset","number":7},{"caller":"ann","draft":"b2e281c47486cc950a4bc4037210cedc6161c0789ae355c08ccf7392cde2f1c7","ids":["b2e281c47486cc950a4bc4037210cedc6161c0789ae355c08ccf7392cde2f1c7"],"kind":"landing","name":"main","number":8,"old":"e8795b6f358309976a85a48b88590a7b77ffcdc1ce55d29a761853d4ff0669f0"},{"caller":"bob","draft":"d156599c94343a330d6026d62a03b9d0e282104c45824fd5e8291726c279b0d9","ids":["cfb4ab8452d155596bdc9a51610fc7fee812dd9eee25ee8350a9710741f186c1"],"kind":"landing","name":"main","number":9,"old":"b2e281c47486cc950a4bc4037210cedc6161c0789ae355c08ccf7392cde2f1c7"},{"caller":"ann","kind":"policy","number":10,"rules":1},{"caller":"ann","from":"cfb4ab8452d155596bdc9a51610fc7fee812dd9eee25ee8350a9710741f186c1","kind":"bookmark","name":"main","number":11,"to":"e8795b6f358309976a85a48b88590a7b77ffcdc1ce55d29a761853d4ff0669f0"}],"total":12}"#;
+
+/// Files that were deleted, and where a path changed: uploads of 62 and 103 bytes, each with five more. Contents aren't
+/// joined yet.
+const SIXTH: &str =
+    r#"PUT /changeset | 0x430101e8795b6f358309976a85a48b88590a7b77ffcdc1ce55d29a761853d4ff0669f0000161000000000000000000000000000000000000000100017000 | 200 OK | {"code":"changeset","id":"b2bed93a6b8be3c2b2330589fda2906eaed9c952f823aaf09d51ccb9f7c43104"}
+PUT /changeset | 0x430101b2bed93a6b8be3c2b2330589fda2906eaed9c952f823aaf09d51ccb9f7c43104000161000000000000000000000000000000000000000100017001000000000000000003ba7816bf8f01cfea414140de5dae2223b00361a396177a9cb410ff61f20015ad | 200 OK | {"code":"changeset","id":"1c7791ec52a83c3c3d4a1c8f4fa36002f4a73548be401868f074eb6d70bb6739"}
+GET /pathlog/1c7791ec52a83c3c3d4a1c8f4fa36002f4a73548be401868f074eb6d70bb6739/p |  | 200 OK | {"code":"path-log","ids":["1c7791ec52a83c3c3d4a1c8f4fa36002f4a73548be401868f074eb6d70bb6739","b2bed93a6b8be3c2b2330589fda2906eaed9c952f823aaf09d51ccb9f7c43104","e8795b6f358309976a85a48b88590a7b77ffcdc1ce55d29a761853d4ff0669f0"]}
+GET /pathlog/b2bed93a6b8be3c2b2330589fda2906eaed9c952f823aaf09d51ccb9f7c43104/p |  | 200 OK | {"code":"path-log","ids":["b2bed93a6b8be3c2b2330589fda2906eaed9c952f823aaf09d51ccb9f7c43104","e8795b6f358309976a85a48b88590a7b77ffcdc1ce55d29a761853d4ff0669f0"]}
+GET /pathlog/1c7791ec52a83c3c3d4a1c8f4fa36002f4a73548be401868f074eb6d70bb6739/q |  | 404 Not Found | {"code":"no-path"}
+GET /pathlog/ba7816bf8f01cfea414140de5dae2223b00361a396177a9cb410ff61f20015ad/p |  | 404 Not Found | {"code":"no-changeset","id":"ba7816bf8f01cfea414140de5dae2223b00361a396177a9cb410ff61f20015ad"}
+GET /deleted/b2bed93a6b8be3c2b2330589fda2906eaed9c952f823aaf09d51ccb9f7c43104 |  | 200 OK | 0x44010000000001017016c4dbc94cde782b59e5eb6156e82646af642b4aa5fc8a066cd665dda8b66c53
+GET /deleted/b2bed93a6b8be3c2b2330589fda2906eaed9c952f823aaf09d51ccb9f7c43104/p |  | 200 OK | 0x440101b2bed93a6b8be3c2b2330589fda2906eaed9c952f823aaf09d51ccb9f7c4310400000000
+GET /deleted/1c7791ec52a83c3c3d4a1c8f4fa36002f4a73548be401868f074eb6d70bb6739 |  | 200 OK | 0x44010000000000
+GET /deleted/1c7791ec52a83c3c3d4a1c8f4fa36002f4a73548be401868f074eb6d70bb6739/p |  | 404 Not Found | {"code":"no-path"}
+GET /deleted/ba7816bf8f01cfea414140de5dae2223b00361a396177a9cb410ff61f20015ad |  | 404 Not Found | {"code":"no-changeset","id":"ba7816bf8f01cfea414140de5dae2223b00361a396177a9cb410ff61f20015ad"}
+PUT /whole | 0xba7816bf8f01cfea414140de5dae2223b00361a396177a9cb410ff61f20015 | 400 Bad Request | {"code":"bad-parts","length":31}
+PUT /whole |  | 400 Bad Request | {"code":"bad-parts","length":0}
+PUT /whole | 0xba7816bf8f01cfea414140de5dae2223b00361a396177a9cb410ff61f20015adba7816bf8f01cfea414140de5dae2223b00361a396177a9cb410ff61f20015ad | 409 Conflict | {"code":"old-format"}
+GET /whole |  | 405 Method Not Allowed | {"code":"method"} | Allow: PUT"#;
+
+/// In a file of the first version no policy is set, and all else is as it was.
+const OLD: &str =
+    r#"PUT /policy | 0x616c6c6f7720616e6e206c69620a64656e79202a206c69620a616c6c6f77202a202f0a | 409 Conflict | {"code":"old-format"}
+PUT /policy | allow ann | 409 Conflict | {"code":"old-format"}
+PUT /whole | 0xba7816bf8f01cfea414140de5dae2223b00361a396177a9cb410ff61f20015ad | 409 Conflict | {"code":"old-format"}
+GET /policy |  | 404 Not Found | {"code":"no-policy"}
+GET /content/ba7816bf8f01cfea414140de5dae2223b00361a396177a9cb410ff61f20015ad |  | 200 OK | 0x616263
+PUT /content | abc | 200 OK | {"code":"content","id":"ba7816bf8f01cfea414140de5dae2223b00361a396177a9cb410ff61f20015ad","size":3}"#;
+
 // Serves a session of this script on the disk, and gives the disk back.
 fn served<R: Abort + Threads + Wait + Sync>(
     rt: &R,
@@ -64,29 +119,38 @@ fn grown<R: Abort + Threads + Wait + Sync>(
     let disk = served(rt, alloc, disk, FIRST, 26)?;
     let disk = served(rt, alloc, disk, SECOND, 26)?;
     let disk = served(rt, alloc, disk, THIRD, 57)?;
-    served(rt, alloc, disk, FOURTH, 394)
+    let disk = served(rt, alloc, disk, FOURTH, 394)?;
+    let disk = served(rt, alloc, disk, FIFTH, 1154)?;
+    served(rt, alloc, disk, SIXTH, 1329)
 }
 
 #[test]
 fn a_file_grows_by_its_records(rt: HostRuntime) -> Result<(), Fail> {
     let disk = made(&rt, rt.alloc(), INIT)?;
     let disk = grown(&rt, rt.alloc(), disk)?;
-    let counted = "entries 5 contents 1 changesets 2 bookmarks 1 size 394\n";
+    let counted = "entries 14 contents 1 changesets 7 bookmarks 1 size 1329\n";
     check_counted(&rt, rt.alloc(), disk.bytes(), counted)
 }
 
 #[test]
-fn a_new_file_has_its_header_and_a_closed_gate(rt: HostRuntime) -> Result<(), Fail> {
+fn a_new_file_has_the_second_mark_and_one_of_the_first_keeps_its_own(
+    rt: HostRuntime,
+) -> Result<(), Fail> {
     let disk = made(&rt, rt.alloc(), INIT)?;
     let wanted = bytes_of(rt.alloc(), NEW)?;
     assert_eq!(rt; disk.bytes(), wanted.as_slice());
+    let file = bytes_of(rt.alloc(), WITH_CONTENT)?;
+    let disk = disk_of(rt.alloc(), file.as_slice(), None)?;
+    let left = served(&rt, rt.alloc(), disk, OLD, 26)?;
+    assert_eq!(rt; left.bytes(), file.as_slice());
     Ok(())
 }
 
-// A command, the bytes of a file, its status, and its line. In turn: a new repository, one with a content, one with a
-// payload of no kind, one whose gate is neither open nor 0, an empty file, one without a gate, and one of too small a
-// capacity.
+// A command, the bytes of a file, its status, and its line. In turn: a new repository, one of the first version, that with
+// a content, one with a payload of no kind, one whose gate is neither open nor 0, an empty file, one without a gate, one of
+// too small a capacity, and one of a third version.
 const REPORTED: &str = "\
+fsck | 0x424f4e5341490002000000000001000000 | done | entries 0 contents 0 changesets 0 bookmarks 0 size 17
 fsck | 0x424f4e5341490001000000000001000000 | done | entries 0 contents 0 changesets 0 bookmarks 0 size 17
 fsck | 0x424f4e5341490001000000000001000001000000044261626300 | done | entries 1 contents 1 changesets 0 bookmarks 0 size 26
 fsck | 0x424f4e5341490001000000000001000001000000045861626300 | bad file | damaged at 16
@@ -97,6 +161,7 @@ fsck | 0x | bad file | not a repository
 fsck | 0x424f4e53414900010000000000010000 | bad file | not a repository
 session | 0x424f4e53414900010000000000010000 | bad file |
 fsck | 0x424f4e53414900010000000000000fff00 | bad file | damaged at 8
+fsck | 0x424f4e5341490003000000000001000000 | bad file | not a repository
 init | 0x | done | ready 4096
 init | 0x424f4e53414900010000000000010000 | not empty | file is not empty
 init | 0x424f4e5341490001000000000001000001000000044261626300 | not empty | file is not empty";

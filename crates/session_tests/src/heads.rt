@@ -19,6 +19,9 @@ GET / HTTP/1.1~` | cut
 PUT /content HTTP/1.1~Transfer-Encoding: chunked~~PUT /content HTTP/1.1~Content-Length: 3~~abc | refused | 501 Not Implemented | {"code":"transfer-encoding"} | Connection: close
 DELETE /content HTTP/1.1~~PUT /content HTTP/1.1~Content-Length: 3~~abc | done | 405 Method Not Allowed | {"code":"method"} | Allow: PUT | 200 OK | {"code":"content","id":"ba7816bf8f01cfea414140de5dae2223b00361a396177a9cb410ff61f20015ad","size":3} | -
 HEAD /content?x HTTP/1.1~~PUT /content HTTP/1.1~Content-Length: 3~~abc | done | 405 Method Not Allowed | !{"code":"method"} | Allow: PUT | 200 OK | {"code":"content","id":"ba7816bf8f01cfea414140de5dae2223b00361a396177a9cb410ff61f20015ad","size":3} | -
+PUT /bookmark/main/none/none HTTP/1.1~Caller: ann~CALLER: ann~~GET /bookmark/main HTTP/1.1~Caller: a b~~ | done | 400 Bad Request | {"code":"bad-caller"} | - | 404 Not Found | {"code":"no-bookmark"} | -
+POST /land/main/x HTTP/1.1~Caller: a b~~POST /land/main/ba7816bf8f01cfea414140de5dae2223b00361a396177a9cb410ff61f20015ad HTTP/1.1~Caller: a b~~POST /land/main/ba7816bf8f01cfea414140de5dae2223b00361a396177a9cb410ff61f20015ad HTTP/1.1~Caller:~~ | done | 400 Bad Request | {"code":"bad-id","place":0} | - | 400 Bad Request | {"code":"bad-caller"} | - | 400 Bad Request | {"code":"bad-caller"} | -
+PUT /policy HTTP/1.1~Content-Length: 9~Caller: a/b~~allow annPUT /policy HTTP/1.1~Content-Length: 9~Caller: ann~~allow ann | done | 400 Bad Request | {"code":"bad-caller"} | - | 422 Unprocessable Content | {"code":"bad-policy","line":0} | -
 GET /nowhere HTTP/1.1^^GET content HTTP/1.1~~ | done | 404 Not Found | {"code":"no-route"} | - | 400 Bad Request | {"code":"bad-target"} | -
 GET /nowhere HTTP/1.0~~PUT /content HTTP/1.1~Content-Length: 3~~abc | done | 404 Not Found | {"code":"no-route"} | Connection: close
 PUT /content HTTP/1.1~Content-Length: 3~~abcGET nowhere~~PUT /content HTTP/1.1~Content-Length: 3~~abc | refused | 200 OK | {"code":"content","id":"ba7816bf8f01cfea414140de5dae2223b00361a396177a9cb410ff61f20015ad","size":3} | - | 400 Bad Request | {"code":"bad-head"} | Connection: close"#;
@@ -38,6 +41,8 @@ GET / HTTP/1.1~Content-Length:~~ | refused | 400 Bad Request | {"code":"bad-leng
 GET / HTTP/1.1~Content-Length: 3, 3~~ | refused | 400 Bad Request | {"code":"bad-length"} | Connection: close
 PUT /content HTTP/1.1~~ | refused | 411 Length Required | {"code":"no-length"} | Connection: close
 PUT /changeset?x HTTP/1.1~~ | refused | 411 Length Required | {"code":"no-length"} | Connection: close
+PUT /policy HTTP/1.1~~ | refused | 411 Length Required | {"code":"no-length"} | Connection: close
+PUT /whole HTTP/1.1~~ | refused | 411 Length Required | {"code":"no-length"} | Connection: close
 PUT /content HTTP/1.1~Content-Length: 1048577~~ | refused | 413 Content Too Large | {"code":"body-too-large"} | Connection: close
 GET / HTTP/1.1~Content-Length: 99999999999999999999~~ | refused | 413 Content Too Large | {"code":"body-too-large"} | Connection: close
 GET / HTTP/1.1~Connection: close~~GET / HTTP/1.1^^ | done | 404 Not Found | {"code":"no-route"} | Connection: close

@@ -112,9 +112,14 @@ fn put_response(
     Ok(())
 }
 
-/// The head of a request whose body has this length.
+/// The head of a request whose body has this length. Who asks stands behind `@`, where that is told.
 pub(crate) fn asking(alloc: Global, request: &str, length: usize) -> Result<String, AllocError> {
-    format!(in alloc; "{request} HTTP/1.1\r\nContent-Length: {length}\r\n\r\n")
+    match request.split_once(" @") {
+        Some((request, caller)) => format!(in alloc;
+            "{request} HTTP/1.1\r\nCaller: {caller}\r\nContent-Length: {length}\r\n\r\n"
+        ),
+        None => format!(in alloc; "{request} HTTP/1.1\r\nContent-Length: {length}\r\n\r\n"),
+    }
 }
 
 fn put_request(alloc: Global, out: &mut Vec<u8>, request: &str, text: &str) -> Result<(), Fail> {

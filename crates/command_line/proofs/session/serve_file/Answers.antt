@@ -1,4 +1,4 @@
-use Rattle.std.proofs.Common.{◌≡◌, sym, ap, subst, ◌∙◌}
+use Rattle.std.proofs.Common.{ap, ◌∙◌}
 use Rattle.command_line.specs.Outside.{told}
 use Rattle.command_line.specs.Sessions.{session_status}
 use Rattle.command_line.proofs.Sessions.{session_serves}
