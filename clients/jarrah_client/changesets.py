@@ -18,6 +18,7 @@ MOST_AUTHOR_BYTES = 1_024
 MOST_CHANGES = 4_096
 MOST_CHANGESET_BYTES = 1_048_576
 MOST_CONTENT_BYTES = 1_048_576
+MOST_SIZE_BYTES = 67_108_864
 
 
 class Kind(IntEnum):
@@ -175,8 +176,8 @@ def encode_change(changeset: Changeset, path: str) -> bytes:
     head, file = encode_path(path), changeset.changes[path]
     if file is None:
         return head + b"\x00"
-    if file.size > MOST_CONTENT_BYTES:
-        raise CannotSpell(f"{path} has {file.size:,} bytes, over {MOST_CONTENT_BYTES:,}")
+    if file.size > MOST_SIZE_BYTES:
+        raise CannotSpell(f"{path} has {file.size:,} bytes, over {MOST_SIZE_BYTES:,}")
     rest = bytes((1, file.kind)) + file.size.to_bytes(8, "big") + bytes.fromhex(file.content)
     if changeset.version == SECOND:
         rest += encode_source(changeset.copies.get(path))
@@ -250,7 +251,7 @@ def decode_path(fields: Fields) -> str:
 def decode_file(fields: Fields) -> File:
     """What a set puts at its path."""
     kind = Kind(fields.number_in(1, 0, 2))
-    size = fields.number_in(8, 0, MOST_CONTENT_BYTES)
+    size = fields.number_in(8, 0, MOST_SIZE_BYTES)
     return File(fields.id(), size, kind)
 
 

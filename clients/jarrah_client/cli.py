@@ -11,16 +11,18 @@ from typing import Any
 
 from . import VERSION
 from .changesets import CannotSpell, SelfConflict
-from .commands import copies, large, reading, writing
+from .commands import copies, large, policies, reading, writing
 from .commands.options import span
 from .fields import BadEncoding
 from .output import Output, as_json, clean
+from .paths import is_bookmark_name
 from .refusals import Fault, Refused, WrongWords
 from .server import ANSWER_SECONDS, MANIFEST_SECONDS, Server
 from .working.state import WorkingCopy
 
 ABOUT = "Work with a running Jarrahchess server: commit, land, look, and import a git history."
 THE_SERVER = "the server; default: the working copy's, else $JARRAH_SERVER"
+THE_CALLER = "who asks, by whom a policy decides; default: $JARRAH_CALLER, else nobody is named"
 FOR_SCRIPTS = "write one JSON document a line, for scripts"
 PATIENCE = (
     f"wait so long for an answer; default: {ANSWER_SECONDS:.0f},"
@@ -53,6 +55,7 @@ def parser() -> argparse.ArgumentParser:
     common = argparse.ArgumentParser(add_help=False)
     for one, default in ((top, None), (common, argparse.SUPPRESS)):
         one.add_argument("--server", metavar="URL", default=default, help=THE_SERVER)
+        one.add_argument("--caller", metavar="NAME", default=default, help=THE_CALLER)
         one.add_argument(
             "--timeout", metavar="SECONDS", type=span, default=default, help=PATIENCE
         )
@@ -68,7 +71,7 @@ def parser() -> argparse.ArgumentParser:
         one.set_defaults(run=run)
         return one
 
-    for module in (writing, copies, reading, large):
+    for module in (writing, copies, reading, policies, large):
         module.add(add)
     return top
 
@@ -102,7 +105,10 @@ def run(top: argparse.ArgumentParser, options: argparse.Namespace) -> int:
     url = options.server or kept or os.environ.get("JARRAH_SERVER")
     if not url:
         top.error("no server is named: give --server URL or set JARRAH_SERVER")
-    server = Server(url, options.timeout)
+    caller = options.caller or os.environ.get("JARRAH_CALLER") or None
+    if caller and not is_bookmark_name(caller):
+        top.error(f"{caller!r} is no caller's name: 1 to 128 of A-Z a-z 0-9 _ . - are allowed")
+    server = Server(url, options.timeout, caller)
     try:
         return options.run(options, server, Output(options.json)) or 0
     finally:
@@ -122,4 +128,6 @@ def complain(fault: Exception, is_json: bool) -> None:
     document: dict[str, Any] = {"error": str(fault)}
     if isinstance(fault, Refused):
         document |= {"status": fault.status, "code": fault.code, **fault.members}
+        if fault.code == "denied":
+            document["ruling"] = fault.advice
     print(as_json(document), file=sys.stderr)

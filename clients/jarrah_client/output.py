@@ -181,11 +181,14 @@ def entry_line(entry: dict[str, Any]) -> str:
         return f"{head}{entry['id']}  {entry['size']:,} bytes"
     if entry["kind"] == "changeset":
         return head + entry["id"]
+    by = f"  by {entry['caller']}" if "caller" in entry else ""
+    if entry["kind"] == "policy":
+        return f"{head}{counted(entry['rules'], 'rule')}{by}"
     if entry["kind"] == "bookmark":
-        return f"{head}{entry['name']}  {entry['from'] or 'none'} -> {entry['to'] or 'none'}"
+        return f"{head}{entry['name']}  {entry['from'] or 'none'} -> {entry['to'] or 'none'}{by}"
     count = counted(len(entry["ids"]), "changeset")
     at = f"  {date(entry['moment'], 0)}" if "moment" in entry else ""
-    return f"{head}{entry['name']}  {entry['old']} -> {entry['ids'][-1]}  {count}{at}"
+    return f"{head}{entry['name']}  {entry['old']} -> {entry['ids'][-1]}  {count}{at}{by}"
 
 
 def counted(count: int, what: str) -> str:

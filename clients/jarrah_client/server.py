@@ -14,6 +14,7 @@ from urllib.parse import quote, urlsplit
 from .changesets import Changeset, CopySource, decode
 from .fields import BadEncoding, digest
 from .nodes import Fsnode, Unode, decode_fsnode, decode_unode
+from .policies import rule_text
 from .progress import tell_waiting
 from .refusals import Fault, Refused
 
@@ -40,6 +41,8 @@ MEMBERS = {
     "log": ("entries", "total"),
     "copies": ("copies",),
     "history": ("ids",),
+    "path-log": ("ids",),
+    "policy": ("number",),
 }
 """What the bodies of answers have to have, by their codes."""
 
@@ -83,13 +86,14 @@ class Page:
 class Server:
     """One connection, kept alive. Requests that only read are tried again, and changes never."""
 
-    def __init__(self, url: str, timeout: float | None = None):
+    def __init__(self, url: str, timeout: float | None = None, caller: str | None = None):
         parts = urlsplit(url if "//" in url else "http://" + url)
         elsewhere = parts.path not in ("", "/") or parts.query or parts.fragment
         if parts.scheme not in ("http", "https") or not parts.hostname or elsewhere:
             raise Trouble(f"{url} is no URL of a server; one is like http://127.0.0.1:8080")
         self.url = f"{parts.scheme}://{parts.netloc}"
         self.timeout = timeout
+        self.caller = caller
         make = (
             http.client.HTTPSConnection if parts.scheme == "https" else http.client.HTTPConnection
         )
@@ -102,7 +106,7 @@ class Server:
 
     def another(self) -> Server:
         """A connection of its own to the same server."""
-        return Server(self.url, self.timeout)
+        return Server(self.url, self.timeout, self.caller)
 
     def close(self) -> None:
         """Ends the connection; the next request makes a new one."""
@@ -147,7 +151,8 @@ class Server:
         self.connection.timeout = seconds
         if self.connection.sock:
             self.connection.sock.settimeout(seconds)
-        self.connection.request(method, target, body=body, headers={"Accept": "*/*"})
+        named = {"Caller": self.caller} if self.caller and method != "GET" else {}
+        self.connection.request(method, target, body=body, headers={"Accept": "*/*", **named})
         if derives:
             wait_for_answer(self.connection.sock, "deriving", seconds)
         response = self.connection.getresponse()
@@ -219,7 +224,7 @@ class Server:
     def move_bookmark(self, name: str, old: str | None, new: str | None) -> str | None:
         """Makes, moves or deletes a bookmark whose head is `old`, and gives its head."""
         target = f"/bookmark/{part(name)}/{old or NO_BOOKMARK}/{new or NO_BOOKMARK}"
-        return self.ask_json("PUT", target, "bookmark")["head"]
+        return self.ask_allowed("PUT", target, "bookmark")["head"]
 
     def head(self, name: str) -> str | None:
         """A bookmark's head, or None where there is none."""
@@ -232,8 +237,42 @@ class Server:
 
     def land(self, name: str, draft: str) -> Landed:
         """Lands a draft on a bookmark."""
-        answer = self.ask_json("POST", f"/land/{part(name)}/{draft}", "landed")
+        answer = self.ask_allowed("POST", f"/land/{part(name)}/{draft}", "landed")
         return Landed(answer["head"], answer["ids"], answer["old"])
+
+    def ask_allowed(self, method: str, target: str, code: str, body: bytes | None = None) -> dict:
+        """A change that a policy may deny. Where it does, the rule's words are told too."""
+        try:
+            return self.ask_json(method, target, code, body)
+        except Refused as refusal:
+            if refusal.code == "denied":
+                refusal.advice = self.ruling(refusal.members.get("rule"))
+            raise
+
+    def ruling(self, rule: int | None) -> str:
+        """What decided, in words, by the policy that is held now."""
+        if rule is None:
+            return "no rule of it speaks of this path"
+        try:
+            text = rule_text(self.policy() or b"", rule)
+        except Fault:
+            text = None
+        return f"rule {rule}" + (f" decides: `{text}`" if text else " decides")
+
+    # The policy
+
+    def set_policy(self, text: bytes) -> int:
+        """Sets the policy, and gives the number of its entry."""
+        return self.ask_allowed("PUT", "/policy", "policy", text)["number"]
+
+    def policy(self, number: int | None = None) -> bytes | None:
+        """The text of the policy that is held, or that an entry set; None where there is none."""
+        try:
+            return self.ask("GET", "/policy" if number is None else f"/policy/{number}")
+        except Refused as refusal:
+            if refusal.code == "no-policy":
+                return None
+            raise
 
     def log(self, start: int) -> Page:
         """At most 100 entries of the update log, from a number on."""
@@ -262,6 +301,11 @@ class Server:
         """The changesets that set a file, newest first."""
         target = f"/history/{id}/{long_part(path)}"
         return self.ask_json("GET", target, "history", derives=True)["ids"]
+
+    def path_log(self, id: str, path: str) -> list[str]:
+        """The ancestors of a changeset, and itself, that set a path or took it away, newest first."""
+        target = f"/pathlog/{id}/{long_part(path)}"
+        return self.ask_json("GET", target, "path-log", derives=True)["ids"]
 
 
 def part(text: str) -> str:

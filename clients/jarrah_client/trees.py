@@ -11,7 +11,7 @@ from .paths import is_comparable, joined, path_key
 from .progress import Progress
 from .refusals import Refused
 from .repository import chain
-from .server import Server
+from .server import Server, Trouble
 
 Listing = dict[str, "File | None"]
 """What a directory has by rising names; None stands for a directory."""
@@ -227,6 +227,37 @@ def history_of(server: Server, id: str, path: str, *, fold: bool = False) -> lis
             if refusal.code != "no-route":
                 raise
     return folded_history(whole_chain(server, id), path)
+
+
+def path_log_of(server: Server, id: str, path: str, *, fold: bool = False) -> list[str]:
+    """The changesets that set a file or took it away, newest first, also before that."""
+    if not fold:
+        try:
+            return server.path_log(id, path)
+        except Refused as refusal:
+            if refusal.code != "no-route":
+                raise
+    return folded_path_log(whole_chain(server, id), path)
+
+
+def folded_path_log(changesets: list[Changeset], path: str) -> list[str]:
+    """The same from a chain, oldest first."""
+    line: list[str] = []
+    is_there = False
+    for changeset in changesets:
+        is_set = bool(changeset.changes.get(path))
+        is_touched = path in changeset.changes or sets_comparable(changeset, path)
+        if is_set or (is_there and is_touched):
+            line.append(changeset.id)
+            is_there = is_set
+    if not line:
+        raise Trouble("there is nothing at this path, and never was")
+    return line[::-1]
+
+
+def fate(changeset: Changeset, path: str) -> str:
+    """What a changeset of a path's log did there: it set the file, or took it away."""
+    return "set" if changeset.changes.get(path) else "deleted"
 
 
 def whole_chain(server: Server, id: str) -> list[Changeset]:

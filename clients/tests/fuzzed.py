@@ -14,6 +14,7 @@ from typing import NamedTuple
 
 from .program_session import copies, deletes, request, sets, spelled
 from .stand_in.http import MOST_HEAD, Answer, Head, Service, Session, body
+from .stand_in.policy import NOBODY
 from .stand_in.repository import Repository, rebased
 from .stand_in.spelling import Refusal, digest
 
@@ -22,6 +23,14 @@ MOST_PAYLOAD = 16_777_216
 MARKS = [b"BONSAI\x00\x01", b"BONSAI\x00\x02"]
 FINE, DAMAGED, STARVED, CUT, REFUSED = 0, 3, 4, 7, 8
 NO_MEMORY = Answer(503, b'{"code":"memory"}')
+CALLERS = ["ann", "bob", NOBODY]
+POLICIES = [
+    b"allow ann /\n",
+    b"allow ann a\ndeny * a\nallow * /\n",
+    b"deny bob lib/x\nallow * /\n",
+    b"allow * /\ndeny * /\n",
+    b"allow ann .policy\nallow * b\n",
+]
 PATHS = ["a", "a/b", "a.b", "b", "lib/x", "lib/x/y", "\u00e9/z", "z" * 255]
 
 
@@ -92,12 +101,23 @@ def valid_requests(source: Random) -> list[bytes]:
         ids.append(digest(commit))
         said.append(request("PUT /changeset", commit))
         said.append(source.choice(reads(source, ids, contents)))
-        said.append(request(f"POST /land/main/{ids[-1]}"))
+        said.append(request(f"POST /land/main/{ids[-1]}", callers=some_callers(source)))
+        if source.random() < 0.2:
+            text = source.choice(POLICIES)
+            said.append(request("PUT /policy", text, some_callers(source)))
     # it isn't landed: a landing of version 2 has a moment, which is the program's alone
     copying = draft(source, contents, source.choice(ids), version=2)
     said += [request("PUT /changeset", copying), request(f"GET /copies/{digest(copying)}")]
     said += source.sample(reads(source, ids, contents), 3)
     return said
+
+
+def some_callers(source: Random) -> tuple[str, ...]:
+    """Nobody, or one of a few, or what names nobody."""
+    chance = source.random()
+    if chance < 0.3:
+        return ()
+    return ("a b",) if chance < 0.35 else (source.choice(CALLERS),)
 
 
 def draft(source: Random, contents: list[bytes], parent: str, version: int = 1) -> bytes:
@@ -138,6 +158,11 @@ def reads(source: Random, ids: list[str], contents: list[bytes]) -> list[bytes]:
         f"GET /fsnode/{known}",
         f"GET /unode/{known}/{path if path.isascii() else 'a'}",
         f"GET /history/{known}/{path if path.isascii() else 'b'}",
+        f"GET /deleted/{known}",
+        f"GET /deleted/{known}/{path if path.isascii() else 'a'}",
+        f"GET /pathlog/{known}/{path if path.isascii() else 'b'}",
+        "GET /policy",
+        f"GET /policy/{source.randrange(12)}",
     ]
     return [request(line) for line in lines]
 
@@ -207,8 +232,24 @@ def valid_payloads(source: Random) -> list[bytes]:
         if not known:
             payloads.append(commit)
         moment = source.choice([0, 1_000, 2**63, 2**64 - 1])
-        payloads += landing_payload(repository, ids[-1], moment)
+        if source.random() < 0.2:
+            payloads += policy_payload(repository, source.choice(POLICIES))
+        payloads += landing_payload(repository, ids[-1], moment, source.choice(CALLERS))
     return payloads
+
+
+def wrapped(caller: str, payload: bytes) -> bytes:
+    """A payload that tells its caller."""
+    return b"\x41" + bytes([len(caller)]) + caller.encode() + payload
+
+
+def policy_payload(repository: Repository, text: bytes) -> list[bytes]:
+    """The payload of a policy that `ann` sets, if she may."""
+    try:
+        repository.set_policy("ann", text)
+    except Refusal:
+        return []
+    return [wrapped("ann", b"\x52" + text)]
 
 
 def move_payload(name: str, old: str | None, new: str | None) -> bytes:
@@ -216,14 +257,17 @@ def move_payload(name: str, old: str | None, new: str | None) -> bytes:
     return b"\x4d" + bytes([len(name)]) + name.encode() + b"".join(sides)
 
 
-def landing_payload(repository: Repository, made: str, moment: int) -> list[bytes]:
+def landing_payload(
+    repository: Repository, made: str, moment: int, caller: str
+) -> list[bytes]:
     """The payload of a draft's landing on `main` at a moment, if it lands."""
     repository.clock = lambda: moment
+    is_told = repository.rules is not None
     try:
         old = repository.head("main")
         stack, _ = repository.fork(made, old)
         new = rebased(stack, old, moment)
-        repository.land("main", made)
+        repository.land("main", made, caller)
     except Refusal:
         return []
     dated = any(one.is_dated for one in new)
@@ -231,7 +275,8 @@ def landing_payload(repository: Repository, made: str, moment: int) -> list[byte
     fields += [moment.to_bytes(8, "big")] if dated else []
     fields += [len(new).to_bytes(2, "big")]
     fields += [len(one.data).to_bytes(4, "big") + one.data for one in new]
-    return [b"".join(fields)]
+    payload = b"".join(fields)
+    return [wrapped(caller, payload) if is_told else payload]
 
 
 def damaged_files(source: Random) -> bytes:
@@ -260,7 +305,7 @@ def expected_report(data: bytes) -> Outcome:
     capacity = int.from_bytes(data[8:16], "big")
     if not LEAST_CAPACITY <= capacity <= MOST_CAPACITY:
         return Outcome(DAMAGED, b"damaged at 8\n")
-    repository = Repository(capacity)
+    repository = Repository(capacity, data[7])
     at = 16
     while data[at : at + 1] == b"\x01":
         length = int.from_bytes(data[at + 1 : at + 5], "big")
@@ -297,20 +342,37 @@ def entered(repository: Repository, payload: bytes) -> bool:
     if payload[0] == 0x43:
         repository.put_changeset(payload)
         return True
-    if payload[0] not in b"\x4d\x4c\x4e" or not 1 <= payload[1] <= 128:
+    if payload[0] != 0x41:
+        return repository.rules is None and decided(repository, NOBODY, payload)
+    caller, inner = named(payload[1:])
+    if inner[:1] == b"\x52":
+        repository.set_policy(caller, inner[1:])
+        return True
+    return repository.rules is not None and decided(repository, caller, inner)
+
+
+def named(data: bytes) -> tuple[str, bytes]:
+    """A name behind its length, and what follows; ValueError where there is none."""
+    name, rest = data[1 : 1 + data[0]], data[1 + data[0] :]
+    if not 1 <= data[0] <= 128 or not re.fullmatch(rb"[A-Za-z0-9_.-]{%d}" % data[0], name):
+        raise ValueError
+    return name.decode(), rest
+
+
+def decided(repository: Repository, caller: str, payload: bytes) -> bool:
+    """A move or a landing."""
+    if payload[0] not in b"\x4d\x4c\x4e":
         return False
-    name, rest = payload[2 : 2 + payload[1]], payload[2 + payload[1] :]
-    if len(name) < payload[1] or not re.fullmatch(rb"[A-Za-z0-9_.-]+", name):
-        return False
+    name, rest = named(payload[1:])
     if payload[0] == 0x4D:
-        return moved(repository, name.decode(), rest)
+        return moved(repository, caller, name, rest)
     if payload[0] == 0x4C:
-        return landed(repository, name.decode(), rest[:64], rest[64:])
+        return landed(repository, caller, name, rest[:64], rest[64:])
     moment = rest[64:72]
-    return len(moment) == 8 and landed(repository, name.decode(), rest[:64], rest[72:], moment)
+    return len(moment) == 8 and landed(repository, caller, name, rest[:64], rest[72:], moment)
 
 
-def moved(repository: Repository, name: str, rest: bytes) -> bool:
+def moved(repository: Repository, caller: str, name: str, rest: bytes) -> bool:
     sides: list[str | None] = []
     for _ in range(2):
         if rest[:1] == b"\x00":
@@ -323,12 +385,13 @@ def moved(repository: Repository, name: str, rest: bytes) -> bool:
             return False
     if rest:
         return False
-    repository.set_bookmark(name, *sides)
+    old, new = sides
+    repository.set_bookmark(name, old, new, caller)
     return True
 
 
 def landed(
-    repository: Repository, name: str, ids: bytes, rest: bytes, moment: bytes = b""
+    repository: Repository, caller: str, name: str, ids: bytes, rest: bytes, moment: bytes = b""
 ) -> bool:
     if len(rest) < 2:
         return False
@@ -350,5 +413,5 @@ def landed(
     if any(one.is_dated for one in stack) != bool(moment):
         return False
     repository.clock = lambda: at
-    repository.land(name, draft_id)
+    repository.land(name, draft_id, caller)
     return True

@@ -13,6 +13,7 @@ from types import SimpleNamespace
 from .harness import TOP
 from .program_misses import MISSES
 from .stand_in.http import Service, Session
+from .stand_in.policy import NOBODY
 from .stand_in.repository import Repository
 from .stand_in.spelling import digest
 
@@ -41,8 +42,9 @@ LAST = (
 """A request that ends the session, and one that isn't read."""
 
 
-def request(line: str, body: bytes = b"") -> bytes:
-    return f"{line} HTTP/1.1\r\nContent-Length: {len(body)}\r\n\r\n".encode() + body
+def request(line: str, body: bytes = b"", callers: tuple[str, ...] = ()) -> bytes:
+    named = "".join(f"Caller: {caller}\r\n" for caller in callers)
+    return f"{line} HTTP/1.1\r\n{named}Content-Length: {len(body)}\r\n\r\n".encode() + body
 
 
 def spelled(
@@ -94,6 +96,7 @@ class Script:
         self.repository = Repository(int.from_bytes(file[8:16], "big"))
         self.repository.put_content(b"abc")
         assert self.repository.size == len(file) and digest(b"abc") == ABC
+        assert file[7] == self.repository.version
         self.service = Service(self.repository, has_manifests=True)
         self.read = b""
         self.written = b""
@@ -120,6 +123,10 @@ class Script:
         """Stores a changeset, and gives its id."""
         self.say(request("PUT /changeset", data))
         return digest(data)
+
+    def by(self, *callers: str, line: str, body: bytes = b"") -> None:
+        """Asks by these callers, of whom there should be one."""
+        self.say(request(line, body, callers))
 
     def leave(self, room: int) -> None:
         """Stores a content after which so many bytes of the capacity are left."""
@@ -314,8 +321,36 @@ history/{tree}/c
 history/{tree}
 history/{lines}/p/
 history
+deleted/{tree}
+deleted/{tree}/a
+deleted/{gone}
+deleted/{gone}/p
+deleted/{gone}/q
+deleted/{lines}
+deleted/{lines}/p
+deleted/{over}
+deleted/{over}/a
+deleted/{over}/a/x
+deleted/{over}/a/x/y
+deleted/{over}/a/y
+deleted/{over}/a/%FF
+deleted/
+pathlog/{lines}/p
+pathlog/{gone}/p
+pathlog/{root}/p
+pathlog/{tree}/a/x
+pathlog/{tree}/a
+pathlog/{tree}
+pathlog/{over}/a
+pathlog/{over}/a/x
+pathlog/{over}/a/x/y
+pathlog/{over}/a/y/z
+pathlog/{over}/b
+pathlog/{over}/c
+pathlog/{over}/..
 """
-"""Manifests of `a/x` and `b`, of no file, and of a file that was set, deleted and set again."""
+"""Manifests of `a/x` and `b`, of no file, and of a file that was set, deleted and set again; and
+of a directory that became a file and a directory again."""
 
 
 def manifests(script: Script, root: str) -> None:
@@ -324,12 +359,86 @@ def manifests(script: Script, root: str) -> None:
     before = digest(spelled(sets("p"), parents=(root,)))
     gone = script.commit(spelled(deletes("p"), parents=(before,)))
     lines = script.commit(spelled(sets("p"), parents=(gone,)))
+    file = script.commit(spelled(sets("a"), parents=(tree,)))
+    deep = script.commit(spelled(sets("a/x/y"), sets("a/y"), parents=(file,)))
+    over = script.commit(spelled(sets("a/x"), deletes("a/y"), parents=(deep,)))
+    marks = {"tree": tree, "root": root, "lines": lines, "gone": gone, "over": over}
     for line in TREE_READS.split("\n")[1:-1]:
-        for mark, text in [("{tree}", tree), ("{root}", root), ("{lines}", lines)]:
-            line = line.replace(mark, text)
+        for mark, text in marks.items():
+            line = line.replace(f"{{{mark}}}", text)
         script.ask(f"GET /{line}")
     script.ask(f"GET /fsnode/{ABC}", f"GET /unode/{ABC}/a", f"GET /history/{ABC}/a")
+    script.ask(f"GET /deleted/{ABC}", f"GET /pathlog/{ABC}/a", f"HEAD /deleted/{gone}")
     script.ask(f"PUT /fsnode/{tree}", f"POST /unode/{tree}/a", f"DELETE /history/{tree}/a")
+    script.ask(f"PUT /deleted/{tree}", f"POST /pathlog/{tree}/a")
+
+
+LIB = b"allow ann lib\ndeny * lib\nallow * /\n"
+BAD_POLICIES = (
+    b"",
+    b"allow ann",
+    b"allow ann /",
+    b"allow ann lib\nallow * /\n\n",
+    b"allow * lib/\n",
+    b"deny a/b /\n",
+    b"allow  /\n",
+    b"allow * \xff\n",
+    b"Deny * /\n",
+    b"allow * /\n" * 1_001,
+    b"allow * /\n" * 6_554,
+)
+"""Texts that break the grammar of policies, or are too long."""
+
+
+def policies(script: Script, root: str) -> None:
+    """Policies, what they allow whom, and in the end one that allows all."""
+    script.ask("GET /policy", "GET /policy/0", "GET /policy/x", "POST /policy", "HEAD /policy")
+    for text in BAD_POLICIES:
+        script.say(request("PUT /policy", text))
+    script.by("a b", line="PUT /policy", body=b"")
+    script.ask(f"PUT /bookmark/held/none/{root}")
+    number = len(script.repository.entries)
+    script.by("ann", line="PUT /policy", body=LIB)
+    script.ask("GET /policy", f"GET /policy/{number}", f"GET /policy/{number - 1}")
+    lib = script.commit(spelled(sets("a"), sets("lib/x"), parents=(root,)))
+    beside = script.commit(spelled(sets("lib.x"), sets("libx"), parents=(root,)))
+    clash = script.commit(spelled(deletes("lib"), parents=(root,)))
+    for callers in (("bob",), ("ann", "bob"), ("",), ("a/b",), ("x" * 129,), ("ann",), ()):
+        script.by(*callers, line=f"POST /land/held/{lib}")
+    script.by("b.o_b-", line=f"POST /land/held/{beside}")
+    script.by("bob", line=f"POST /land/held/{clash}")
+    script.by("ann", line=f"POST /land/held/{clash}")
+    script.by("a b", line="POST /land/held/x")
+    script.by("a b", line=f"POST /land/a%20b/{lib}")
+    script.by("a b", line="GET /policy")
+    script.by("a b", line="PUT /content", body=b"by nobody")
+    head = script.repository.head("held")
+    only_ann(script, head)
+    script.ask(f"GET /log/{number}", f"PUT /bookmark/held/{head}/{head}")
+
+
+def only_ann(script: Script, head: str) -> None:
+    """A policy that allows one caller all, and then again one for everybody."""
+    script.by("bob", line="PUT /policy", body=b"allow ann /\n")
+    for line in (
+        f"PUT /bookmark/held/{head}/none",
+        f"PUT /bookmark/held/{head}/{head}",
+        f"PUT /bookmark/held/none/{head}",
+        f"PUT /bookmark/../none/{head}",
+        f"POST /land/held/{script.commit(spelled(sets('z'), parents=(head,)))}",
+        f"POST /land/held/{script.commit(spelled(parents=(head,)))}",
+    ):
+        script.by("bob", line=line)
+    script.by("bob", line="PUT /policy", body=b"allow * /\n")
+    script.by("bob", line="PUT /policy", body=b"allow\n")
+    script.by("ann", line="PUT /policy", body=b"deny * a b\nallow * /\n")
+
+
+def wholes(script: Script) -> None:
+    """Contents aren't joined yet."""
+    for length in (0, 31, 32, 64, 2_048, 2_080):
+        script.say(request("PUT /whole", bytes(length)))
+    script.ask("GET /whole", "PUT /whole/")
 
 
 def pages(script: Script) -> None:
@@ -343,12 +452,13 @@ def little_room(script: Script, root: str) -> None:
     """Landings where a byte too few is left, with a moment and without; then uploads where 34
     bytes are left, and then none.
     """
+    wrapper = 2 + len(NOBODY)
     draft = script.commit(spelled(sets("p"), parents=(root,)))
     dated = script.commit(spelled(copies("q", "p"), parents=(root,), version=2))
     script.ask(f"PUT /bookmark/full/none/{root}")
-    script.leave(196)
+    script.leave(196 + wrapper)
     script.ask(f"POST /land/full/{dated}")
-    script.leave(183)
+    script.leave(183 + wrapper)
     script.ask(f"POST /land/full/{draft}", "GET /bookmark/full")
     script.leave(34)
     other = digest(b"other")
@@ -383,6 +493,8 @@ def made() -> Script:
     clashes(script, root)
     copied_files(script, root)
     manifests(script, root)
+    policies(script, root)
+    wholes(script)
     for head in HEADS:
         script.say(head)
     pages(script)

@@ -307,7 +307,7 @@ class BothReaders(unittest.TestCase):
             ("author", replace(EMPTY, author="a\nb")),
             ("4,097 paths", replace(EMPTY, changes={str(n): None for n in range(4_097)})),
             ("refused", replace(EMPTY, changes={"a//b": file})),
-            ("1,048,577 bytes", replace(EMPTY, changes={"a": File(ABC, 1_048_577)})),
+            ("67,108,865 bytes", replace(EMPTY, changes={"a": File(ABC, 67_108_865)})),
             ("over 1,048,576", replace(EMPTY, message="x" * 1_048_576)),
             ("date", replace(EMPTY, seconds=2**63)),
             ("no version 3", replace(EMPTY, asked_version=3)),

@@ -13,7 +13,7 @@ from .harness import TOP, Case, fresh, jarrah
 from .test_encoding import ABC, EMPTY
 
 API = (TOP / "docs" / "API.md").read_text()
-ANSWERS = {"content", "changeset", "copies", "bookmark", "landed", "log", "history"}
+ANSWERS = {"content", "changeset", "copies", "bookmark", "landed", "log", "history", "path-log", "policy"}
 LATER = {"no-path", "not-a-dir", "not-a-file", "bad-path", "too-long"}
 """Codes of the routes of manifests that docs/API.md doesn't have yet."""
 ID = "0123456789abcdef" * 4
@@ -31,6 +31,8 @@ MEMBERS = {
     "long": "a/b",
     "short": "a",
     "path": "some/path",
+    "rule": 3,
+    "line": 7,
 }
 NAMED = {
     "clash": ("lib/x", "lib,"),
@@ -49,6 +51,9 @@ NAMED = {
     "bad-id": ("5",),
     "bad-name": ("5",),
     "bad-path": ("5",),
+    "denied": ("some/path", "rule 3"),
+    "bad-policy": ("7",),
+    "bad-parts": ("4,075",),
 }
 """What the words have to name."""
 

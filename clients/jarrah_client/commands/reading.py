@@ -7,6 +7,7 @@ import os
 import sys
 import time
 from argparse import Namespace
+from collections.abc import Iterable, Iterator
 from itertools import islice
 from pathlib import Path
 from typing import Any
@@ -31,10 +32,10 @@ from ..output import (
 from ..paths import is_bookmark_name
 from ..reads import file_at, remember
 from ..refusals import Fault, WrongWords, about
-from ..repository import Log, by_front, chain
+from ..repository import Landing, Log, by_front, chain
 from ..server import NotReached, Server, Trouble, is_passing
 from ..text_diff import unified
-from ..trees import history_of, last_changes, tree_of
+from ..trees import fate, history_of, last_changes, path_log_of, tree_of
 from ..working.scan import is_in
 from ..working.state import WorkingCopy
 from .copies import diff_folder, tell_diff
@@ -50,6 +51,10 @@ def add(add: Add) -> None:
     one.add_argument("-n", dest="count", type=natural, help="so many at most")
     one.add_argument("--oneline", action="store_true", help="one line for each")
     one.add_argument("--patch-names", action="store_true", help="with the paths of each")
+    one.add_argument(
+        "--path", help="those alone that set this file or took it away, also before it was deleted"
+    )
+    add_fold(one)
     one = add("entries", entries, "tell the server's update log")
     one.add_argument("--from", dest="start", metavar="N", type=natural, default=0)
     one.add_argument(
@@ -91,16 +96,39 @@ def log(options: Namespace, server: Server, out: Output) -> None:
     start = resolve(server, options.revision, lambda front: by_front(known, front))
     known.read_on()
     names = known.names()
-    for changeset in islice(chain(server, start), options.count):
+    for changeset in islice(logged(options, server, start), options.count):
         at, landing = names.get(changeset.id, []), known.landings.get(changeset.id)
-        if options.oneline:
-            lines: Any = short_lines(changeset)
-        else:
-            lines = changeset_lines(changeset, at, options.patch_names, landing)
         document = changeset_document(changeset) | {"bookmarks": at, "landed": None}
         if landing:
             document["landed"] = landing_document(landing)
-        out.tell(document, lines)
+        if options.path is not None:
+            document["at_path"] = fate(changeset, options.path.strip("/"))
+        out.tell(document, log_lines(options, changeset, at, landing))
+
+
+def logged(options: Namespace, server: Server, start: str) -> Iterator[Changeset]:
+    """The changesets of a log, the newest first."""
+    if options.path is None:
+        yield from chain(server, start)
+        return
+    path = options.path.strip("/")
+    with about(path):
+        ids = path_log_of(server, start, path, fold=options.fold)
+    for id in ids:
+        yield server.changeset(id)
+
+
+def log_lines(
+    options: Namespace, changeset: Changeset, at: list[str], landing: Landing | None
+) -> Iterable[str]:
+    """A changeset of a log for people; where it is of one path, with what became of that."""
+    word = "" if options.path is None else fate(changeset, options.path.strip("/"))
+    if options.oneline:
+        return [f"{word:<9}{short_lines(changeset)}" if word else short_lines(changeset)]
+    lines = list(changeset_lines(changeset, at, options.patch_names, landing))
+    if word:
+        lines.insert(1, f"path      {word}")
+    return lines
 
 
 def entries(options: Namespace, server: Server, out: Output) -> None:

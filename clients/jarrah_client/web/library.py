@@ -16,7 +16,7 @@ from ..refusals import Fault, Refused, about
 from ..repository import by_front
 from ..server import Server
 from ..text_diff import text_of
-from ..trees import Tree, history_of, last_changes, tree_of
+from ..trees import Tree, fate, history_of, last_changes, path_log_of, tree_of
 from .kept import Kept, Line
 
 LOG_LENGTH = 30
@@ -173,6 +173,15 @@ class Visit:
         history = [brief(self.changeset(one)) for one in past[:HISTORY_LENGTH]]
         document = {"id": id, "path": path, "text": text, **file_document(file)}
         return document | {"history": history, "older": len(past) - len(history)}
+
+    def past(self, question: Question) -> dict[str, Any]:
+        """The changesets that set a file or took it away, also where none is now."""
+        id, path = self.place(question)
+        with about(path):
+            ids = path_log_of(self.server, id, path, fold=self.library.fold)
+        shown = [self.changeset(one) for one in ids[:HISTORY_LENGTH]]
+        rows = [brief(one) | {"at_path": fate(one, path)} for one in shown]
+        return {"id": id, "path": path, "changesets": rows, "older": len(ids) - len(rows)}
 
     def raw(self, question: Question) -> bytes:
         """A file's bytes."""

@@ -69,6 +69,7 @@ READS = (
     Route("GET", "/api/tree/{revision}/{path}", Visit.directory),
     Route("GET", "/api/last/{revision}/{path}", Visit.last),
     Route("GET", "/api/file/{revision}/{path}", Visit.file),
+    Route("GET", "/api/past/{revision}/{path}", Visit.past),
     Route("GET", "/api/diff/{revision}/{path}", diff),
     Route("GET", "/api/search/{revision}", search),
     Route("GET", "/raw/{revision}/{path}", raw),
@@ -100,7 +101,7 @@ def answered(library: Library, route: Route, question: Question, body: bytes) ->
 
 def health(library: Library) -> dict[str, Any]:
     """Whether the server answers, and how many entries it has."""
-    server = Server(library.server.url, HEALTH_SECONDS)
+    server = Server(library.server.url, HEALTH_SECONDS, library.server.caller)
     try:
         total = server.log(0).total
     finally:

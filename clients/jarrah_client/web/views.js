@@ -117,8 +117,12 @@ async function fillLast(id, path, cells, from) {
 }
 
 async function file(id, path, query) {
-  const found = await ask(`file/${encodeURIComponent(id)}`, path);
+  const [found, past] = await Promise.all([
+    ask(`file/${encodeURIComponent(id)}`, path).catch(() => null), ask(`past/${encodeURIComponent(id)}`, path)]);
   const name = path.split("/").pop();
+  if (!found) {
+    return [crumbs(past.id, path), heading(name), make("p", { class: "note" }, "There is no file here now."), ...pastRows(past)];
+  }
   const source = `raw/${found.id}/${encoded(path)}`;
   const card = make("div", { class: "card" });
   let line = null;
@@ -138,12 +142,21 @@ async function file(id, path, query) {
   }
   const parts = [crumbs(found.id, path), heading(name),
     make("div", { class: "actions" }, soft(`${found.kind}, ${sized(found.size)}`), make("a", { href: source, download: name }, "Download")),
-    card,
-    make("h2", {}, "History ", make("small", {}, counted(found.history.length + found.older, "changeset"))),
-    list(found.history.map(changesetRow), ""),
-    found.older ? make("p", { class: "soft" }, `and ${found.older} older`) : null];
+    card, ...pastRows(past)];
   parts.target = line;
   return parts;
+}
+
+// What set a file or took it away, also before it was deleted.
+function pastRows(past) {
+  const row = (one) => {
+    const made = changesetRow(one);
+    if (one.at_path === "deleted") made.querySelector(".title").prepend("deleted it: ");
+    return made;
+  };
+  return [make("h2", {}, "History ", make("small", {}, counted(past.changesets.length + past.older, "changeset"))),
+    list(past.changesets.map(row), ""),
+    past.older ? make("p", { class: "soft" }, `and ${past.older} older`) : null];
 }
 
 async function search(name, _, query) {

@@ -13,14 +13,16 @@ from dataclasses import dataclass
 from http.server import ThreadingHTTPServer
 from urllib.parse import unquote_to_bytes
 
+from .policy import NOBODY
 from .repository import Repository
-from .spelling import MOST, Refusal, path_place
+from .spelling import MOST, Refusal, is_name, name_place, path_place
 
 MOST_HEAD = 16_384
 MOST_HEADERS = 64
 REASONS = {
     200: "OK",
     400: "Bad Request",
+    403: "Forbidden",
     404: "Not Found",
     405: "Method Not Allowed",
     409: "Conflict",
@@ -48,12 +50,21 @@ ROUTES = [
     (r"/fsnode/([^/]+)(?:/(.+))?", "GET", "fsnode"),
     (r"/unode/([^/]+)(?:/(.+))?", "GET", "unode"),
     (r"/history/([^/]+)/(.+)", "GET", "history"),
+    (r"/deleted/([^/]+)(?:/(.+))?", "GET", "deleted"),
+    (r"/pathlog/([^/]+)/(.+)", "GET", "path_log"),
+    (r"/policy/([^/]+)", "GET", "policy"),
+    (r"/policy", "GET", "policy"),
+    (r"/policy", "PUT", "set_policy"),
+    (r"/whole", "PUT", "put_whole"),
 ]
-LATER_ROUTES = ("fsnode", "unode", "history")
+LATER_ROUTES = ("fsnode", "unode", "history", "deleted", "path_log")
 """The routes of manifests."""
 
-BODIES = ("put_content", "put_changeset")
-BYTES = ("content", "changeset", "fsnode", "unode")
+BODIES = ("put_content", "put_changeset", "put_whole", "set_policy")
+STORES = tuple(pattern for pattern, method, call in ROUTES if call in BODIES)
+"""The targets of which a body's length has to be told."""
+BY_CALLERS = ("land", "set_bookmark", "set_policy")
+BYTES = ("content", "changeset", "fsnode", "unode", "deleted", "policy")
 JSON, OCTETS = "application/json", "application/octet-stream"
 
 
@@ -101,12 +112,19 @@ class Head:
         lengths = [value for name, value in self.headers if name == b"content-length"]
         if len(lengths) > 1 or (lengths and not lengths[0].isdigit()):
             raise Refusal(400, "bad-length")
-        if not lengths and self.method == "PUT" and self.target in ("/content", "/changeset"):
+        if not lengths and self.method == "PUT" and self.target in STORES:
             raise Refusal(411, "no-length")
         length = int(lengths[0]) if lengths else 0
         if length > MOST:
             raise Refusal(413, "body-too-large")
         return length
+
+    def caller(self) -> str:
+        """Who asks, by the one `Caller` header."""
+        names = [value for name, value in self.headers if name == b"caller"]
+        if len(names) > 1 or (names and not is_name(names[0])):
+            raise Refusal(400, "bad-caller")
+        return names[0].decode() if names else NOBODY
 
 
 def id_of(data: bytes) -> str:
@@ -121,10 +139,7 @@ def id_of(data: bytes) -> str:
 
 
 def name_of(data: bytes) -> str:
-    allowed = b"ABCDEFGHIJKLMNOPQRSTUVWXYZabcdefghijklmnopqrstuvwxyz0123456789_.-"
-    fault = next((at for at, byte in enumerate(data[:128]) if byte not in allowed), None)
-    if fault is None and len(data) > 128:
-        fault = 128
+    fault = name_place(data)
     if fault is not None:
         raise Refusal(400, "bad-name", place=fault)
     return data.decode()
@@ -158,6 +173,9 @@ PARAMETERS: dict[str, list[tuple[str, Callable]]] = {
     "fsnode": [("bad-id", id_of), ("bad-path", path_of)],
     "unode": [("bad-id", id_of), ("bad-path", path_of)],
     "history": [("bad-id", id_of), ("bad-path", path_of)],
+    "deleted": [("bad-id", id_of), ("bad-path", path_of)],
+    "path_log": [("bad-id", id_of), ("bad-path", path_of)],
+    "policy": [("bad-number", number_of)],
 }
 
 
@@ -206,18 +224,23 @@ class Service:
     def routed(self, head: Head, data: bytes) -> Answer:
         if not head.target.startswith("/"):
             raise Refusal(400, "bad-target")
-        for pattern, method, call in self.routes:
-            match = pattern.fullmatch(head.target)
-            if match is None:
-                continue
-            if head.method != method:
-                raise Refusal(405, "method", allow=method)
-            words = parameters(call, [text for text in match.groups() if text is not None])
-            if call in BODIES:
-                words.append(data)
-            with self.turn:
-                return Answer(200, getattr(self, call)(*words), OCTETS if call in BYTES else JSON)
-        raise Refusal(404, "no-route")
+        found = {
+            method: (call, match)
+            for pattern, method, call in reversed(self.routes)
+            if (match := pattern.fullmatch(head.target))
+        }
+        if not found:
+            raise Refusal(404, "no-route")
+        if head.method not in found:
+            raise Refusal(405, "method", allow=", ".join(sorted(found)))
+        call, match = found[head.method]
+        words = parameters(call, [text for text in match.groups() if text is not None])
+        if call in BY_CALLERS:
+            words.insert(0, head.caller())
+        if call in BODIES:
+            words.append(data)
+        with self.turn:
+            return Answer(200, getattr(self, call)(*words), OCTETS if call in BYTES else JSON)
 
     def put_content(self, data: bytes) -> bytes:
         return body("content", {"id": self.repository.put_content(data), "size": len(data)})
@@ -234,15 +257,25 @@ class Service:
     def copies(self, id: str) -> bytes:
         return body("copies", {"copies": self.repository.copies(id)})
 
-    def set_bookmark(self, name: str, old: str | None, new: str | None) -> bytes:
-        head = self.repository.set_bookmark(name, old, new)
+    def put_whole(self, data: bytes) -> bytes:
+        self.repository.put_whole(data)
+        raise AssertionError("contents aren't joined")
+
+    def set_policy(self, caller: str, text: bytes) -> bytes:
+        return body("policy", {"number": self.repository.set_policy(caller, text)})
+
+    def policy(self, number: int | None = None) -> bytes:
+        return self.repository.policy(number)
+
+    def set_bookmark(self, caller: str, name: str, old: str | None, new: str | None) -> bytes:
+        head = self.repository.set_bookmark(name, old, new, caller)
         return body("bookmark", {"head": head, "name": name})
 
     def head(self, name: str) -> bytes:
         return body("bookmark", {"head": self.repository.head(name), "name": name})
 
-    def land(self, name: str, id: str) -> bytes:
-        return body("landed", self.repository.land(name, id))
+    def land(self, caller: str, name: str, id: str) -> bytes:
+        return body("landed", self.repository.land(name, id, caller))
 
     def log(self, start: int) -> bytes:
         page = self.repository.log(start)
@@ -257,6 +290,12 @@ class Service:
 
     def history(self, id: str, path: str) -> bytes:
         return body("history", {"ids": self.repository.manifests.history(id, path)})
+
+    def deleted(self, id: str, path: str = "") -> bytes:
+        return self.repository.manifests.deleted(id, path)
+
+    def path_log(self, id: str, path: str) -> bytes:
+        return body("path-log", {"ids": self.repository.manifests.path_log(id, path)})
 
 
 class Session(socketserver.StreamRequestHandler):
@@ -340,10 +379,11 @@ class StandIn(ThreadingHTTPServer):
         lanes: int | None = None,
         has_manifests: bool = True,
         idle_seconds: float | None = None,
+        version: int = 2,
     ):
         super().__init__(("127.0.0.1", port), Session)
         self.idle_seconds = idle_seconds
-        self.repository = Repository(capacity)
+        self.repository = Repository(capacity, version)
         self.service = Service(self.repository, has_manifests)
         self.lanes = threading.Semaphore(lanes) if lanes else nullcontext()
         self.url = f"http://127.0.0.1:{self.server_address[1]}"

@@ -23,6 +23,8 @@ class Past:
 
     nodes: dict[str, tuple[str, bytes, bool]]
     tree: dict[str, Set]
+    gone: dict[str, str]
+    """Of each path that was a file and isn't now, the changeset that took it away last."""
 
 
 def tree_after(before: dict[str, Set], record: Record) -> dict[str, Set]:
@@ -129,7 +131,30 @@ def past_after(before: Past | None, record: Record) -> Past:
         nodes[path] = (digest(data), data, is_file)
 
     visit(nested(tree), "")
-    return Past(nodes, tree)
+    return Past(nodes, tree, gone_after(before, record.id, tree))
+
+
+def gone_after(before: Past | None, id: str, tree: dict[str, Set]) -> dict[str, str]:
+    """What is taken away at a changeset with this tree, by its first parent's past."""
+    if before is None:
+        return {}
+    gone = before.gone | dict.fromkeys(before.tree, id)
+    return {path: link for path, link in gone.items() if path not in tree}
+
+
+def deleted_nodes(gone: dict[str, str]) -> dict[str, bytes]:
+    """The deleted node of each path that has one, by path; the root is the empty text."""
+    below: dict[str, set[str]] = {"": set()}
+    for path in gone:
+        for front, longer in zip(["", *fronts(path)], [*fronts(path), path]):
+            below.setdefault(front, set()).add(longer)
+    found: dict[str, bytes] = {}
+    for path in sorted({*below, *gone}, key=lambda path: -len(path)):
+        link = b"\x01" + bytes.fromhex(gone[path]) if path in gone else b"\x00"
+        entries = sorted(below.get(path, ()), key=lambda one: one.rpartition("/")[2].encode())
+        rest = [name_bytes(p.rpartition("/")[2]) + bytes.fromhex(digest(found[p])) for p in entries]
+        found[path] = b"\x44\x01" + link + struct.pack(">I", len(rest)) + b"".join(rest)
+    return found
 
 
 class Manifests:
@@ -166,6 +191,26 @@ class Manifests:
         if found is None:
             raise Refusal(404, "no-path")
         return found[1]
+
+    def deleted(self, id: str, path: str) -> bytes:
+        self.prepare(id)
+        found = deleted_nodes(self.past(id).gone).get(path)
+        if found is None:
+            raise Refusal(404, "no-path")
+        return found
+
+    def path_log(self, id: str, path: str) -> list[str]:
+        """The changesets of the chain that set a path or took it away, newest first."""
+        self.prepare(id)
+        found = [record.id for record in self.chain(id) if self.is_logged(record, path)]
+        if not found:
+            raise Refusal(404, "no-path")
+        return found[::-1]
+
+    def is_logged(self, record: Record, path: str) -> bool:
+        before = self.past(record.parents[0]).tree if record.parents else {}
+        after = self.past(record.id).tree
+        return record.set_at(path) is not None or before.get(path) != after.get(path)
 
     def history(self, id: str, path: str) -> list[str]:
         """The changesets that set the file, newest first, to the first whose parent lacks it."""

@@ -5,6 +5,7 @@ from __future__ import annotations
 import time
 
 from .manifests import Manifests
+from .policy import NOBODY, Rule, read_policy, refuse_denied
 from .spelling import MOST, Record, Refusal, comparable, digest, key, read_changeset, with_parent
 
 MOST_RANGE = 10_000
@@ -16,13 +17,17 @@ PAGE = 100
 class Repository:
     """Contents, changesets, bookmarks and the log, in memory."""
 
-    def __init__(self, capacity: int = 34_359_738_368):
+    def __init__(self, capacity: int = 34_359_738_368, version: int = 2):
         self.capacity = capacity
+        self.version = version
         self.size = 17
         self.contents: dict[str, bytes] = {}
         self.changesets: dict[str, Record] = {}
         self.bookmarks: dict[str, str] = {}
         self.entries: list[dict] = []
+        self.policies: dict[int, bytes] = {}
+        """The texts of policies by the numbers of their entries, the last of which is held."""
+        self.rules: list[Rule] | None = None
         self.clock = lambda: int(time.time())
         self.manifests = Manifests(self.chain, self.changeset)
 
@@ -41,6 +46,11 @@ class Repository:
             record = self.changesets[record.parents[0]]
             line.append(record)
         return line[::-1]
+
+    def append_by(self, caller: str, payload: int, entry: dict) -> None:
+        """Makes an entry that tells its caller, if a policy is held."""
+        told = {} if self.rules is None else {"caller": caller}
+        self.append(payload + (2 + len(caller) if told else 0), told | entry)
 
     def put_content(self, data: bytes) -> str:
         if len(data) > MOST:
@@ -90,21 +100,50 @@ class Repository:
             raise Refusal(404, "no-bookmark")
         return self.bookmarks[name]
 
-    def set_bookmark(self, name: str, old: str | None, new: str | None) -> str | None:
+    def put_whole(self, data: bytes) -> None:
+        """Contents aren't joined yet, in a file of any version."""
+        if len(data) % 32 or not 32 <= len(data) <= 2_048:
+            raise Refusal(400, "bad-parts", length=len(data))
+        raise Refusal(409, "old-format")
+
+    def set_policy(self, caller: str, text: bytes) -> int:
+        if self.version == 1:
+            raise Refusal(409, "old-format")
+        rules = read_policy(text)
+        refuse_denied(self.rules, caller, [".policy"])
+        number = len(self.entries)
+        entry = {"kind": "policy", "caller": caller, "rules": len(rules)}
+        self.append(2 + len(caller) + 1 + len(text), entry)
+        self.policies[number], self.rules = text, rules
+        return number
+
+    def policy(self, number: int | None) -> bytes:
+        """The text of the policy that is held, or of an entry."""
+        if number is None:
+            number = max(self.policies, default=None)
+        if number not in self.policies:
+            raise Refusal(404, "no-policy")
+        return self.policies[number]
+
+    def set_bookmark(
+        self, name: str, old: str | None, new: str | None, caller: str = NOBODY
+    ) -> str | None:
         if new is not None:
             self.changeset(new)
         found = self.bookmarks.get(name)
         if found != old:
             raise Refusal(409, "moved", found=found)
+        refuse_denied(self.rules, caller, [f".bookmarks/{name}"])
         if old != new:
             payload = 2 + len(name) + (33 if old else 1) + (33 if new else 1)
-            self.append(payload, {"kind": "bookmark", "name": name, "from": old, "to": new})
+            entry = {"kind": "bookmark", "name": name, "from": old, "to": new}
+            self.append_by(caller, payload, entry)
         self.bookmarks.pop(name, None)
         if new is not None:
             self.bookmarks[name] = new
         return new
 
-    def land(self, name: str, draft: str) -> dict:
+    def land(self, name: str, draft: str, caller: str = NOBODY) -> dict:
         moment = self.clock()
         old = self.head(name)
         self.changeset(draft)
@@ -115,16 +154,18 @@ class Repository:
             raise Refusal(409, "already-in")
         if len(stack) > MOST_STACK:
             raise Refusal(413, "stack-too-long", count=len(stack))
+        refuse_denied(self.rules, caller, touched(stack))
         refuse_clash(touched(stack), touched(behind))
         records = rebased(stack, old, moment)
         dated = {"moment": moment} if any(r.is_dated for r in records) else {}
         payload = 2 + len(name) + 32 + 32 + 2 + sum(4 + len(r.data) for r in records)
         payload += 8 if dated else 0
-        if payload > MOST_PAYLOAD:
-            raise Refusal(413, "too-large", length=payload)
+        wrapped = payload + (0 if self.rules is None else 2 + len(caller))
+        if wrapped > MOST_PAYLOAD:
+            raise Refusal(413, "too-large", length=wrapped)
         ids = [record.id for record in records]
         entry = {"kind": "landing", "name": name, "old": old, "draft": draft, "ids": ids}
-        self.append(payload, entry | dated)
+        self.append_by(caller, payload, entry | dated)
         for record in records:
             self.changesets.setdefault(record.id, record)
         self.bookmarks[name] = ids[-1]

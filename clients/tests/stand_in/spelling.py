@@ -9,6 +9,7 @@ from functools import cached_property
 from hashlib import sha256
 
 MOST = 1_048_576
+MOST_SIZE = 67_108_864
 LAST_SECOND = 2**63 - 1
 
 
@@ -83,6 +84,19 @@ def is_element(data: bytes) -> bool:
     return 1 <= len(data) <= 255 and not set(data) & {0, 10, 47} and data not in (b".", b"..")
 
 
+NAME_BYTES = b"ABCDEFGHIJKLMNOPQRSTUVWXYZabcdefghijklmnopqrstuvwxyz0123456789_.-"
+
+
+def name_place(data: bytes) -> int | None:
+    """The place of the fault of a bookmark's or a caller's name: its first byte that isn't allowed, or 128."""
+    fault = next((at for at, byte in enumerate(data[:128]) if byte not in NAME_BYTES), None)
+    return 128 if fault is None and len(data) > 128 else fault
+
+
+def is_name(data: bytes) -> bool:
+    return bool(data) and name_place(data) is None
+
+
 def path_place(data: bytes) -> int | None:
     """The place of a path's fault: 0, 4,096, or where the first faulty element begins."""
     if not data:
@@ -147,7 +161,7 @@ def read_change(
     if reader.number(1, 0, 1) == 0:
         return path, None
     kind = reader.number(1, 0, 2)
-    size = reader.number(8, 0, MOST)
+    size = reader.number(8, 0, MOST_SIZE)
     content = reader.take(32).hex()
     copied = read_source(reader, parents) if version == 2 else None
     return path, Set(content, size, kind, copied)
