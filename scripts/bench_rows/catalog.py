@@ -2,7 +2,7 @@
 
 from __future__ import annotations
 
-from . import answers, calls, landings, memory, names, opening, ranges, seals, upload
+from . import answers, calls, landings, memory, names, opening, paths, policies, ranges, seals, upload
 from .row import Row
 
 LISTED = (
@@ -12,6 +12,8 @@ LISTED = (
     Row("range-opening", "opening such landings, beside those over 1", ranges.opening),
     Row("names", "reads of one name in wide directories, beside the root", names.reads),
     Row("commit", "a commit in a directory of 10,000, beside hashing its nodes", names.commit),
+    Row("policy", "landing 4,096 paths under 1,000 rules, beside no rule", policies.landings),
+    Row("pathlog", "a log of a path over 10,000 commits, beside history", paths.logs),
     Row("opening", "opening 100 MiB and 1 GiB, beside openssl's SHA-256", opening.opening),
     Row("contents", "upload of 1 MiB, new and known, beside hashing it", upload.contents),
     Row("changesets", "uploads of changesets, and landings, beside contents", upload.changesets),

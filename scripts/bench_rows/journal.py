@@ -7,7 +7,7 @@ from pathlib import Path
 from jarrah_client.changesets import Changeset, File
 from jarrah_client.fields import digest
 
-MARK = b"BONSAI\x00\x01"
+MARK = b"BONSAI\x00\x02"
 CAPACITY = 4_294_967_296
 ROOT = Changeset((), "a bench", 0, 0, "")
 """The empty changeset that stands under all others."""
@@ -44,6 +44,10 @@ class Journal:
     def bookmark(self, name: str, to: str) -> None:
         """A bookmark that wasn't there."""
         self.record(b"\x4d" + named(name) + b"\x00\x01" + bytes.fromhex(to))
+
+    def policy(self, caller: str, text: bytes) -> None:
+        """A policy, after which a bookmark's move and a landing would tell their callers."""
+        self.record(b"\x41" + named(caller) + b"\x52" + text)
 
     def landing(self, name: str, old: str, draft: Changeset) -> Changeset:
         """The landing of a draft, a stack of one, on the bookmark's head. Gives the new head."""
