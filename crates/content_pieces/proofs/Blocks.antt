@@ -9,6 +9,8 @@ use Rattle.ports.specs.Faults.{Counts}
 use Rattle.ports.proofs.Counting.{counts_then}
 use Rattle.blob_disk.proofs.Clients.{kept_then}
 use Rattle.disk_model.specs.Meaning.{Meaning, IsSound}
+use Rattle.disk_model.proofs.Crashes.{bytes_append}
+use Rattle.byte_fields.specs.Bytes.{IsBytes}
 use Rattle.std.specs.Option.{ForSome}
 use Rattle.repo_journal.proofs.Walks.{Walked, leaves_walk}
 use Rattle.repo_journal.specs.View.{JournalView}
@@ -26,6 +28,7 @@ pub read_on : (j : JournalView) (m : Meaning) (at n k : ℕ) (a b : List ℕ) �
     → IsReadAt j m at n a → IsReadAt j m (at + n) k b → IsReadAt j m at (n + k) (a ++ b)
 read_on j m at n k a b apart some left right = record {
   length = length-append a b ∙ ap (λ x. x + length b) left.length ∙ ap (λ x. n + x) right.length;
+  are_bytes = bytes_append a b left.are_bytes right.are_bytes;
   in_file = λ inside honest. two_stretches a b m.state.reads n k at (left.in_file inside honest) (right.in_file (let most = apart inside in omega arith) honest);
   waiting = λ behind. two_stretches a b j.pending.bytes n k (at - j.size) (left.waiting behind) (right.waiting (omega arith) ∙ ap (λ x. take k (drop x j.pending.bytes)) (omega arith));
 }
@@ -38,12 +41,13 @@ pub record HasRead (j : JournalView) (m : Meaning) (p : Piece) (left : ℕ) (own
   pub joined_is : (fed : List ℕ) → HasFed before fed → HasFed joined (fed ++ bytes)
 
 -- a block that was read, of a disk that was only read since
-pub one_read : (j : JournalView) (m now : Meaning) (at count : ℕ) (old new : List ℕ) → Walked m now → IsSound now → length old ≡ count → length new ≡ length old
+pub one_read : (j : JournalView) (m now : Meaning) (at count : ℕ) (old new : List ℕ) → Walked m now → IsSound now → length old ≡ count → length new ≡ length old → IsBytes new
     → (at + length old ≤ j.size → ForSome now.reads (λ file. new ≡ take (length old) (drop at file)))
     → (j.size ≤ at → new ≡ take (length old) (drop (at - j.size) j.pending.bytes))
     → (at < j.size → at + count ≤ j.size) → IsReadAt j m at count new
-one_read j m now at count old new walked sound size same bytes waiting apart = record {
+one_read j m now at count old new walked sound size same are_bytes bytes waiting apart = record {
   length = same ∙ size;
+  are_bytes = are_bytes;
   in_file = λ inside honest. (
       let told = bytes (let fits = apart inside in omega arith) in
       let here = subst (λ reads. ForSome reads (λ file. new ≡ take (length old) (drop at file))) (sound.reads (walked.kept.honest ∙ honest)) told in
@@ -64,6 +68,7 @@ walk_more a b c before looked kept time counts = record {
 pub read_since : (j : JournalView) (m now : Meaning) (p : Piece) (bytes : List ℕ) → Walked m now → IsRead j now p bytes → IsRead j m p bytes
 read_since j m now p bytes walked read = record {
   length = read.length;
+  are_bytes = read.are_bytes;
   in_file = λ inside honest. read.in_file inside (walked.kept.honest ∙ honest) ∙ ap (λ d. take p.length (drop p.at d.reads)) (walked.looked honest);
   waiting = read.waiting;
 }

@@ -6,7 +6,7 @@
 --     TellsPiece j m pieces fault      the fault is of the disk, or of the first piece whose bytes have another id
 use Rattle.std.specs.Prelude.{◌≡◌, ◌≢◌, ◌+◌, ◌-◌, ◌≤◌, ◌<◌, ◌^◌, ℕ, Bool, true, false, List, [], ◌∷◌, ◌++◌, length, take, drop, Result, Ok, Err, IsTrue, ⊤}
 use Rattle.sha2.specs.Sha256.{sha256}
-use Rattle.byte_fields.specs.Bytes.{Id}
+use Rattle.byte_fields.specs.Bytes.{Id, IsBytes}
 use Rattle.disk_model.specs.Meaning.{Meaning}
 use Rattle.repo_journal.specs.View.{JournalView}
 use Rattle.content_pieces.specs.declared.piece.Piece.{Piece}
@@ -23,6 +23,7 @@ pub record IsWithin (j : JournalView) (p : Piece) : Type 0 where
 -- from a place on, so many bytes
 pub record IsReadAt (j : JournalView) (m : Meaning) (at count : ℕ) (bytes : List ℕ) : Type 0 where
   pub length : length bytes ≡ count
+  pub are_bytes : IsBytes bytes
   pub in_file : at < j.size → IsTrue m.honest → bytes ≡ take count (drop at m.state.reads)
   pub waiting : j.size ≤ at → bytes ≡ take count (drop (at - j.size) j.pending.bytes)
 

@@ -1,5 +1,5 @@
 //! The bytes of a journal, an append that a crash stops, and disks that fail.
-ghost use Rattle.std.specs.Prelude.{◌≡◌, ◌+◌, ◌≤◌, ◌<◌, ◌^◌, false, length, IfOk, IsTrue, OnOk};
+ghost use Rattle.std.specs.Prelude.{◌≡◌, ◌+◌, ◌≤◌, ◌<◌, ◌^◌, false, is_some, length, IfOk, IsTrue, OnOk};
 ghost use Rattle.disk_model.specs.Meaning.{IsLong};
 ghost use Rattle.changeset_model.specs.Version.{Second};
 ghost use Rattle.history_model.specs.Journal.{is_header};
@@ -8,7 +8,7 @@ ghost use Rattle.repo_journal.specs.Sealing.{IsFramed};
 
 use crate::rows::same;
 use blob_disk::{CallKind, Disk, MemDisk};
-use repo_journal::{AppendFault, DiskFault, Journal, Opening, init};
+use repo_journal::{AppendFault, Cut, DiskFault, Journal, Opening, init};
 use std::alloc::{AllocError, Global};
 use std::process::Abort;
 use std::test::Fail;
@@ -93,7 +93,7 @@ fn small(alloc: Global) -> Result<Repository, Fail> {
 
 fn append_to<D: Disk>(disk: &mut D, journal: &mut Journal, frame: &[u8]) -> Result<(), AppendFault>
     requires framed { IsFramed frame.now }
-    requires whole { journal.old.broken ≡ false }
+    requires whole { is_some journal.old.broken ≡ false }
     requires long { IsLong (D.meaning disk.old).reads journal.old.size }
 {
     journal.append(disk, frame)
@@ -295,17 +295,19 @@ fn records_are_listed_in_order(rt: HostRuntime) -> Result<(), Fail> {
 fn broken(
     rt: &(impl Abort + Alloc<A = Global>),
     fails: (CallKind, u64),
+    cut: Cut,
 ) -> Result<Repository, Fail> {
     let mut repo = new_repository(rt.alloc(), Some(fails))?;
     let told = appended(rt, &mut repo, b"Babc")?;
     assert!(rt; told.as_str().starts_with("Err(DiskFault) 17 "));
-    check_broken(rt, &repo);
+    check_broken(rt, &repo, cut);
     assert_eq!(rt; read(rt, &mut repo, 0), Some(*b"BONSAI\x00\x02"));
     Ok(repo)
 }
 
-fn check_broken(rt: &impl Abort, repo: &Repository) {
+fn check_broken(rt: &impl Abort, repo: &Repository, cut: Cut) {
     assert!(rt; repo.journal.is_broken());
+    assert_eq!(rt; repo.journal.broken(), Some(cut));
     assert_eq!(rt; repo.disk.faults(), 1);
 }
 
@@ -313,26 +315,27 @@ fn check_broken(rt: &impl Abort, repo: &Repository) {
 fn failed_at(
     rt: &(impl Abort + Alloc<A = Global>),
     fails: (CallKind, u64),
+    cut: Cut,
 ) -> Result<String, Fail> {
     let mut told = String::new(rt.alloc());
     for fill in FILLS {
-        let repo = broken(rt, fails)?;
+        let repo = broken(rt, fails, cut)?;
         told.push(mark_of(&left(repo.disk, fill), WITH_ABC))?;
     }
     Ok(told)
 }
 
-// Each of the four calls fails once. Behind it a crash leaves the records before, or where the gate
+// Each of the four calls fails once, and it is known which. Behind it a crash leaves the records before, or where the gate
 // may have been written, those or the new one.
 #[test]
 fn a_fault_breaks_the_journal(rt: HostRuntime) -> Result<(), Fail> {
-    for (fails, wanted) in [
-        ((CallKind::Write, 0), "----"),
-        ((CallKind::Sync, 0), "----"),
-        ((CallKind::Write, 1), "--+-"),
-        ((CallKind::Sync, 1), "+-+-"),
+    for (fails, cut, wanted) in [
+        ((CallKind::Write, 0), Cut::Write, "----"),
+        ((CallKind::Sync, 0), Cut::Sync, "----"),
+        ((CallKind::Write, 1), Cut::Open, "--+-"),
+        ((CallKind::Sync, 1), Cut::Seal, "+-+-"),
     ] {
-        let told = failed_at(&rt, fails)?;
+        let told = failed_at(&rt, fails, cut)?;
         same(&rt, told.as_str(), wanted, "a call that failed");
     }
     Ok(())
@@ -369,7 +372,7 @@ fn holding(alloc: Global, first: &[u8], second: &[u8]) -> Result<Journal, AllocE
     requires second { IsFramed second.now }
     ensures size { IfOk result (λ journal. journal.size ≡ 17) }
     ensures capacity { IfOk result (λ journal. journal.capacity ≡ 65_536) }
-    ensures whole { IfOk result (λ journal. journal.broken ≡ false) }
+    ensures whole { IfOk result (λ journal. is_some journal.broken ≡ false) }
     ensures group { IfOk result (λ journal. IsGroup journal.pending.bytes) }
     ensures len { IfOk result (λ journal. length journal.pending.bytes ≡ length first.now + length second.now) }
 {
@@ -380,7 +383,7 @@ fn holding(alloc: Global, first: &[u8], second: &[u8]) -> Result<Journal, AllocE
 }
 
 fn seal_in<D: Disk>(disk: &mut D, journal: &mut Journal) -> Result<(), DiskFault>
-    requires whole { journal.old.broken ≡ false }
+    requires whole { is_some journal.old.broken ≡ false }
     requires group { IsGroup journal.old.pending.bytes }
     requires fits { journal.old.size + length journal.old.pending.bytes ≤ journal.old.capacity }
     requires long { IsLong (D.meaning disk.old).reads journal.old.size }

@@ -10,6 +10,8 @@ mod journals;
 #[cfg(test)]
 mod mem_disks;
 #[cfg(test)]
+mod migrations;
+#[cfg(test)]
 mod openers;
 #[cfg(test)]
 mod rows;

@@ -1,36 +1,32 @@
 -- What a payload's change makes.
 --     kept bytes made      what is made, if it has this payload
-use Rattle.std.proofs.Common.{◌≡◌, ℕ, Bool, true, false, cond, not, List, [], ◌∷◌, ◌++◌, length, map, drop, refl, sym, ap, subst, ◌∙◌, inl, inr}
-use Rattle.std.specs.Prelude.{Option, None, Some, Result, Ok, Err, OnOk, OnErr, IsSome, bytes_eq, is_some, unwrap_or}
-use Rattle.std.specs.List.{concat}
+use Rattle.std.proofs.Common.{◌≡◌, ℕ, Bool, true, false, cond, List, [], ◌∷◌, ◌++◌, drop, refl, sym, ap, subst, ◌∙◌, inl, inr}
+use Rattle.std.specs.Prelude.{Option, None, Some, Result, Ok, Err, IsSome, bytes_eq, is_some, unwrap_or}
 use mathlib.Core.Bool.{true≢false}
 use Rattle.std.specs.Option.{option_and_then}
 use Rattle.std.specs.Result.{result_ok}
-use Rattle.std.proofs.Math.Seq.{drop-append_seam}
-use Rattle.std.proofs.lemmas.List.{map-append}
+use Rattle.std.proofs.lemmas.Bool.{and_parts}
 use Rattle.std.proofs.lemmas.Slice.Eq.{bytes_eq-Decides}
-use Rattle.byte_fields.specs.Bytes.{Id}
+use Rattle.byte_fields.specs.Bytes.{are_bytes}
 use Rattle.byte_fields.specs.Reading.{keeping}
 use Rattle.byte_fields.proofs.FieldLemmas.{keeps}
 use Rattle.changeset_model.specs.Changeset.{Changeset, spelling}
 use Rattle.changeset_model.specs.Decoding.{decoded}
-use Rattle.history_model.specs.History.{Body, Whole, Policy, Move, Landing, Entry, is_stored, unnumbered, bodies, stored, is_down}
-use Rattle.history_model.specs.Journal.{Header, payload, framed, held, IsPayload}
-use Rattle.history_model.specs.Payload.{payload_body}
+use Rattle.history_model.specs.History.{Body, Policy, Move, Landing, Entry, is_stored, unnumbered}
+use Rattle.history_model.specs.Journal.{Header, payload, framed, IsPayload}
 use Rattle.reply_model.specs.After.{entries_of}
-use Rattle.reply_model.specs.Opening.{nobody, ask_of, made_by, next_entry}
+use Rattle.reply_model.specs.Opening.{nobody, made_by}
 use Rattle.reply_model.specs.Reply as refusing
-use Rattle.reply_model.specs.Reply.{Ask, is_ask, ids_in, PutContent, PutWhole, PutChangeset, SetBookmark, LandDraft, SetPolicy, Judged, Down, BadParts, OldFormat, is_parts_len, parts_of, refuse_if, ◌>>=◌, judge}
-use Rattle.reply_model.proofs.Histories.{bodies-append}
+use Rattle.reply_model.specs.Reply.{Ask, is_ask, are_pieces, ids_in, PutContent, PutWhole, PutChangeset, SetBookmark, LandDraft, SetPolicy, Judged, judge}
 use Rattle.reply_model.proofs.Granted.{MakesStored, judge_stored}
 use Rattle.opening_laws.proofs.Made.{MadeBy, Fitting, MakesEach, judge_makes}
 use Rattle.repo_machine.specs.Judged.{JudgedChange, IsJudged, Frames}
 use Rattle.repo_machine.specs.Entering.{IsJudgedHere}
 use Rattle.repo_calls.specs.declared.refusal.Refusal.{Refusal}
 use Rattle.repo_calls.specs.Refusing.{IsRefusal}
-use Rattle.recovery.specs.ReplayFaults.{refusal_fault}
+use Rattle.recovery.specs.ReplayFaults.{is_read_fault, refusal_fault, wants_memory}
 use Rattle.recovery.specs.declared.replay_fault.ReplayFault.{ReplayFault}
-use Rattle.recovery.specs.declared.replay_fault.ReplayFault.TheVariants.{BadPayload, Memory}
+use Rattle.recovery.specs.declared.replay_fault.ReplayFault.TheVariants.{BadPayload, DiskFault, Memory}
 use Rattle.recovery.specs.Entering.{asked_entry, Enters}
 use Rattle.recovery.proofs.Frames.{framed_once}
 
@@ -75,8 +71,17 @@ refused_by header h bytes given r is true e =
     ap (λ b. option_and_then (made_by header h bytes) (cond b (Some given) None)) e
     ∙ ap (λ r. option_and_then (λ body. keeping (has_payload bytes) body) (option_and_then (λ (judged : Judged). judged.made) (result_ok r))) is
 
+-- it is no fault of the disk
+pub calm_refusal : (e : Refusal) → is_read_fault {T = Unit {0}} (Err (refusal_fault e)) ≡ false
+calm_refusal e = by (wants_memory e)
+  where
+    by : (b : Bool) → is_read_fault {T = Unit {0}} (Err (cond b Memory BadPayload)) ≡ false
+    by true = refl
+    by false = refl
+
 nothing_entered : (h : List Entry) (next : Option Body) (fault : ReplayFault) (after : List Entry) → next ≡ None → after ≡ h → Enters h next (Err fault) after
 nothing_entered h next BadPayload after none same = (none, same)
+nothing_entered h next DiskFault after none same = same
 nothing_entered h next Memory after none same = same
 
 pub refused_asked : (header : Header) (h : List Entry) (bytes : List ℕ) (ask given : Ask) (e : Refusal) (after : List Entry) → given ≡ ask → IsRefusal (judge header h ask) e → after ≡ h → Enters h (asked_entry header h bytes given) (Err (refusal_fault e)) after
@@ -172,73 +177,25 @@ module _ (header : Header) (h : List Entry) (caller : List ℕ) (l : Landing) (m
   pub landing_differs : (IsSome judged.made × (judged.frame ≡ framed bytes) → ⊥) → asked_entry header h bytes (LandDraft (unwrap_or l.caller nobody) l.name l.draft (unwrap_or l.moment 0)) ≡ None
   landing_differs other = ap (asked_entry header h bytes) landing_asks ∙ framed_differs header h bytes landing_ask judged is landing_once other
 
--- ---- what no change makes
+-- a whole
+module _ (header : Header) (h : List Entry) (body : List ℕ) (pieces : List (List ℕ)) (bytes : List ℕ) (judged : JudgedChange) (is : IsJudged header h (PutWhole body pieces) judged) where
+  whole_once : (made : Body) → judged.made ≡ Some made → HasOne made
+  whole_once made e inner other p =
+      let same = (makes_of header h (PutWhole body pieces) judged is made e).3 in
+      ap (λ b. payload b other) same ∙ sym (subst (λ b. IsPayload b inner) same p).2
 
-record Fails {A : Type 0} (r : Result A refusing.Refusal) : Type 0 where
-  refusal : refusing.Refusal
-  is : r ≡ Err refusal
+  pub whole_asked : IsSome judged.made × (judged.frame ≡ framed bytes) → asked_entry header h bytes (PutWhole body pieces) ≡ judged.made
+  whole_asked there = framed_asked header h bytes (PutWhole body pieces) judged is whole_once there.1
 
-fails_first : {A B : Type 0} (r : Result A refusing.Refusal) (f : A → Result B refusing.Refusal) → Fails r → Fails (r >>= f)
-fails_first r f fails = record { refusal = fails.refusal; is = ap (λ r. r >>= f) fails.is }
+  pub whole_differs : (IsSome judged.made × (judged.frame ≡ framed bytes) → ⊥) → asked_entry header h bytes (PutWhole body pieces) ≡ None
+  whole_differs other = framed_differs header h bytes (PutWhole body pieces) judged is whole_once other
 
-fails_then : {A B : Type 0} (r : Result A refusing.Refusal) (f : A → Result B refusing.Refusal) → ((x : A) → Fails (f x)) → Fails (r >>= f)
-fails_then (Ok x) f fails = fails x
-fails_then (Err e) f fails = record { refusal = e; is = refl }
-
-whole_fails : (header : Header) (h : List Entry) (given : List ℕ) (pieces : List (List ℕ)) → Fails (judge header h (PutWhole given pieces))
-whole_fails header h given pieces =
-    fails_then (refuse_if (is_down h) Down) _ (λ _.
-    fails_first (parts_of header h given) _ (
-    fails_then (refuse_if (not (is_parts_len (length given))) (BadParts (length given))) _ (λ _. record { refusal = OldFormat; is = refl })))
-
-pub no_whole : (file : List ℕ) (header : Header) (h : List Entry) (bytes : List ℕ) (x : Id) (n : ℕ) (parts : List Id) → payload_body bytes ≡ Ok (Whole x n parts) → next_entry file header h bytes ≡ None
-no_whole file header h bytes x n parts read =
-    let given = concat parts in
-    let pieces = map (held file 16 (bodies h)) (ids_in given) in
-    let fails = whole_fails header h given pieces in
-    ap (λ r. option_and_then (made_by header h bytes) (option_and_then (keeping (is_ask h)) (option_and_then (ask_of file h bytes) (result_ok r)))) read
-    ∙ refused_by header h bytes (PutWhole given pieces) fails.refusal fails.is (is_ask h (PutWhole given pieces)) refl
+-- what was read isn't of the parts
+pub not_pieces : (header : Header) (h : List Entry) (body : List ℕ) (pieces : List (List ℕ)) (bytes : List ℕ) → are_pieces h (ids_in body) pieces ≡ false → asked_entry header h bytes (PutWhole body pieces) ≡ None
+not_pieces header h body pieces bytes other =
+    ap (option_and_then (made_by header h bytes)) (drops (is_ask h) (PutWhole body pieces) (is_ask h (PutWhole body pieces)) refl (λ e. true≢false (sym (and_parts (are_bytes body) (are_pieces h (ids_in body) pieces) e).1 ∙ other)))
 
 -- ---- what is entered
-
-abbrev body_or : List Entry → Body → Body
-body_or [] other = other
-body_or (e ∷ es) other = e.body
-
-one_body : (h : List Entry) (a b : Body) → h ++ unnumbered a ∷ [] ≡ h ++ unnumbered b ∷ [] → a ≡ b
-one_body h a b e = ap (λ es. body_or es a) (sym (drop-append_seam h (unnumbered a ∷ [])) ∙ ap (drop (length h)) e ∙ drop-append_seam h (unnumbered b ∷ []))
-
-stored_push : (h : List Entry) (body : Body) → is_stored body ≡ true → stored (h ++ unnumbered body ∷ []) ≡ stored h ++ unnumbered body ∷ []
-stored_push h body is =
-    ap (map unnumbered) (bodies-append h (unnumbered body ∷ []))
-    ∙ map-append unnumbered (bodies h) (bodies (unnumbered body ∷ []))
-    ∙ (λ i. stored h ++ map unnumbered (cond (is i) (body ∷ []) []))
-
--- the same whatever file it is read from
-module _ (h : List Entry) (next : List ℕ → Option Body) (after : List Entry) where
-  abbrev EntersFrom : Result (Unit {0}) ReplayFault → Type 0
-  EntersFrom r = (file : List ℕ) → Enters h (next file) r after
-
-  pub entered_ok : (r : Result (Unit {0}) ReplayFault) → EntersFrom r → OnOk r ((body : Body) × ((file : List ℕ) → next file ≡ Some body) × (after ≡ h ++ unnumbered body ∷ []))
-  entered_ok (Ok done) enters =
-      let e = enters [] in
-      (e.0, λ file. (let f = enters file in f.1 ∙ ap (λ body. Some body) (one_body h f.0 e.0 (sym f.3 ∙ e.3))), e.3)
-  entered_ok (Err fault) enters = tt
-
-  pub entered_bad : (r : Result (Unit {0}) ReplayFault) → EntersFrom r → r ≡ Err BadPayload → (file : List ℕ) → next file ≡ None
-  entered_bad (Ok done) enters e file = absurd cc
-  entered_bad (Err BadPayload) enters e file = (enters file).0
-  entered_bad (Err Memory) enters e file = absurd cc
-
-  pub entered_err : (r : Result (Unit {0}) ReplayFault) → EntersFrom r → OnErr r (after ≡ h)
-  entered_err (Ok done) enters = tt
-  entered_err (Err BadPayload) enters = (enters []).1
-  entered_err (Err Memory) enters = enters []
-
-  pub entered_stored : (r : Result (Unit {0}) ReplayFault) → EntersFrom r → h ≡ stored h → after ≡ stored after
-  entered_stored (Ok done) enters was = let e = enters [] in e.3 ∙ ap (λ g. g ++ unnumbered e.0 ∷ []) was ∙ sym (ap stored e.3 ∙ stored_push h e.0 e.2)
-  entered_stored (Err BadPayload) enters was = let e = enters [] in e.1 ∙ was ∙ ap stored (sym e.1)
-  entered_stored (Err Memory) enters was = let e = enters [] in e ∙ was ∙ ap stored (sym e)
 
 pub enters_as : (h : List Entry) (made next : Option Body) (result : Result (Unit {0}) ReplayFault) (after now : List Entry) → next ≡ made → now ≡ h → Enters now made result after → Enters h next result after
 enters_as h made next result after now same is entered = subst (λ g. Enters g next result after) is (subst (λ o. Enters now o result after) (sym same) entered)

@@ -107,6 +107,7 @@ module _ (a b c : Meaning) (size moment faults : ℕ) (begun : HasBegun size mom
     long = read.long;
     now = λ honest image left. stands_before header h (is (was honest)) (was honest) image ((after.reads (spares.kept.honest ∙ was honest)).images image left);
     since = λ honest image left. stands_since header h (is (was honest)) (was honest) image left;
+    stable = λ honest image left. begun.stable (was honest) image ((after.reads (spares.kept.honest ∙ was honest)).images image left) ∙ sym ((after.reads (spares.kept.honest ∙ was honest)).reads ∙ same_reads (was honest));
   }
 
 -- where nothing but what reads give could be left, it stands for the history all along

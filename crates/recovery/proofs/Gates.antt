@@ -16,12 +16,13 @@ use Rattle.repo_journal.specs.declared.span.Span.{Span}
 use Rattle.repo_journal.specs.declared.step.Step.{Step}
 use Rattle.repo_journal.specs.declared.step.Step.TheVariants.{Closed, Record, Bad}
 use Rattle.repo_journal.proofs.Opened.{bad_gate, closed_gate, refused_record, taken_record}
+use Rattle.recovery.specs.Entering.{Comes}
 use Rattle.recovery.specs.Headers.{IsHeaded}
 use Rattle.recovery.specs.Reading.{IsAt, IsRead, Reaches}
 use Rattle.recovery.specs.declared.records.TheConstants.{MOST_READ}
 use Rattle.recovery.proofs.FirstBytes.{limits_of}
 use Rattle.recovery.proofs.LongerFiles.{step_shown}
-use Rattle.recovery.proofs.NextEntries.{next_size, too_long}
+use Rattle.recovery.proofs.NextEntries.{too_long}
 
 -- it has room for its header, its gate and what was read
 pub room_of : (header : Header) (h : List Entry) → IsTrue (is_header header) → IsLegal header h → (size h ≤ header.capacity) × (header.capacity ≤ 34_359_738_368)
@@ -62,6 +63,10 @@ module _ {m : Meaning} {header : Header} {h : List Entry} {gate : ℕ} {w : Wind
 
   pub step_seen : (step : Step) → IsSound m → IsTrue m.honest → step ≡ step_at (take w.size m.state.reads) gate → step ≡ step_at m.state.reads gate
   step_seen step sound honest is = is ∙ step_shown m.state.reads w.size gate (sound.image honest).are_bytes (shown_far honest)
+
+  -- the records before the gate are there
+  pub before_gate : (span : Span) → IsNext gate w.size (Record span) → IsLong m.reads (size h)
+  before_gate span next = λ file told. (let long = at.long file told in let place = at.gate_is in let begins = next.0 in let ends = next.1 in omega arith)
 
   pub at_end : (n : Meaning) → IsSound m → Looked m n → Kept m n → gate < w.size → (IsTrue m.honest → step_at m.state.reads gate ≡ Closed) → IsRead n header h
   at_end n sound looked kept inside closed = record {
@@ -114,15 +119,14 @@ module _ {m : Meaning} {header : Header} {h : List Entry} {gate : ℕ} {w : Wind
       }
 
   pub entered : (span : Span) (body : Body) (bytes : List ℕ) → IsNext gate w.size (Record span) → (IsTrue m.honest → step_at m.state.reads gate ≡ Record span) → IsHeld w span → bytes ≡ take span.length (drop (span.at - w.from) w.bytes) → ((file : List ℕ) → Holds w file → bytes ≡ payload_at file span)
-      → ((file : List ℕ) → next_entry file header h bytes ≡ Some body) → (g : List Entry) → g ≡ h ++ unnumbered body ∷ [] → IsLegal header g → g ≡ stored g → IsAt m header g (span.at + span.length) w
-  entered span body bytes next is held bytes_are shown some g more legal stored_is =
+      → Comes m header h bytes (Some body) → (g : List Entry) → g ≡ h ++ unnumbered body ∷ [] → size g ≡ size h + 5 + length bytes → IsLegal header g → g ≡ stored g → IsAt m header g (span.at + span.length) w
+  entered span body bytes next is held bytes_are shown some g more sum legal stored_is =
       let t = length-take span.length (drop (span.at - w.from) w.bytes) in
       let d = length-drop (span.at - w.from) w.bytes in
       let b = ap (λ xs. length xs) bytes_are in
       let begins = held.begins in
       let ends = held.ends in
       let long : length bytes ≡ span.length = omega arith in
-      let sum = ap (λ es. size es) more ∙ next_size [] header h bytes body (some []) in
       let place = at.gate_is in
       let at_place = next.0 in
       record {
@@ -134,7 +138,7 @@ module _ {m : Meaning} {header : Header} {h : List Entry} {gate : ℕ} {w : Wind
         far = at.far;
         holds = at.holds;
         reaches = λ honest. subst (λ es. Reaches header es (span.at + span.length) m.state.reads) (sym more)
-            (reached span body honest next (is honest) (ap (λ p. next_entry m.state.reads header h p) (sym (shown m.state.reads (at.holds honest))) ∙ some m.state.reads));
+            (reached span body honest next (is honest) (ap (λ p. next_entry m.state.reads header h p) (sym (shown m.state.reads (at.holds honest))) ∙ some m.state.reads (λ _. (honest, refl))));
       }
 
 -- ---- the first gate

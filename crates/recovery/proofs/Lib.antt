@@ -6,3 +6,8 @@ pub mod Gates
 pub mod Files
 pub mod Frames
 pub mod Asked
+pub mod Held
+pub mod WholePayloads
+pub mod PartsRead
+pub mod Joined
+pub mod Replays

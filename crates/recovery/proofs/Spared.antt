@@ -25,10 +25,10 @@ spares_none m = record {
   faults = counts_none m.faults;
 }
 
-pub spares_look : (m n : Meaning) (failed : Bool) → Looked m n → Kept m n → LeavesOnly (IsImage n.state) m n → Counts m.faults n.faults failed → Spares m n failed
+pub spares_look : (m n : Meaning) (failed : Bool) → Looked m n → Kept m n → (IsTrue m.honest → LeavesOnly (IsImage n.state) m n) → Counts m.faults n.faults failed → Spares m n failed
 spares_look m n failed looked kept time counts = record {
   reads = λ honest. within_same m.state n.state (looked honest);
-  crash = λ honest. leaves_weaker (IsImage n.state) (IsImage m.state) m n (λ image is. subst (λ d. IsImage d image) (looked honest) is) time;
+  crash = λ honest. leaves_weaker (IsImage n.state) (IsImage m.state) m n (λ image is. subst (λ d. IsImage d image) (looked honest) is) (time honest);
   kept = kept;
   faults = counts;
 }

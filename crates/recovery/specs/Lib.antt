@@ -5,3 +5,4 @@ pub mod Headers
 pub mod Reading
 pub mod ReplayFaults
 pub mod Entering
+pub mod Joining

@@ -1,23 +1,29 @@
 //! The entry of one payload.
-ghost use Rattle.std.specs.Prelude.{◌≡◌, ◌↔◌, ◌++◌, ◌∷◌, ℕ, List, [], None, Some, Ok, Err, IfOk, OnOk, OnErr, IsTrue, IsSome, unwrap_or};
+ghost use Rattle.std.specs.Prelude.{◌≡◌, ◌↔◌, ◌+◌, ◌++◌, ◌∷◌, ℕ, List, [], false, length, None, Some, Ok, Err, IfOk, OnOk, OnErr, IsTrue, IsSome, unwrap_or};
 ghost use Rattle.std.specs.Option.{option_copied};
 ghost use Rattle.sha2.specs.Sha256.{sha256};
+ghost use Rattle.disk_model.specs.Meaning.{IsLong};
+ghost use Rattle.disk_model.specs.Calls.{Looked};
 ghost use Rattle.changeset_model.specs.Changeset.{spelling};
 ghost use Rattle.changeset_model.specs.Decoding.{decoded};
 ghost use Rattle.history_model.specs.History as model;
 ghost use Rattle.history_model.specs.History.{Book, Land, Policy, stored, unnumbered};
-ghost use Rattle.history_model.specs.Journal.{framed, payload as payload_of, IsPayload};
+ghost use Rattle.history_model.specs.Journal.{framed, is_header, payload as payload_of, size, IsPayload};
 ghost use Rattle.history_model.specs.Payload.{payload_body};
 ghost use Rattle.reply_model.specs.Legal.{IsLegal};
-ghost use Rattle.reply_model.specs.Opening.{next_entry, nobody};
+ghost use Rattle.reply_model.specs.Opening.{nobody};
 ghost use Rattle.reply_model.specs.Reply.{PutContent, PutChangeset, SetBookmark, LandDraft, SetPolicy};
 ghost use Rattle.repo_events.specs.Entries.{body_of, landing_of, move_of};
 ghost use Rattle.repo_machine.specs.Entering.{IsJudgedHere};
 ghost use Rattle.repo_machine.specs.Held.{HasRoom};
 ghost use Rattle.repo_machine.specs.Judged.{Frames};
-ghost use Rattle.recovery.specs.Entering.{asked_entry, Enters};
+ghost use Rattle.recovery.specs.Entering.{asked_entry, Comes, Enters, Replays};
+ghost use Rattle.recovery.specs.ReplayFaults.{is_read_fault};
+ghost use Rattle.recovery.specs.Settling.{Spares};
 
 use crate::replay_fault::ReplayFault;
+use crate::wholes::enter_whole;
+use blob_disk::Disk;
 use bonsai::{Commit, MOST_CONTENT};
 use object_id::Id;
 use repo_events::{Body, Landing, Move, decode_payload};
@@ -26,43 +32,59 @@ use repo_path::{BookName, NameFault};
 use std::alloc::{AllocError, Global};
 
 /// The seat of entries that are read from a file.
-const NO_SEAT: u64 = 0;
+pub(crate) const NO_SEAT: u64 = 0;
 
 /// Enters what a payload stands for, if it is the entry that comes next in a journal. Nothing is entered otherwise.
-pub fn enter_payload(
+/// The parts of a whole are read from the disk, where the records before it stand.
+pub fn enter_payload<D: Disk>(
     alloc: Global,
+    disk: &mut D,
     machine: &mut Machine,
     payload: &[u8],
 ) -> Result<(), ReplayFault>
+    requires limits { IsTrue (is_header machine.old.header) }
     requires legal { IsLegal machine.old.header machine.old.history }
     requires stored { machine.old.history ≡ stored machine.old.history }
-    ensures ok { OnOk result ((body : model.Body) × ((file : List ℕ) → next_entry file machine.old.header machine.old.history payload.now ≡ Some body) × (machine.new.history ≡ machine.old.history ++ unnumbered body ∷ [])) }
-    ensures bad { result ≡ Err ReplayFault.BadPayload → (file : List ℕ) → next_entry file machine.old.header machine.old.history payload.now ≡ None }
+    requires long { IsLong (D.meaning disk.old).reads (size machine.old.history) }
+    ensures ok { OnOk result ((body : model.Body) × Comes (D.meaning disk.old) machine.old.header machine.old.history payload.now (Some body) × (machine.new.history ≡ machine.old.history ++ unnumbered body ∷ [])) }
+    ensures bad { result ≡ Err ReplayFault.BadPayload → Comes (D.meaning disk.old) machine.old.header machine.old.history payload.now None }
     ensures err { OnErr result (machine.new.history ≡ machine.old.history) }
+    ensures size { OnOk result (size machine.new.history ≡ size machine.old.history + 5 + length payload.now) }
     ensures header { machine.new.header ≡ machine.old.header }
     ensures legal { IsLegal machine.new.header machine.new.history }
     ensures stored { machine.new.history ≡ stored machine.new.history }
+
+    // It answers `DiskFault` only where a call of the disk failed, and a crash leaves nothing else than before.
+    ensures looked { Looked (D.meaning disk.old) (D.meaning disk.new) }
+    ensures spares { Spares (D.meaning disk.old) (D.meaning disk.new) (is_read_fault result) }
+    ensures quiet { IsSome (D.meaning disk.old).quiet → is_read_fault result ≡ false }
 {
     let body = decode_payload(alloc, payload)?;
-    enter_body(alloc, machine, body, payload)
+    enter_body(alloc, disk, machine, body, payload)
 }
 
 // Enters what was decoded of a payload, if it is the entry that comes next.
-fn enter_body(
+fn enter_body<D: Disk>(
     alloc: Global,
+    disk: &mut D,
     machine: &mut Machine,
     body: Body,
     payload: &[u8],
 ) -> Result<(), ReplayFault>
     requires decoded { payload_body payload.now ≡ Ok (body_of body) }
     requires spelled { IsPayload (body_of body) payload.now }
+    requires limits { IsTrue (is_header machine.old.header) }
     requires legal { IsLegal machine.old.header machine.old.history }
-    ensures enters { (file : List ℕ) → Enters machine.old.history (next_entry file machine.old.header machine.old.history payload.now) result machine.new.history }
+    requires long { IsLong (D.meaning disk.old).reads (size machine.old.history) }
+    ensures replays { Replays (D.meaning disk.old) machine.old.header machine.old.history payload.now result machine.new.history }
     ensures header { machine.new.header ≡ machine.old.header }
     ensures legal { IsLegal machine.new.header machine.new.history }
+    ensures looked { Looked (D.meaning disk.old) (D.meaning disk.new) }
+    ensures spares { Spares (D.meaning disk.old) (D.meaning disk.new) (is_read_fault result) }
+    ensures quiet { IsSome (D.meaning disk.old).quiet → is_read_fault result ≡ false }
 {
     match body {
-        Body::Content { id, length: _ } => enter_content(alloc, machine, id, &payload[1..]),
+        Body::Content { id, length: _ } => enter_content(alloc, machine, id, content_in(payload)),
         Body::Change(commit) => enter_changeset(alloc, machine, commit, payload),
         Body::Book(movement) => enter_move(alloc, machine, &movement, payload),
         Body::Land(landing) => enter_landing(alloc, machine, &landing, payload),
@@ -73,9 +95,16 @@ fn enter_body(
             text.as_slice(),
             payload,
         ),
-        // No change makes one yet.
-        Body::Whole { .. } => Err(ReplayFault::BadPayload),
+        Body::Whole { parts, .. } => enter_whole(alloc, disk, machine, parts, payload),
     }
+}
+
+// The bytes in the payload of a content: what stands behind its mark.
+fn content_in(payload: &[u8]) -> &[u8]
+    requires { (content : List ℕ) × (payload.now ≡ 0x42 ∷ content) }
+    ensures { payload.now ≡ 0x42 ∷ result.now }
+{
+    &payload[1..]
 }
 
 // Enters a content that may be put there.
@@ -90,6 +119,7 @@ fn enter_content(
     ensures enters { Enters machine.old.history (asked_entry machine.old.header machine.old.history (0x42 ∷ content.now) (PutContent content.now)) result machine.new.history }
     ensures header { machine.new.header ≡ machine.old.header }
     ensures legal { IsLegal machine.new.header machine.new.history }
+    ensures calm { is_read_fault result ≡ false }
 {
     if content.len() as u64 > MOST_CONTENT {
         return Err(ReplayFault::BadPayload);
@@ -110,6 +140,7 @@ fn enter_changeset(
     ensures enters { Enters machine.old.history (asked_entry machine.old.header machine.old.history (spelling commit) (PutChangeset (spelling commit))) result machine.new.history }
     ensures header { machine.new.header ≡ machine.old.header }
     ensures legal { IsLegal machine.new.header machine.new.history }
+    ensures calm { is_read_fault result ≡ false }
 {
     let judged = machine.judge_commit(alloc, NO_SEAT, commit, payload)?;
     enter_judged(machine, judged)
@@ -127,6 +158,7 @@ fn enter_move(
     ensures enters { Enters machine.old.history (asked_entry machine.old.header machine.old.history payload.now (SetBookmark (unwrap_or movement.now.caller nobody) movement.now.name movement.now.from movement.now.to)) result machine.new.history }
     ensures header { machine.new.header ≡ machine.old.header }
     ensures legal { IsLegal machine.new.header machine.new.history }
+    ensures calm { is_read_fault result ≡ false }
 {
     let caller = caller_of(alloc, movement.caller.as_ref())?;
     let judged = machine.judge_bookmark(
@@ -155,6 +187,7 @@ fn enter_landing(
     ensures enters { Enters machine.old.history (asked_entry machine.old.header machine.old.history payload.now (LandDraft (unwrap_or landing.now.caller nobody) landing.now.name landing.now.draft (unwrap_or landing.now.moment 0))) result machine.new.history }
     ensures header { machine.new.header ≡ machine.old.header }
     ensures legal { IsLegal machine.new.header machine.new.history }
+    ensures calm { is_read_fault result ≡ false }
 {
     // What is landed without a moment has no date of it, so any moment makes the same.
     let moment = landing.moment.unwrap_or(0);
@@ -185,6 +218,7 @@ fn enter_policy(
     ensures enters { Enters machine.old.history (asked_entry machine.old.header machine.old.history payload.now (SetPolicy caller.now text.now)) result machine.new.history }
     ensures header { machine.new.header ≡ machine.old.header }
     ensures legal { IsLegal machine.new.header machine.new.history }
+    ensures calm { is_read_fault result ≡ false }
 {
     let judged = machine.judge_policy_of(alloc, NO_SEAT, caller, text)?;
     enter_judged(machine, judged)
@@ -211,8 +245,8 @@ fn nobody(alloc: Global) -> Result<BookName, AllocError>
     }
 }
 
-// Whether an entry is made whose record has this payload.
-fn makes_payload(judged: &Judged, payload: &[u8]) -> bool
+/// Whether an entry is made whose record has this payload.
+pub(crate) fn makes_payload(judged: &Judged, payload: &[u8]) -> bool
     requires { Frames judged.now.made judged.now.frame }
     ensures { IsTrue result ↔ (IsSome judged.now.made × (judged.now.frame ≡ framed payload.now)) }
 {
@@ -230,8 +264,8 @@ fn payload_in(frame: &[u8]) -> &[u8]
     &frame[4..frame.len() - 1]
 }
 
-// Enters what was judged there, if it makes an entry.
-fn enter_judged(machine: &mut Machine, judged: Judged) -> Result<(), ReplayFault>
+/// Enters what was judged there, if it makes an entry.
+pub(crate) fn enter_judged(machine: &mut Machine, judged: Judged) -> Result<(), ReplayFault>
     requires by { judged.who ≡ NO_SEAT }
     requires judged { IsJudgedHere machine.old.header machine.old.history judged }
     requires room { HasRoom machine.old.room judged.made }
@@ -239,6 +273,7 @@ fn enter_judged(machine: &mut Machine, judged: Judged) -> Result<(), ReplayFault
     ensures enters { Enters machine.old.history judged.made result machine.new.history }
     ensures header { machine.new.header ≡ machine.old.header }
     ensures legal { IsLegal machine.new.header machine.new.history }
+    ensures calm { is_read_fault result ≡ false }
 {
     if judged.frame().is_none() {
         return Err(ReplayFault::BadPayload);

@@ -7,8 +7,10 @@ pub mod fault;
 mod header;
 pub mod opened;
 pub mod opening;
+mod pieces;
 mod records;
 pub mod replay_fault;
+mod wholes;
 
 pub use enter::enter_payload;
 pub use fault::OpenFault;

@@ -127,9 +127,10 @@ fn enter_record<D: Disk>(
         return Err(OpenFault::Damaged { at: gate });
     }
     scanner.hold(disk, span)?;
-    match enter_payload(alloc, machine, scanner.held(span)) {
+    match enter_payload(alloc, disk, machine, scanner.held(span)) {
         Ok(()) => Ok(()),
         Err(ReplayFault::BadPayload) => Err(OpenFault::Damaged { at: gate }),
+        Err(ReplayFault::DiskFault) => Err(OpenFault::DiskFault),
         Err(ReplayFault::Memory) => Err(OpenFault::Memory),
     }
 }

@@ -1,8 +1,9 @@
 //! Why a payload wasn't entered.
 ghost use Rattle.std.specs.Prelude.{◌≡◌};
-ghost use Rattle.recovery.specs.ReplayFaults.{decode_fault, refusal_fault};
+ghost use Rattle.recovery.specs.ReplayFaults.{decode_fault, piece_fault, refusal_fault};
 ghost use Rattle.recovery.specs.declared.replay_fault.ReplayFault.TheVariants.{Memory};
 
+use content_pieces::PieceFault;
 use repo_calls::Refusal;
 use repo_events::PayloadFault;
 use std::alloc::AllocError;
@@ -14,6 +15,9 @@ pub enum ReplayFault {
     /// It isn't the payload of the entry that comes next.
     #[error("not the payload of an entry that comes next")]
     BadPayload,
+    /// A call of the disk failed.
+    #[error("the disk failed")]
+    DiskFault,
     /// Memory ran out.
     #[error("memory ran out")]
     Memory,
@@ -45,6 +49,17 @@ impl From<PayloadFault> for ReplayFault {
         match e {
             PayloadFault::BadPayload { at: _ } => ReplayFault::BadPayload,
             PayloadFault::Memory => ReplayFault::Memory,
+        }
+    }
+}
+
+impl From<PieceFault> for ReplayFault {
+    ghost from_gives = { λ e fault. fault ≡ piece_fault e };
+
+    fn from(e: PieceFault) -> ReplayFault {
+        match e {
+            PieceFault::ReadFault => ReplayFault::DiskFault,
+            PieceFault::BadBytes { .. } => ReplayFault::BadPayload,
         }
     }
 }

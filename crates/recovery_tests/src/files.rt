@@ -62,8 +62,8 @@ fn same(rt: &impl Abort, found: Came, want: Came, row: &str) {
     assert_eq!(rt; found, want, "{row}");
 }
 
-// The disk opens so.
-fn check(
+/// The disk opens so.
+pub(crate) fn check(
     rt: &impl Abort,
     alloc: Global,
     disk: &mut MemDisk,
@@ -74,8 +74,8 @@ fn check(
     Ok(())
 }
 
-// A disk with this file, of which the listed calls fail.
-fn disk_of(
+/// A disk with this file, of which the listed calls fail.
+pub(crate) fn disk_of(
     alloc: Global,
     file: &[u8],
     failing: Vec<(CallKind, u64)>,
@@ -93,6 +93,14 @@ pub(crate) fn check_file(
 ) -> Result<(), Fail> {
     let mut disk = disk_of(alloc, file, Vec::new(alloc))?;
     check(rt, alloc, &mut disk, want, row)
+}
+
+/// Adds the bytes that hex digits stand for.
+pub(crate) fn put_hex(out: &mut Vec<u8>, alloc: Global, text: &str) -> Result<(), AllocError> {
+    match hex::decode(alloc, text) {
+        Ok(bytes) => out.extend_from_slice(bytes.as_slice()),
+        Err(_) => Ok(()),
+    }
 }
 
 // The file with these bytes in place of its own, from a place on.

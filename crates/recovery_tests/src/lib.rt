@@ -7,3 +7,5 @@ mod files;
 mod samples;
 #[cfg(test)]
 mod versions;
+#[cfg(test)]
+mod wholes;

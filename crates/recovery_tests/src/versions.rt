@@ -1,5 +1,5 @@
 //! Records of both versions, behind those of a file that has both.
-use crate::files::{Came, Told, check_file, damaged};
+use crate::files::{Came, Told, check_file, damaged, put_hex};
 use crate::samples::{
     BASE, CALLED_AT_1000, CALLED_CONTENT, CALLED_LANDING, CALLED_MOVE, CALLED_WHOLE,
     FIRST_WITH_MOMENT, FOR_ALL, FOR_ANNE, KNOWN_WHOLE, LANDED, LANDED_AT_0, LANDED_AT_1000,
@@ -12,14 +12,6 @@ use std::test::Fail;
 
 // Where the gate behind the records of `BASE` stands.
 const GATE: u64 = 322;
-
-// Adds the bytes that hex digits stand for.
-fn put_hex(out: &mut Vec<u8>, alloc: Global, text: &str) -> Result<(), AllocError> {
-    match hex::decode(alloc, text) {
-        Ok(bytes) => out.extend_from_slice(bytes.as_slice()),
-        Err(_) => Ok(()),
-    }
-}
 
 // A file of this version and of capacity 65,536, with these records behind those of `BASE`.
 fn file_of(alloc: Global, version: u8, records: [&str; 2]) -> Result<Vec<u8>, AllocError> {
@@ -77,7 +69,6 @@ fn what_no_change_makes_is_damaged(rt: HostRuntime) -> Result<(), Fail> {
         CALLED_MOVE,
         CALLED_LANDING,
         CALLED_AT_1000,
-        WHOLE,
         KNOWN_WHOLE,
         CALLED_WHOLE,
         CALLED_CONTENT,
@@ -89,6 +80,22 @@ fn what_no_change_makes_is_damaged(rt: HostRuntime) -> Result<(), Fail> {
         check_both(&rt, rt.alloc(), record, damaged(GATE))?;
     }
     Ok(())
+}
+
+#[test]
+fn a_whole_is_entered_in_the_second_version(rt: HostRuntime) -> Result<(), Fail> {
+    let alloc = rt.alloc();
+    check_next(&rt, alloc, 1, [WHOLE, ""], damaged(GATE))?;
+    check_next(
+        &rt,
+        alloc,
+        2,
+        [WHOLE, ""],
+        Ok(Told {
+            entries: 6,
+            size: 435,
+        }),
+    )
 }
 
 // Behind a policy that is held each move, landing and further policy tells a caller to whom it is allowed.
@@ -117,6 +124,8 @@ fn policies_are_entered(rt: HostRuntime) -> Result<(), Fail> {
         (ON_PATHS, SET_BY_BEN, 390),
         (FOR_ALL, LANDED_BY_BEN, 539),
         (FOR_ALL, LANDED_BY_ANYONE, 545),
+        // contents are anyone's
+        (FOR_ANNE, WHOLE, 460),
     ] {
         check_next(&rt, alloc, 2, [policy, next], Ok(Told { entries: 7, size }))?;
     }
@@ -135,7 +144,6 @@ fn what_a_policy_does_not_allow_is_damaged(rt: HostRuntime) -> Result<(), Fail> 
         (FOR_ANNE, SET_BY_BEN, 347),
         (FOR_ANNE, WITHOUT_CALLER, 347),
         (FOR_ANNE, WITHOUT_PATH, 347),
-        (FOR_ANNE, WHOLE, 347),
         (ON_PATHS, LANDED_BY_BEN, 366),
         (FOR_ALL, LANDED, 349),
     ] {

@@ -15,7 +15,7 @@ use Rattle.history_model.specs.Journal.{Header, payload_len, record_len}
 use Rattle.manifest_model.specs.Unode.{unode_bytes}
 use Rattle.manifest_model.specs.Merged.{unode_at}
 use Rattle.manifest_model.specs.Deleted.{deleted, deleted_bytes, path_log}
-use Rattle.reply_model.specs.Reply.{PutContent, PutWhole, PutChangeset, unresolved_of, SetBookmark, LandDraft, SetPolicy, Refusal, Judged, ContentPut, Landed, PolicySet, Merge, Moved, MergeInStack, MergeInRange, Denied, BadParts, OldFormat, BadPolicy, SeenBytes, NoPolicy, seen_policy, judge}
+use Rattle.reply_model.specs.Reply.{PutContent, PutWhole, PutChangeset, unresolved_of, SetBookmark, LandDraft, SetPolicy, Refusal, Judged, ContentPut, WholePut, Landed, PolicySet, Merge, Moved, MergeInStack, MergeInRange, Denied, BadParts, NoPiece, NotAPiece, OldFormat, BadPolicy, SeenBytes, NoPolicy, seen_policy, judge}
 use Rattle.history_model.specs.Tree.{files_of}
 use Rattle.policy_model.specs.Examples.{lib_policy, ann_policy}
 use Rattle.reply_model.specs.Opening.{nobody}
@@ -77,13 +77,17 @@ NIL = sha256 []
 abbrev with_abc : List Entry
 with_abc = entry_made (judge second [] (PutContent (codes "abc")))
 
-not_joined : judge second with_abc (PutWhole (ABC ++ ABC) (codes "abc" ∷ codes "abc" ∷ [])) ≡ Err OldFormat
+whole_is_made : judge second with_abc (PutWhole (ABC ++ ABC) (codes "abc" ∷ codes "abc" ∷ [])) ≡ Ok (record { granted = WholePut (sha256 (codes "abcabc")) 6; made = Some (Whole (sha256 (codes "abcabc")) 6 (ABC ∷ ABC ∷ [])) })
 unfolding sha256 digest_bytes hash_after compress rounds schedule first_words
-not_joined = refl
+whole_is_made = refl
 
 whole_takes : record_len (Whole (sha256 (codes "abcabc")) 6 (ABC ∷ ABC ∷ [])) ≡ 112
 unfolding sha256 digest_bytes hash_after compress rounds schedule first_words
 whole_takes = refl
+
+no_piece : judge second with_abc (PutWhole (ABC ++ NIL) (codes "abc" ∷ [] ∷ [])) ≡ Err (NoPiece NIL)
+unfolding sha256 digest_bytes hash_after compress rounds schedule first_words
+no_piece = refl
 
 bad_parts : judge second with_abc (PutWhole (take 31 ABC) []) ≡ Err (BadParts 31)
 unfolding sha256 digest_bytes hash_after compress rounds schedule first_words
@@ -96,18 +100,35 @@ old_format = refl
 abbrev ABCABC : Id
 ABCABC = sha256 (codes "abcabc")
 
--- none is joined yet, so this is as if it were
 abbrev with_whole : List Entry
-with_whole = with_abc ++ unnumbered (Whole ABCABC 6 (ABC ∷ ABC ∷ [])) ∷ []
+with_whole = with_abc ++ entry_made (judge second with_abc (PutWhole (ABC ++ ABC) (codes "abc" ∷ codes "abc" ∷ [])))
 
--- a whole has a length as a content has
+-- a whole has a length as a content has, and is no part of another
 whole_is_known : content_len with_whole ABCABC ≡ Some 6
 unfolding sha256 digest_bytes hash_after compress rounds schedule first_words
 whole_is_known = refl
 
+not_a_piece : judge second with_whole (PutWhole (ABC ++ ABCABC) (codes "abc" ∷ codes "abcabc" ∷ [])) ≡ Err (NotAPiece ABCABC)
+unfolding sha256 digest_bytes hash_after compress rounds schedule first_words
+not_a_piece = refl
+
+-- all that is unknown comes first
+no_piece_first : judge second with_whole (PutWhole (ABCABC ++ NIL) (codes "abcabc" ∷ [] ∷ [])) ≡ Err (NoPiece NIL)
+unfolding sha256 digest_bytes hash_after compress rounds schedule first_words
+no_piece_first = refl
+
+whole_again : judge second with_whole (PutWhole (ABC ++ ABC) (codes "abc" ∷ codes "abc" ∷ [])) ≡ Ok (record { granted = WholePut ABCABC 6; made = None })
+unfolding sha256 digest_bytes hash_after compress rounds schedule first_words
+whole_again = refl
+
 content_again : judge second with_whole (PutContent (codes "abcabc")) ≡ Ok (record { granted = ContentPut ABCABC; made = None })
 unfolding sha256 digest_bytes hash_after compress rounds schedule first_words
 content_again = refl
+
+-- joined with the empty content it is itself
+joined_with_nothing : judge second (with_abc ++ entry_made (judge second with_abc (PutContent []))) (PutWhole (ABC ++ NIL) (codes "abc" ∷ [] ∷ [])) ≡ Ok (record { granted = WholePut ABC 3; made = None })
+unfolding sha256 digest_bytes hash_after compress rounds schedule first_words
+joined_with_nothing = refl
 
 -- ---- merges
 

@@ -144,8 +144,8 @@ ok_same x y e = cc
 
 pub parts_held : (header : Header) (h : List Entry) (body : List ℕ) (parts : List Id) → parts_of header h body ≡ Ok parts → (ids_in body ≡ parts) × AreHeld (bodies h) parts
 parts_held header h body parts e =
-    let a = then_ok (refuse_if (not (is_parts_len (length body))) (BadParts (length body))) (λ _. refuse_if true OldFormat >>= λ _. refuse_some (find (λ x. is_none (content_len h x)) (ids_in body)) NoPiece >>= λ _. refuse_some (find (is_whole h) (ids_in body)) NotAPiece >>= λ _. Ok (ids_in body)) parts e in
-    let b = then_ok (refuse_if true OldFormat) (λ _. refuse_some (find (λ x. is_none (content_len h x)) (ids_in body)) NoPiece >>= λ _. refuse_some (find (is_whole h) (ids_in body)) NotAPiece >>= λ _. Ok (ids_in body)) parts a.2 in
+    let a = then_ok (refuse_if (not (is_parts_len (length body))) (BadParts (length body))) (λ _. refuse_if (not (is_second header.version)) OldFormat >>= λ _. refuse_some (find (λ x. is_none (content_len h x)) (ids_in body)) NoPiece >>= λ _. refuse_some (find (is_whole h) (ids_in body)) NotAPiece >>= λ _. Ok (ids_in body)) parts e in
+    let b = then_ok (refuse_if (not (is_second header.version)) OldFormat) (λ _. refuse_some (find (λ x. is_none (content_len h x)) (ids_in body)) NoPiece >>= λ _. refuse_some (find (is_whole h) (ids_in body)) NotAPiece >>= λ _. Ok (ids_in body)) parts a.2 in
     let c = then_ok (refuse_some (find (λ x. is_none (content_len h x)) (ids_in body)) NoPiece) (λ _. refuse_some (find (is_whole h) (ids_in body)) NotAPiece >>= λ _. Ok (ids_in body)) parts b.2 in
     let d = then_ok (refuse_some (find (is_whole h) (ids_in body)) NotAPiece) (λ _. Ok (ids_in body)) parts c.2 in
     let same = ok_same (ids_in body) parts d.2 in
@@ -162,13 +162,13 @@ is_true false h = absurd (true≢false h)
 
 pub parts_len : (header : Header) (h : List Entry) (body : List ℕ) (parts : List Id) → parts_of header h body ≡ Ok parts → is_parts_len (length body) ≡ true
 parts_len header h body parts e =
-    let a = then_ok (refuse_if (not (is_parts_len (length body))) (BadParts (length body))) (λ _. refuse_if true OldFormat >>= λ _. refuse_some (find (λ x. is_none (content_len h x)) (ids_in body)) NoPiece >>= λ _. refuse_some (find (is_whole h) (ids_in body)) NotAPiece >>= λ _. Ok (ids_in body)) parts e in
+    let a = then_ok (refuse_if (not (is_parts_len (length body))) (BadParts (length body))) (λ _. refuse_if (not (is_second header.version)) OldFormat >>= λ _. refuse_some (find (λ x. is_none (content_len h x)) (ids_in body)) NoPiece >>= λ _. refuse_some (find (is_whole h) (ids_in body)) NotAPiece >>= λ _. Ok (ids_in body)) parts e in
     is_true (is_parts_len (length body)) (was_false (not (is_parts_len (length body))) (BadParts (length body)) a.0 a.1)
 
 pub none_whole : (header : Header) (h : List Entry) (body : List ℕ) (parts : List Id) → parts_of header h body ≡ Ok parts → AllByRecursion (λ x. is_whole h x ≡ false) (ids_in body)
 none_whole header h body parts e =
-    let a = then_ok (refuse_if (not (is_parts_len (length body))) (BadParts (length body))) (λ _. refuse_if true OldFormat >>= λ _. refuse_some (find (λ x. is_none (content_len h x)) (ids_in body)) NoPiece >>= λ _. refuse_some (find (is_whole h) (ids_in body)) NotAPiece >>= λ _. Ok (ids_in body)) parts e in
-    let b = then_ok (refuse_if true OldFormat) (λ _. refuse_some (find (λ x. is_none (content_len h x)) (ids_in body)) NoPiece >>= λ _. refuse_some (find (is_whole h) (ids_in body)) NotAPiece >>= λ _. Ok (ids_in body)) parts a.2 in
+    let a = then_ok (refuse_if (not (is_parts_len (length body))) (BadParts (length body))) (λ _. refuse_if (not (is_second header.version)) OldFormat >>= λ _. refuse_some (find (λ x. is_none (content_len h x)) (ids_in body)) NoPiece >>= λ _. refuse_some (find (is_whole h) (ids_in body)) NotAPiece >>= λ _. Ok (ids_in body)) parts e in
+    let b = then_ok (refuse_if (not (is_second header.version)) OldFormat) (λ _. refuse_some (find (λ x. is_none (content_len h x)) (ids_in body)) NoPiece >>= λ _. refuse_some (find (is_whole h) (ids_in body)) NotAPiece >>= λ _. Ok (ids_in body)) parts a.2 in
     let c = then_ok (refuse_some (find (λ x. is_none (content_len h x)) (ids_in body)) NoPiece) (λ _. refuse_some (find (is_whole h) (ids_in body)) NotAPiece >>= λ _. Ok (ids_in body)) parts b.2 in
     let d = then_ok (refuse_some (find (is_whole h) (ids_in body)) NotAPiece) (λ _. Ok (ids_in body)) parts c.2 in
     none_found (is_whole h) (ids_in body) (no_refusal (find (is_whole h) (ids_in body)) NotAPiece d.0 d.1)

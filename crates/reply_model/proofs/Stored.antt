@@ -97,7 +97,7 @@ put_content-stored header h bytes =
 parts_of-stored : (header : Header) (h : List Entry) (body : List ℕ) → parts_of header (stored h) body ≡ parts_of header h body
 parts_of-stored header h body =
     (λ i. refuse_if (not (is_parts_len (length body))) (BadParts (length body)) >>= λ _.
-    refuse_if true OldFormat >>= λ _.
+    refuse_if (not (is_second header.version)) OldFormat >>= λ _.
     refuse_some (find (λ x. is_none (content_len-stored h x i)) (ids_in body)) NoPiece >>= λ _.
     refuse_some (find (λ x. list_any (is_whole_with x) (bodies-stored h i)) (ids_in body)) NotAPiece >>= λ _.
     Ok (ids_in body))

@@ -154,8 +154,7 @@ is_parts_len n = (n % 32 == 0) && nat_le 32 n && nat_le n (32 * most_parts)
 abbrev pub parts_of : Header → List Entry → List ℕ → Result (List Id) Refusal
 parts_of header h body = do
   _ ← refuse_if (not (is_parts_len (length body))) (BadParts (length body))
-  -- contents aren't joined yet
-  _ ← refuse_if true OldFormat
+  _ ← refuse_if (not (is_second header.version)) OldFormat
   _ ← refuse_some (find (λ x. is_none (content_len h x)) (ids_in body)) NoPiece
   _ ← refuse_some (find (is_whole h) (ids_in body)) NotAPiece
   Ok (ids_in body)

@@ -1,5 +1,5 @@
 //! An open journal: how far it reaches, and whether a record may be added.
-ghost use Rattle.std.specs.Prelude.{◌≡◌, ◌↔◌, ◌+◌, ◌-◌, ◌≤◌, ◌<◌, ◌^◌, ℕ, List, [], true, false, length, take, drop, is_err, IsOk, IsSome, IsTrue, IfErr, OnOk};
+ghost use Rattle.std.specs.Prelude.{◌≡◌, ◌↔◌, ◌+◌, ◌-◌, ◌≤◌, ◌<◌, ◌^◌, ℕ, List, [], length, false, take, drop, is_err, is_some, IsOk, IsSome, IsTrue, IfErr, None, OnErr, OnOk, Some};
 ghost use Rattle.std.specs.Option.{ForSome};
 ghost use Rattle.ports.specs.Faults.{Counts};
 ghost use Rattle.disk_model.specs.Images.{IsImage};
@@ -8,9 +8,11 @@ ghost use Rattle.history_model.specs.Journal.{is_header};
 ghost use Rattle.disk_model.specs.Meaning.{IsLong};
 ghost use Rattle.disk_model.specs.Calls.{Kept, LeavesOnly, Looked};
 ghost use Rattle.repo_journal.specs.Answers.{is_full_answer, is_disk_fault, TellsSizes};
+ghost use Rattle.repo_journal.specs.Cuts.{BreaksOff};
 ghost use Rattle.repo_journal.specs.Sealing.{IsFramed, payload_in, AllClosed, Appends, IsAfter};
 ghost use Rattle.repo_journal.specs.Groups.{IsGroup, AppendsGroup, IsWith, grown, no_records};
 
+use crate::cut::Cut;
 use crate::fault::{AppendFault, DiskFault};
 use crate::header::EMPTY_SIZE;
 use crate::opening::Opening;
@@ -20,14 +22,14 @@ use blob_disk::Disk;
 use std::alloc::{AllocError, Global};
 use std::marker::Model;
 
-/// The journal of an open file. After a fault of the disk in an append it is broken: nothing may be
-/// added, and what is there may still be read. Records may wait to be sealed together: they are read as
+/// The journal of an open file. After a fault of the disk in an append it is broken, and keeps which call failed: nothing may
+/// be added, and what is there may still be read. Records may wait to be sealed together: they are read as
 /// those of the file.
 #[derive(Drop)]
 pub struct Journal {
     capacity: u64,
     size: u64,
-    broken: bool,
+    broken: Option<Cut>,
     opening: Opening,
     pending: Pending,
 }
@@ -49,12 +51,12 @@ impl Journal {
         requires header { IsTrue (is_header (record { capacity = capacity; version = First })) }
         requires some { EMPTY_SIZE ≤ size }
         requires fits { size ≤ capacity }
-        ensures { result ≡ record { capacity = capacity; size = size; broken = false; opening = opening; pending = no_records } }
+        ensures { result ≡ record { capacity = capacity; size = size; broken = None; opening = opening; pending = no_records } }
     {
         Journal {
             capacity,
             size,
-            broken: false,
+            broken: None,
             opening,
             pending: Pending::new(alloc),
         }
@@ -77,6 +79,13 @@ impl Journal {
 
     /// A call of the disk failed in an append.
     pub fn is_broken(&self) -> bool
+        ensures { result ≡ is_some self.now.broken }
+    {
+        self.broken.is_some()
+    }
+
+    /// Which call of the disk failed in an append.
+    pub fn broken(&self) -> Option<Cut>
         ensures { result ≡ self.now.broken }
     {
         self.broken
@@ -93,7 +102,7 @@ impl Journal {
     /// high byte first, before it, and a closed gate behind it. It takes no memory. What waits then stands one record
     /// further on: append where nothing does.
     pub fn append<D: Disk>(&mut self, disk: &mut D, frame: &[u8]) -> Result<(), AppendFault>
-        requires whole { self.old.broken ≡ false }
+        requires whole { is_some self.old.broken ≡ false }
         requires framed { IsFramed frame.now }
         requires long { IsLong (D.meaning disk.old).reads self.old.size }
 
@@ -104,9 +113,9 @@ impl Journal {
         ensures sizes { IfErr result (TellsSizes self.old.size (length (payload_in frame.now))) }
         ensures refused { IsTrue (is_full_answer result) → (self.new ≡ self.old) × (D.meaning disk.new ≡ D.meaning disk.old) }
 
-        // It fails only where a call of the disk did, and then the journal is broken.
+        // It fails only where a call of the disk did, and then the journal is broken by it.
         ensures faults { Counts (D.meaning disk.old).faults (D.meaning disk.new).faults (is_disk_fault result) }
-        ensures broken { IsTrue (is_disk_fault result) → self.new ≡ record self.old { broken = true } }
+        ensures broken { IsTrue (is_disk_fault result) → BreaksOff frame.now self.old self.new (D.meaning disk.old) (D.meaning disk.new) }
         ensures quiet { ForSome (D.meaning disk.old).quiet (λ most. self.old.size + 5 + length (payload_in frame.now) ≤ most → is_disk_fault result ≡ false) }
 
         ensures kept { Kept (D.meaning disk.old) (D.meaning disk.new) }
@@ -141,16 +150,16 @@ impl Journal {
     /// `group` has them as they stand behind the closing gate, which is the gate of the first. It takes
     /// no memory.
     pub fn append_group<D: Disk>(&mut self, disk: &mut D, group: &[u8]) -> Result<(), DiskFault>
-        requires whole { self.old.broken ≡ false }
+        requires whole { is_some self.old.broken ≡ false }
         requires group { IsGroup group.now }
         requires fits { self.old.size + length group.now ≤ self.old.capacity }
         requires long { IsLong (D.meaning disk.old).reads self.old.size }
 
         ensures ok { OnOk result (self.new ≡ record self.old { size = self.old.size + length group.now }) }
 
-        // It fails only where a call of the disk did, and then the journal is broken.
+        // It fails only where a call of the disk did, and then the journal is broken by it.
         ensures faults { Counts (D.meaning disk.old).faults (D.meaning disk.new).faults (is_err result) }
-        ensures broken { IsTrue (is_err result) → self.new ≡ record self.old { broken = true } }
+        ensures broken { OnErr result (BreaksOff group.now self.old self.new (D.meaning disk.old) (D.meaning disk.new)) }
         ensures quiet { ForSome (D.meaning disk.old).quiet (λ most. self.old.size + length group.now ≤ most → IsOk result) }
 
         ensures kept { Kept (D.meaning disk.old) (D.meaning disk.new) }
@@ -173,7 +182,7 @@ impl Journal {
                 self.size += group.len() as u64;
                 Ok(())
             }
-            Err(_) => Err(self.fault()),
+            Err(cut) => Err(self.fault(cut)),
         }
     }
 
@@ -199,7 +208,7 @@ impl Journal {
     /// Appends the records that wait, as `append_group` does. After a fault of the disk they wait on, so
     /// they are read as before.
     pub fn seal<D: Disk>(&mut self, disk: &mut D) -> Result<(), DiskFault>
-        requires whole { self.old.broken ≡ false }
+        requires whole { is_some self.old.broken ≡ false }
         requires group { IsGroup self.old.pending.bytes }
         requires fits { self.old.size + length self.old.pending.bytes ≤ self.old.capacity }
         requires long { IsLong (D.meaning disk.old).reads self.old.size }
@@ -208,9 +217,9 @@ impl Journal {
         ensures emptied { OnOk result (self.new.pending.bytes ≡ []) }
         ensures keeps { self.old.pending.room ≤ self.new.pending.room }
 
-        // It fails only where a call of the disk did, and then the journal is broken.
+        // It fails only where a call of the disk did, and then the journal is broken by it.
         ensures faults { Counts (D.meaning disk.old).faults (D.meaning disk.new).faults (is_err result) }
-        ensures broken { IsTrue (is_err result) → self.new ≡ record self.old { broken = true } }
+        ensures broken { OnErr result (BreaksOff self.old.pending.bytes self.old self.new (D.meaning disk.old) (D.meaning disk.new)) }
         ensures quiet { ForSome (D.meaning disk.old).quiet (λ most. self.old.size + length self.old.pending.bytes ≤ most → IsOk result) }
 
         ensures kept { Kept (D.meaning disk.old) (D.meaning disk.new) }
@@ -234,15 +243,15 @@ impl Journal {
                 self.pending.clear();
                 Ok(())
             }
-            Err(_) => Err(self.fault()),
+            Err(cut) => Err(self.fault(cut)),
         }
     }
 
     // Nothing may be added any more.
-    fn fault(&mut self) -> DiskFault
-        ensures { self.new ≡ record self.old { broken = true } }
+    fn fault(&mut self, cut: Cut) -> DiskFault
+        ensures { self.new ≡ record self.old { broken = Some cut } }
     {
-        self.broken = true;
+        self.broken = Some(cut);
         DiskFault
     }
 

@@ -5,6 +5,7 @@
 
 mod block;
 mod create;
+pub mod cut;
 pub mod fault;
 pub mod header;
 pub mod journal;
@@ -18,6 +19,7 @@ pub mod span;
 pub mod step;
 
 pub use create::init;
+pub use cut::Cut;
 pub use fault::{AppendFault, DiskFault, InitFault, ScanFault};
 pub use header::{EMPTY_SIZE, FIRST_GATE, LEAST_CAPACITY, MARK, MOST_CAPACITY, SECOND_MARK};
 pub use journal::Journal;

@@ -20,7 +20,6 @@ use Rattle.reply_model.specs.Reply as reply
 use Rattle.repo_calls.specs.declared.refusal.Refusal.{Refusal}
 use Rattle.repo_calls.specs.declared.refusal.Refusal.TheVariants as refusals
 use Rattle.repo_calls.specs.Calls.{refused}
-use Rattle.repo_machine.specs.declared.place.Place.{Place}
 use Rattle.repo_machine.specs.Checking.{IsFound, Checks, parents_refusal, edit_refusal, contents_refusal}
 
 pub two_parents : (xs : List Id) (ks : List Known) (c : Changeset) → xs ≡ c.parents → 2 ≤ length xs → IsFound refusals.Merge (parents_refusal ks c)
@@ -63,9 +62,3 @@ pub found_first : (result : Result (Unit {0}) Refusal) (e : Refusal) (a b : Opti
 found_first (Ok done) e a b err found = absurd err
 found_first (Err x) e a b err (inl memory) = inl (err ∙ memory)
 found_first (Err x) e a b err (inr (r, some, same)) = inr (r, ap (λ o. option_or o b) some, ap refused err ∙ same)
-
-pub length_found : (o : Option Place) (p : Place) → o ≡ Some p → option_map (λ p. p.length) o ≡ Some p.length
-length_found o p e = ap (option_map (λ (p : Place). p.length)) e
-
-pub none_found : (o : Option Place) → o ≡ None → option_map (λ p. p.length) o ≡ None
-none_found o e = ap (option_map (λ (p : Place). p.length)) e

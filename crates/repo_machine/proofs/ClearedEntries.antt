@@ -8,12 +8,13 @@ use Rattle.byte_fields.specs.Bytes.{Id}
 use Rattle.history_model.specs.History.{Known, Content, is_down, known, content_len}
 use Rattle.history_model.specs.History as model
 use Rattle.history_model.specs.Journal.{Header}
-use Rattle.repo_machine.specs.declared.place.Place.{Place}
+use Rattle.content_table.specs.declared.place.Place.{Place}
 use Rattle.repo_machine.specs.declared.records.Entry.{Entry}
-use Rattle.repo_machine.specs.Indexes.{AreIndexes, StandsAt, AreAt}
+use Rattle.repo_machine.specs.Indexes.{AreIndexes, StandsAt, AreAt, AreJoined}
 use Rattle.repo_machine.specs.Records.{entry_of, history_of, IsWithin, is_kept, kept_from}
 use Rattle.repo_machine.specs.Seats.{cleared, unseated, all_unseated}
 use Rattle.repo_machine.proofs.Cleared.{is_down-cleared, known-cleared, content_len-cleared, head-cleared, size-cleared, IsLegal-cleared}
+use Rattle.repo_machine.proofs.Tables.{joined-cleared}
 
 history_by : (ks : List Known) (es : List Entry) → history_of ks (all_unseated es) ≡ cleared (history_of ks es)
 history_by ks [] = refl
@@ -69,3 +70,6 @@ module _ (ks : List Known) (es after : List Entry) (clears : after ≡ all_unsea
 
   pub places_unseated : (places : Id → Option Place) → AreAt (history_of ks es) places → AreAt (history_of ks after) places
   places_unseated places are = subst (λ h. AreAt h places) (sym history_unseated) (places-cleared (history_of ks es) places are)
+
+  pub joined_unseated : (joins : Id → Option (List Id)) → AreJoined (history_of ks es) joins → AreJoined (history_of ks after) joins
+  joined_unseated joins are = subst (λ h. AreJoined h joins) (sym history_unseated) (joined-cleared (history_of ks es) joins are)

@@ -5,7 +5,7 @@ use Rattle.std.proofs.lemmas.List.Sums.{length-filter}
 use Rattle.history_model.specs.History.{Known}
 use Rattle.history_model.specs.History as model
 use Rattle.repo_machine.specs.declared.records.Record.{Record}
-use Rattle.repo_machine.specs.declared.records.Record.TheVariants.{Content, Change, Book, Land, Policy, Fault}
+use Rattle.repo_machine.specs.declared.records.Record.TheVariants.{Content, Whole, Change, Book, Land, Policy, Fault}
 use Rattle.repo_machine.specs.declared.records.Entry.{Entry}
 use Rattle.repo_machine.specs.Records.{body_of, entry_of, history_of}
 use Rattle.repo_machine.specs.Counting.{is_content, is_landing, is_content_record, is_landing_record, is_content_entry, is_landing_entry}
@@ -24,6 +24,7 @@ module _ {X Y : Type 0} (f : X → Y) (p : X → Bool) (q : Y → Bool) (same : 
 
 content_by : (ks : List Known) (r : Record) → is_content_record r ≡ is_content (body_of ks r)
 content_by ks (Content id length) = refl
+content_by ks (Whole id length parts) = refl
 content_by ks (Change number) = refl
 content_by ks (Book movement) = refl
 content_by ks (Land landing) = refl
@@ -32,6 +33,7 @@ content_by ks (Fault breaking) = refl
 
 landing_by : (ks : List Known) (r : Record) → is_landing_record r ≡ is_landing (body_of ks r)
 landing_by ks (Content id length) = refl
+landing_by ks (Whole id length parts) = refl
 landing_by ks (Change number) = refl
 landing_by ks (Book movement) = refl
 landing_by ks (Land landing) = refl

@@ -1,6 +1,6 @@
 -- An entry more, by the indexes.
 use Rattle.std.proofs.Common.{◌≡◌, ℕ, ◌+◌, Bool, true, false, List, [], ◌∷◌, ◌++◌, refl, sym, ap, subst, ◌∙◌, arith}
-use Rattle.std.specs.Prelude.{Option, None, Some, ◌||◌, ◌&&◌, cond, IfSome, option_map, bytes_eq}
+use Rattle.std.specs.Prelude.{Option, None, Some, ◌||◌, ◌&&◌, cond, IfSome, bytes_eq}
 use Rattle.std.proofs.lemmas.List.{append_assoc, append-nil}
 use Rattle.std.proofs.lemmas.Slice.Eq.{bytes_eq-Decides}
 use Rattle.byte_fields.proofs.Lists.{option_or-None}
@@ -17,7 +17,7 @@ use Rattle.reply_model.specs.After.{entry_by}
 use Rattle.reply_model.specs.Legal.{IsLegal}
 use Rattle.reply_model.proofs.Histories.{IsLegal-push, size-push}
 use Rattle.reply_model.proofs.Granted.{follows_granted}
-use Rattle.repo_machine.specs.declared.place.Place.{Place}
+use Rattle.content_table.specs.declared.place.Place.{Place}
 use Rattle.repo_machine.specs.Indexes.{AreIndexes, StandsAt, AreAt}
 use Rattle.repo_machine.specs.Entering.{Enterable}
 use Rattle.repo_machine.proofs.Judging.{entered_made}
@@ -87,13 +87,6 @@ pub places_put : (h : List Entry) (who : ℕ) (x : Id) (place : Place) (places p
 places_put h who x place places places' are puts after grows at y =
     subst (λ o. IfSome o (StandsAt after y)) (sym (puts y))
     (place_by h who x y place (places y) after grows at (places_stay h (entry_by who (Content x place.length)) places are after grows y) (bytes_eq x y) refl)
-
-length_by : (b : Bool) (p : Place) (o : Option Place) → option_map (λ p. p.length) (cond b (Some p) o) ≡ cond b (Some p.length) (option_map (λ p. p.length) o)
-length_by true p o = refl
-length_by false p o = refl
-
-pub lengths_put : (x : Id) (place : Place) (places places' : Id → Option Place) → ((y : Id) → places' y ≡ cond (bytes_eq x y) (Some place) (places y)) → (y : Id) → option_map (λ p. p.length) (places' y) ≡ cond (bytes_eq x y) (Some place.length) (option_map (λ p. p.length) (places y))
-lengths_put x place places places' puts y = ap (option_map (λ p. p.length)) (puts y) ∙ length_by (bytes_eq x y) place (places y)
 
 -- ---- a fault
 

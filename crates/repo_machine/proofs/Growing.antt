@@ -12,7 +12,7 @@ use Rattle.std.proofs.lemmas.Map.Text.{is_eq-slice_cmp}
 use Rattle.byte_fields.specs.Bytes.{Id, last_of, last_some}
 use Rattle.byte_fields.proofs.Lists.{first_some-append, option_or-None}
 use Rattle.changeset_model.specs.Changeset.{Changeset, id_of}
-use Rattle.history_model.specs.History.{Body, Content, Change, Book, Land, Policy, Move, Landing, Entry, with_id, known, is_known, content_len, length_in, policy_of, policy_text}
+use Rattle.history_model.specs.History.{Body, Content, Whole, Change, Book, Land, Policy, Move, Landing, Entry, with_id, known, is_known, content_len, length_in, policy_of, policy_text}
 use Rattle.history_model.specs.Bookmark.{moved_to, head}
 use Rattle.reply_model.specs.After.{entry_by}
 use Rattle.reply_model.proofs.Parents.{brought}
@@ -82,10 +82,16 @@ content_len-content h who x n y none = content_len-push h who (Content x n) y �
         (λ i. option_or (content_len h (sym same i)) (cond (symm i) (Some n) None)) ∙ (λ i. option_or (none i) (cond (e i) (Some n) None))
     by false e = (λ i. option_or (content_len h y) (cond (symm i) (Some n) None)) ∙ (λ i. option_or (content_len h y) (cond (e i) (Some n) None)) ∙ option_or-None (content_len h y)
 
+pub content_len-whole : (h : List Entry) (who : ℕ) (x : Id) (n : ℕ) (parts : List Id) (y : Id) → content_len h x ≡ None → content_len (h ++ entry_by who (Whole x n parts) ∷ []) y ≡ cond (bytes_eq x y) (Some n) (content_len h y)
+content_len-whole h who x n parts y none = content_len-push h who (Whole x n parts) y ∙ sym (content_len-push h who (Content x n) y) ∙ content_len-content h who x n y none
+
 -- ---- known changesets
 
 pub known-content : (h : List Entry) (who : ℕ) (x : Id) (n : ℕ) → known (h ++ entry_by who (Content x n) ∷ []) ≡ known h
 known-content h who x n = known-append h (entry_by who (Content x n) ∷ []) ∙ append-nil (known h)
+
+pub known-whole : (h : List Entry) (who : ℕ) (x : Id) (n : ℕ) (parts : List Id) → known (h ++ entry_by who (Whole x n parts) ∷ []) ≡ known h
+known-whole h who x n parts = known-append h (entry_by who (Whole x n parts) ∷ []) ∙ append-nil (known h)
 
 pub known-policy : (h : List Entry) (who : ℕ) (caller text : List ℕ) → known (h ++ entry_by who (Policy caller text) ∷ []) ≡ known h
 known-policy h who caller text = known-append h (entry_by who (Policy caller text) ∷ []) ∙ append-nil (known h)

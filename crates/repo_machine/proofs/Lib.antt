@@ -6,7 +6,10 @@ pub mod HeldPolicy
 pub mod Framing
 pub mod Policing
 pub mod Asking
-pub mod Parts
+pub mod Tables
+pub mod Pieces
+pub mod Joining
+pub mod Apart
 pub mod Entered
 pub mod Putting
 pub mod Moving

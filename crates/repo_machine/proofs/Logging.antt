@@ -13,7 +13,7 @@ use Rattle.history_model.specs.Repository.{Repository}
 use Rattle.reply_model.specs.Log.{LogLine, lines_of, log_lines}
 use Rattle.changeset_store.specs.Store.{changeset_at}
 use Rattle.repo_machine.specs.declared.records.Record.{Record}
-use Rattle.repo_machine.specs.declared.records.Record.TheVariants.{Content, Change, Book, Land, Policy, Fault}
+use Rattle.repo_machine.specs.declared.records.Record.TheVariants.{Content, Whole, Change, Book, Land, Policy, Fault}
 use Rattle.repo_machine.specs.declared.records.Entry.{Entry}
 use Rattle.repo_calls.specs.declared.log.LogEntry.{LogEntry}
 use Rattle.repo_calls.specs.Calls.{line_seen, lines_seen}
@@ -94,6 +94,7 @@ stored_of ks e = unnumbered (body_of ks e.record)
 
 is_stored-record : (ks : List Known) (r : Record) → is_stored (body_of ks r) ≡ is_record_kept r
 is_stored-record ks (Content id n) = refl
+is_stored-record ks (Whole id n parts) = refl
 is_stored-record ks (Change number) = refl
 is_stored-record ks (Book movement) = refl
 is_stored-record ks (Land landing) = refl
@@ -119,6 +120,7 @@ stored-history ks es = ap (map unnumbered) (bodies-history ks es) ∙ map-twice 
 
 line_by : (ks : List Known) (count : ℕ) (r : Record) → KeptWithin count r → (later : List model.Entry) (lines : List LogLine) → lines_of later ≡ lines → lines_of (unnumbered (body_of ks r) ∷ later) ≡ record_line ks r ∷ lines
 line_by ks count (Content id n) kept later lines ih = ap (λ l. record_line ks (Content id n) ∷ l) ih
+line_by ks count (Whole id n parts) kept later lines ih = ap (λ l. record_line ks (Whole id n parts) ∷ l) ih
 line_by ks count (Change number) kept later lines ih = ap (λ l. record_line ks (Change number) ∷ l) ih
 line_by ks count (Book movement) kept later lines ih = ap (λ l. record_line ks (Book movement) ∷ l) ih
 line_by ks count (Land landing) kept later lines ih = ap (λ l. record_line ks (Land landing) ∷ l) ih
@@ -133,6 +135,7 @@ lines_of-kept ks count es (n ∷ ns) kept = line_by ks count (entry_at es n).rec
 
 kept_record : (count : ℕ) (r : Record) → is_record_kept r ≡ true → RecordWithin count r → KeptWithin count r
 kept_record count (Content id n) kept within = tt
+kept_record count (Whole id n parts) kept within = tt
 kept_record count (Change number) kept within = within
 kept_record count (Book movement) kept within = tt
 kept_record count (Land landing) kept within = within

@@ -1,6 +1,6 @@
 -- What is judged of a content, by the look-up of lengths.
 use Rattle.std.proofs.Common.{◌≡◌, ℕ, suc, ◌≤◌, ◌<◌, lt-ltb, Bool, true, false, List, [], ◌∷◌, length, refl, sym, ap, subst, ◌∙◌}
-use Rattle.std.specs.Prelude.{Option, None, Some, is_some, option_map, ◌&&◌, slice_index}
+use Rattle.std.specs.Prelude.{Option, None, is_some, ◌&&◌, slice_index}
 use Rattle.sha2.specs.Sha256.{sha256}
 use Rattle.byte_fields.specs.Bytes.{Id, are_bytes}
 use Rattle.changeset_model.specs.Changeset.{most_content}
@@ -10,7 +10,6 @@ use Rattle.history_model.specs.Repository.{Repository}
 use Rattle.reply_model.specs.Reply.{PutContent, ContentPut, judge, entered, unchanged}
 use Rattle.reply_model.specs.Legal.{IsLegal}
 use Rattle.changeset_store.proofs.Numbering.{not_some}
-use Rattle.repo_machine.specs.declared.place.Place.{Place}
 use Rattle.repo_machine.specs.Indexes.{AreIndexes}
 use Rattle.repo_machine.proofs.Judging.{judged_short}
 
@@ -37,7 +36,3 @@ module _ {header : Header} {h : List Entry} {ks : List Known} {heads : List ℕ 
 
     pub is_absent : is_some (lengths x) ≡ false → content_len r.history x ≡ None
     is_absent found = not_some (content_len r.history x) (ap (λ r. is_some (content_len r.history x)) (sym is) ∙ ap is_some (sym (k.lengths_are x)) ∙ found)
-
-pub some_length : (o : Option Place) (b : Bool) → is_some o ≡ b → is_some (option_map (λ p. p.length) o) ≡ b
-some_length None b e = e
-some_length (Some p) b e = e

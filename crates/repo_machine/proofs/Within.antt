@@ -8,7 +8,7 @@ use Rattle.changeset_model.specs.Changeset.{Changeset}
 use Rattle.changeset_store.specs.Store.{changeset_at}
 use Rattle.changeset_store.proofs.Places.{changeset_at-append, changeset_at-last}
 use Rattle.repo_machine.specs.declared.records.Record.{Record}
-use Rattle.repo_machine.specs.declared.records.Record.TheVariants.{Content, Change, Book, Land, Policy, Fault}
+use Rattle.repo_machine.specs.declared.records.Record.TheVariants.{Content, Whole, Change, Book, Land, Policy, Fault}
 use Rattle.repo_machine.specs.declared.records.Entry.{Entry}
 use Rattle.repo_machine.specs.Records.{body_of, entry_of, history_of, RecordWithin, IsWithin}
 
@@ -18,6 +18,7 @@ changesets_at-append ks more (n ∷ ns) within = (λ i. changeset_at-append ks m
 
 body_of-append : (ks more : List model.Known) (r : Record) → RecordWithin (length ks) r → body_of (ks ++ more) r ≡ body_of ks r
 body_of-append ks more (Content id n) within = refl
+body_of-append ks more (Whole id n parts) within = refl
 body_of-append ks more (Change number) within = ap model.Change (changeset_at-append ks more number within)
 body_of-append ks more (Book movement) within = refl
 body_of-append ks more (Policy caller text) within = refl
@@ -31,6 +32,7 @@ history_of-known ks more (e ∷ es) within = (λ i. record { who = e.who; body =
 
 record_stays : (n m : ℕ) → n ≤ m → (r : Record) → RecordWithin n r → RecordWithin m r
 record_stays n m more (Content id length) within = tt
+record_stays n m more (Whole id length parts) within = tt
 record_stays n m more (Change number) within = omega arith
 record_stays n m more (Book movement) within = tt
 record_stays n m more (Policy caller text) within = tt

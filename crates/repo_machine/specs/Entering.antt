@@ -27,8 +27,7 @@ pub record CanMake (header : Header) (h : List Entry) (body : Body) : Type 0 whe
 
 abbrev pub IsNew : List Entry → Body → Type 0
 IsNew h (Content x n) = content_len h x ≡ None
--- no contents are joined yet
-IsNew h (Whole x n parts) = ⊥
+IsNew h (Whole x n parts) = content_len h x ≡ None
 IsNew h (Change c) = (is_known (known h) (id_of c) ≡ false) × AllByRecursion (λ p. is_known (known h) p ≡ true) c.parents
 IsNew h (Book move) = Unit {0}
 IsNew h (Land landing) = CanAdd (known h) landing.new

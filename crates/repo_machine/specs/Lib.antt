@@ -19,3 +19,5 @@ pub mod Again
 pub mod Prepared
 pub mod Asked
 pub mod Policies
+pub mod Wholes
+pub mod Found

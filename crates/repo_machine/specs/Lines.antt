@@ -3,18 +3,20 @@
 --     entry_at es n, line_at ks es n      the entry at a place, and what is told of it
 --     KeptWithin count record, IsKeptAt count es n      it is stored, and each changeset that it names has a number below this
 use Rattle.std.specs.Prelude.{ℕ, ◌<◌, ◌==◌, false, List, [], map, length, count_by, get_or}
+use Rattle.std.specs.Arc.{arc_value}
 use Rattle.std.specs.List.{AllByRecursion}
 use Rattle.changeset_model.specs.Changeset.{id_of}
 use Rattle.history_model.specs.History.{Known}
-use Rattle.reply_model.specs.Log.{LogLine, ContentLine, ChangesetLine, BookmarkLine, LandingLine, PolicyLine}
+use Rattle.reply_model.specs.Log.{LogLine, ContentLine, WholeLine, ChangesetLine, BookmarkLine, LandingLine, PolicyLine}
 use Rattle.repo_events.specs.Entries.{move_of}
 use Rattle.changeset_store.specs.Store.{changeset_at}
 use Rattle.repo_machine.specs.declared.records.Record.{Record}
-use Rattle.repo_machine.specs.declared.records.Record.TheVariants.{Content, Change, Book, Land, Policy, Fault}
+use Rattle.repo_machine.specs.declared.records.Record.TheVariants.{Content, Whole, Change, Book, Land, Policy, Fault}
 use Rattle.repo_machine.specs.declared.records.Entry.{Entry}
 
 abbrev pub record_line : List Known → Record → LogLine
 record_line ks (Content id length) = ContentLine id length
+record_line ks (Whole id length parts) = WholeLine id length (arc_value parts).items
 record_line ks (Change number) = ChangesetLine (id_of (changeset_at ks number))
 record_line ks (Book movement) = BookmarkLine (move_of movement)
 record_line ks (Land landing) = LandingLine landing.caller landing.name landing.old landing.draft landing.moment (map id_of (map (changeset_at ks) landing.numbers.items))
@@ -30,6 +32,7 @@ line_at ks es n = record_line ks (entry_at es n).record
 
 abbrev pub KeptWithin : ℕ → Record → Type 0
 KeptWithin count (Content id length) = Unit {0}
+KeptWithin count (Whole id length parts) = Unit {0}
 KeptWithin count (Change number) = number < count
 KeptWithin count (Book movement) = Unit {0}
 KeptWithin count (Land landing) = AllByRecursion (λ n. n < count) landing.numbers.items

@@ -1,6 +1,6 @@
 -- What a change makes, as an entry of the definitions.
 --     made_of made      the entry's body
---     IsReady made      there is memory for the numbers of a landing's changesets, and a policy was read
+--     IsReady made      there is memory for the numbers of a landing's changesets, a whole's parts are there twice, and a policy was read
 use Rattle.std.specs.Prelude.{◌≡◌, ◌≤◌, [], length, vec_capacity, Option, None, Some, Ok}
 use Rattle.std.specs.Arc.{arc_value}
 use Rattle.history_model.specs.History as model
@@ -8,14 +8,19 @@ use Rattle.policy_model.specs.Grammar.{parse}
 use Rattle.repo_events.specs.Entries.{move_of}
 use Rattle.changeset_store.specs.Shared.{values}
 use Rattle.repo_machine.specs.declared.judged.LandMade.{LandMade}
+use Rattle.repo_machine.specs.declared.judged.WholeMade.{WholeMade}
 use Rattle.repo_machine.specs.declared.judged.Made.{Made}
-use Rattle.repo_machine.specs.declared.judged.Made.TheVariants.{Content, Change, Book, Land, Policy}
+use Rattle.repo_machine.specs.declared.judged.Made.TheVariants.{Content, Whole, Change, Book, Land, Policy}
 
 abbrev pub landing_made : LandMade → model.Landing
 landing_made l = record { name = l.name; old = l.old; draft = l.draft; new = values l.new.items; moment = l.moment; caller = l.caller }
 
+abbrev pub whole_made : WholeMade → model.Body
+whole_made w = model.Whole w.id w.length (arc_value w.parts).items
+
 abbrev pub made_of : Made → model.Body
 made_of (Content id length) = model.Content id length
+made_of (Whole whole) = whole_made whole
 made_of (Change commit) = model.Change (arc_value commit)
 made_of (Book movement) = model.Book (move_of movement)
 made_of (Land landing) = model.Land (landing_made landing)
@@ -24,8 +29,12 @@ made_of (Policy caller text rules) = model.Policy caller text.items
 abbrev pub HasNumbers : LandMade → Type 0
 HasNumbers l = (l.numbers.items ≡ []) × (length l.new.items ≤ vec_capacity l.numbers)
 
+abbrev pub IsShared : WholeMade → Type 0
+IsShared w = arc_value w.shared ≡ arc_value w.parts
+
 abbrev pub IsMadeReady : Made → Type 0
 IsMadeReady (Content id length) = Unit {0}
+IsMadeReady (Whole whole) = IsShared whole
 IsMadeReady (Change commit) = Unit {0}
 IsMadeReady (Book movement) = Unit {0}
 IsMadeReady (Land landing) = HasNumbers landing

@@ -2,7 +2,7 @@
 --     IsRefusedAs ask e      it is refused so at each history at which no disk has failed
 --     IsReadyContent bytes id frame, IsReadyChangeset c frame      an upload that may be judged, with its record
 --     IsReadyAsk ask ready      this is ready of the change;  IsReadyTo call ready      and of the call that is one
---     IsReadyToJoin body ready      contents that are to be joined are refused so at each history at which no disk has failed
+--     IsReadyToJoin ready      nothing is ready of contents that are to be joined
 --     asked_by p      the call that is the change;  IsPrepared p      what it has is ready of it;  IsPreparedFor call p      so it is, and this is the change
 use Rattle.std.specs.Prelude.{◌≡◌, ◌≤◌, ℕ, true, false, List, length, Some, Ok, Err}
 use Rattle.std.specs.Arc.{arc_value}
@@ -13,7 +13,7 @@ use Rattle.changeset_model.specs.Decoding.{decoded}
 use Rattle.history_model.specs.History.{Content, Change, Entry, is_down}
 use Rattle.history_model.specs.Journal.{Header}
 use Rattle.reply_model.specs.Reply as reply
-use Rattle.reply_model.specs.Reply.{Ask, parts_of, judge}
+use Rattle.reply_model.specs.Reply.{Ask, judge}
 use Rattle.reply_model.specs.After.{Refuses, Call, Asks, Joins, Looks, Derives}
 use Rattle.repo_calls.specs.Calls.{call_seen, refused}
 use Rattle.repo_calls.specs.declared.refusal.Refusal as refusals
@@ -78,22 +78,16 @@ IsReadyAsk ask (ready.Changeset framed) = IsChangesetOf ask (arc_value framed.co
 IsReadyAsk ask (ready.Policy read) = IsPolicyOf ask read
 IsReadyAsk ask ready.Asked = IsNoUpload ask
 
--- before anything is looked up
-pub record IsUnjoined (body : List ℕ) (e : refusals.Refusal) : Type 0 where
-  pub refusal : reply.Refusal
-  pub same : refused e ≡ Refuses refusal
-  pub always : (header : Header) (h : List Entry) → parts_of header h body ≡ Err refusal
-
-abbrev pub IsReadyToJoin : List ℕ → Ready → Type 0
-IsReadyToJoin body (ready.Refused refusal) = IsUnjoined body refusal
-IsReadyToJoin body (ready.Content id frame) = ⊥
-IsReadyToJoin body (ready.Changeset framed) = ⊥
-IsReadyToJoin body (ready.Policy read) = ⊥
-IsReadyToJoin body ready.Asked = ⊥
+abbrev pub IsReadyToJoin : Ready → Type 0
+IsReadyToJoin (ready.Refused refusal) = ⊥
+IsReadyToJoin (ready.Content id frame) = ⊥
+IsReadyToJoin (ready.Changeset framed) = ⊥
+IsReadyToJoin (ready.Policy read) = ⊥
+IsReadyToJoin ready.Asked = Unit {0}
 
 abbrev pub IsReadyTo : Call → Ready → Type 0
 IsReadyTo (Asks ask) ready = IsReadyAsk ask ready
-IsReadyTo (Joins body) ready = IsReadyToJoin body ready
+IsReadyTo (Joins body) ready = IsReadyToJoin ready
 IsReadyTo (Looks question) ready = ⊥
 IsReadyTo (Derives id) ready = ⊥
 

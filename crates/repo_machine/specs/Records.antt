@@ -3,13 +3,14 @@
 --     IsWithin count entry      each changeset that the entry names has a number below this
 --     is_kept entry      it isn't a fault, so it is stored;  kept_from n entries      the places of those that are, if the first has this one
 use Rattle.std.specs.Prelude.{ℕ, suc, ◌<◌, Bool, true, false, if◌then◌else◌, List, [], ◌∷◌, map}
+use Rattle.std.specs.Arc.{arc_value}
 use Rattle.std.specs.List.{AllByRecursion}
 use Rattle.history_model.specs.History as model
 use Rattle.repo_events.specs.Entries.{move_of}
 use Rattle.changeset_store.specs.Store.{changeset_at}
 use Rattle.repo_machine.specs.declared.records.LandRecord.{LandRecord}
 use Rattle.repo_machine.specs.declared.records.Record.{Record}
-use Rattle.repo_machine.specs.declared.records.Record.TheVariants.{Content, Change, Book, Land, Policy, Fault}
+use Rattle.repo_machine.specs.declared.records.Record.TheVariants.{Content, Whole, Change, Book, Land, Policy, Fault}
 use Rattle.repo_machine.specs.declared.records.Entry.{Entry}
 
 abbrev pub landing_of : List model.Known → LandRecord → model.Landing
@@ -17,6 +18,7 @@ landing_of ks l = record { name = l.name; old = l.old; draft = l.draft; new = ma
 
 abbrev pub body_of : List model.Known → Record → model.Body
 body_of ks (Content id length) = model.Content id length
+body_of ks (Whole id length parts) = model.Whole id length (arc_value parts).items
 body_of ks (Change number) = model.Change (changeset_at ks number)
 body_of ks (Book movement) = model.Book (move_of movement)
 body_of ks (Land landing) = model.Land (landing_of ks landing)
@@ -31,6 +33,7 @@ history_of ks es = map (entry_of ks) es
 
 abbrev pub RecordWithin : ℕ → Record → Type 0
 RecordWithin count (Content id length) = Unit {0}
+RecordWithin count (Whole id length parts) = Unit {0}
 RecordWithin count (Change number) = number < count
 RecordWithin count (Book movement) = Unit {0}
 RecordWithin count (Land landing) = AllByRecursion (λ n. n < count) landing.numbers.items
@@ -42,6 +45,7 @@ IsWithin count e = RecordWithin count e.record
 
 abbrev pub is_record_kept : Record → Bool
 is_record_kept (Content id length) = true
+is_record_kept (Whole id length parts) = true
 is_record_kept (Change number) = true
 is_record_kept (Book movement) = true
 is_record_kept (Land landing) = true

@@ -46,9 +46,10 @@ impl Machine {
 fn contents_in(entries: &[Entry]) -> u64
     ensures { result ≡ count_by is_content_entry entries.now }
 {
-    let contents = entries
-        .iter()
-        .filter(|entry| matches!(entry.record, Record::Content { .. }));
+    let contents = entries.iter().filter(|entry| matches!(
+        entry.record,
+        Record::Content { .. } | Record::Whole { .. }
+    ));
     contents.count() as u64
 }
 

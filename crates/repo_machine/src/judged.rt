@@ -25,6 +25,15 @@ pub(crate) struct LandMade {
     pub(crate) numbers: Vec<u32>,
 }
 
+/// A whole: its parts, and the same once more.
+#[derive(Drop)]
+pub(crate) struct WholeMade {
+    pub(crate) id: Id,
+    pub(crate) length: u64,
+    pub(crate) parts: Arc<Vec<Id>>,
+    pub(crate) shared: Arc<Vec<Id>>,
+}
+
 /// What a change makes, ready to be entered without memory.
 #[derive(Drop)]
 pub(crate) enum Made {
@@ -32,6 +41,7 @@ pub(crate) enum Made {
         id: Id,
         length: u64,
     },
+    Whole(WholeMade),
     Change(Arc<Commit>),
     Book(Move),
     Land(LandMade),

@@ -76,6 +76,11 @@ fn line_of(
             id: *id,
             size: *length,
         }),
+        Record::Whole { id, length, parts } => Ok(LogEntry::Whole {
+            id: *id,
+            size: *length,
+            parts: Vec::from_slice(alloc, parts.as_slice())?,
+        }),
         Record::Change { number } => Ok(LogEntry::Changeset {
             id: changesets.at(*number).id(),
         }),

@@ -6,16 +6,16 @@ ghost use Rattle.history_model.specs.History.{is_down, stored};
 ghost use Rattle.bonsai.specs.Versions.{version_view};
 
 use crate::held_rules::HeldRules;
-use crate::place::Place;
 use crate::records::Entry;
 use bonsai::Version;
 use changeset_store::ChangesetStore;
+use content_table::ContentTable;
 use object_id::Id;
 use repo_calls::Refusal;
 use repo_events::FRAME;
 use repo_path::BookName;
 use std::alloc::Global;
-use std::collections::{BTreeMap, HashMap};
+use std::collections::BTreeMap;
 use std::hash::RandomState;
 use std::marker::Model;
 
@@ -33,7 +33,7 @@ pub struct Machine {
     pub(crate) entries: Vec<Entry>,
     // The places of the entries that are stored.
     pub(crate) kept: Vec<usize>,
-    pub(crate) contents: HashMap<Id, Place, RandomState>,
+    pub(crate) contents: ContentTable,
     pub(crate) changesets: ChangesetStore,
     // Each bookmark that was ever named, with its head if it has one.
     pub(crate) heads: BTreeMap<BookName, Option<Id>>,
@@ -42,14 +42,14 @@ pub struct Machine {
 }
 
 impl Model for Machine {
-    ghost use Rattle.std.specs.Prelude.{◌≡◌, ◌-◌, length, option_map};
+    ghost use Rattle.std.specs.Prelude.{◌≡◌, ◌-◌, length};
     ghost use Rattle.std.specs.List.{AllByRecursion};
     ghost use Rattle.std.specs.Option.{option_flatten};
     ghost use Rattle.std.specs.Vec.{vec_len, vec_capacity};
-    ghost use Rattle.std.specs.HashMap.{get, spare};
     ghost use Rattle.std.specs.BTreeMap.{get as get_ordered};
     ghost use Rattle.std.specs.Map.{keys_of};
     ghost use Rattle.bonsai.specs.Versions.{version_view};
+    ghost use Rattle.content_table.specs.Table.{lengths, places, joined, spare_in};
     ghost use Rattle.repo_machine.specs.Held.{Held, coded_held};
 
     ghost Value = { Held };
@@ -57,7 +57,7 @@ impl Model for Machine {
     ghost coded = { coded_held };
 
     ghost use Rattle.repo_machine.specs.Records.{history_of, kept_from, IsWithin};
-    ghost use Rattle.repo_machine.specs.Indexes.{AreIndexes, AreAt};
+    ghost use Rattle.repo_machine.specs.Indexes.{AreIndexes, AreAt, AreJoined};
     ghost use Rattle.repo_machine.specs.Policies.{IsHeld};
 
     ghost view = { λ m. record {
@@ -66,7 +66,7 @@ impl Model for Machine {
       room = record {
         entries = vec_capacity m.entries - vec_len m.entries;
         stored = vec_capacity m.kept - vec_len m.kept;
-        contents = spare m.contents;
+        contents = spare_in m.contents;
         changesets = m.changesets.room;
         names = keys_of m.heads.entries;
       };
@@ -75,10 +75,11 @@ impl Model for Machine {
     ghost invariant = { λ m. AllByRecursion (IsWithin (length m.changesets.known)) m.entries.items ×
         AreIndexes (record { capacity = m.capacity; version = version_view m.version }) (history_of m.changesets.known m.entries.items) m.changesets.known
         (λ name. option_flatten (get_ordered ⟦<BookName as Ord>⟧.cmp m.heads name))
-        (λ x. option_map (λ p. p.length) (get ⟦<Id as PartialEq>⟧.eq m.contents x)) m.size m.down ×
-        AreAt (history_of m.changesets.known m.entries.items) (λ x. get ⟦<Id as PartialEq>⟧.eq m.contents x) ×
+        (lengths m.contents) m.size m.down ×
+        AreAt (history_of m.changesets.known m.entries.items) (places m.contents) ×
         (m.kept.items ≡ kept_from 0 m.entries.items) ×
-        IsHeld (history_of m.changesets.known m.entries.items) m.held };
+        IsHeld (history_of m.changesets.known m.entries.items) m.held ×
+        AreJoined (history_of m.changesets.known m.entries.items) (joined m.contents) };
 }
 
 impl Machine {
@@ -96,7 +97,7 @@ impl Machine {
             down: false,
             entries: Vec::new(alloc),
             kept: Vec::new(alloc),
-            contents: HashMap::with_hasher(alloc, keys),
+            contents: ContentTable::new(alloc, keys),
             changesets: ChangesetStore::new(alloc, keys),
             heads: BTreeMap::new(alloc),
             held: None,

@@ -244,6 +244,7 @@ fn text_of(record: &Record) -> Option<&[u8]>
     match record {
         Record::Policy { caller: _, text } => Some(text.as_slice()),
         Record::Content { .. }
+        | Record::Whole { .. }
         | Record::Change { .. }
         | Record::Book(_)
         | Record::Land(_)

@@ -1,19 +1,23 @@
 //! Changes that are made ready where no machine is at hand.
-ghost use Rattle.std.specs.Prelude.{◌≡◌, ◌≢◌, ◌≤◌, length, Ok, Some, IfOk, IfErr};
+ghost use Rattle.std.specs.Prelude.{◌≡◌, ◌≢◌, ◌≤◌, true, List, length, Ok, Some, IfOk, IfErr, IfSome, IfNone};
 ghost use Rattle.std.specs.Arc.{arc_value};
 ghost use Rattle.sha2.specs.Sha256.{sha256};
+ghost use Rattle.byte_fields.specs.Bytes.{are_bytes};
 ghost use Rattle.changeset_model.specs.Changeset.{spelling};
 ghost use Rattle.changeset_model.specs.Decoding.{decoded};
-ghost use Rattle.history_model.specs.History.{Content};
-ghost use Rattle.reply_model.specs.Reply.{PutContent, PutChangeset, is_parts_len};
+ghost use Rattle.history_model.specs.History.{Content, Entry};
+ghost use Rattle.history_model.specs.Journal.{Header};
+ghost use Rattle.reply_model.specs.Reply.{PutContent, PutChangeset};
 ghost use Rattle.reply_model.specs.After.{Asks, Joins};
 ghost use Rattle.reply_model.specs.Legal.{IsLegal};
 ghost use Rattle.repo_calls.specs.Calls.{call_seen};
 ghost use Rattle.repo_machine.specs.Asked.{JudgesCall, RefusesCall};
+ghost use Rattle.repo_machine.specs.Found.{IsFound};
 ghost use Rattle.repo_machine.specs.Faults.{fault_refusal};
 ghost use Rattle.repo_machine.specs.Judged.{Frames};
 ghost use Rattle.repo_machine.specs.Prepared.{IsPrepared, IsPreparedFor, IsReadyChangeset, IsReadyTo, asked_by};
 
+use crate::found::Found;
 use crate::judged::Judged;
 use crate::machine::Machine;
 use crate::policies::{ReadText, read_policy};
@@ -23,9 +27,6 @@ use repo_calls::{Ask, Refusal};
 use repo_events::{Body, encode_entry, frame_payload};
 use std::alloc::{AllocError, Global};
 use std::sync::Arc;
-
-/// The most contents that are joined to one.
-const MOST_PARTS: u64 = 64;
 
 /// A changeset with the record that would store it.
 #[derive(Drop)]
@@ -37,14 +38,14 @@ pub(crate) struct FramedChangeset {
 /// What is ready of a change.
 #[derive(Drop)]
 pub(crate) enum Ready {
-    /// An upload, or contents that are to be joined, which are refused wherever the disk hasn't failed.
+    /// An upload that is refused wherever the disk hasn't failed.
     Refused(Refusal),
     /// A content's id, and the record that would store it.
     Content { id: Id, frame: Vec<u8> },
     Changeset(FramedChangeset),
     /// A policy's text, which was read.
     Policy(ReadText),
-    /// A move or a landing, which is judged as it is asked for.
+    /// A move, a landing, or contents that are to be joined, which are judged as they are asked for.
     Asked,
 }
 
@@ -56,16 +57,40 @@ pub struct Prepared<'a> {
     pub(crate) ready: Ready,
 }
 
+impl Prepared<'_> {
+    /// The ids of contents that are to be joined, one behind another. None of each other change.
+    pub fn joins(&self) -> Option<&[u8]>
+        ensures joins { IfSome result (λ body. asked_by self.now ≡ Joins body.now) }
+        ensures bytes { IfSome result (λ body. are_bytes body.now ≡ true) }
+        // Nothing need be found for each other change.
+        ensures none { IfNone result ((header : Header) (h : List Entry) → IsFound header h self.now Found.Nothing) }
+    {
+        match *self.ask {
+            Ask::PutWhole(body) => {
+                keep_bytes(body);
+                Some(body)
+            }
+            Ask::PutContent(_)
+            | Ask::PutChangeset(_)
+            | Ask::SetBookmark { .. }
+            | Ask::Land { .. }
+            | Ask::SetPolicy { .. } => None,
+        }
+    }
+}
+
 impl Machine {
-    /// Judges a change of which this is ready, as `judge` does. No upload is hashed, decoded or encoded here, and no policy is
-    /// read.
+    /// Judges a change of which this is ready, with what was found for it, as `judge` does. No upload is hashed, decoded or
+    /// encoded here, and no policy is read.
     pub fn judge_prepared(
         &mut self,
         alloc: Global,
         who: u64,
         prepared: Prepared<'_>,
+        found: Found,
     ) -> Result<Judged, Refusal>
         requires prepared { IsPrepared prepared }
+        requires found { IsFound self.old.header self.old.history prepared found }
         ensures ok { IfOk result (JudgesCall self.old.header self.old.history self.new.room who (asked_by prepared.entry)) }
         ensures err { IfErr result (RefusesCall self.old.header self.old.history (asked_by prepared.entry)) }
         ensures header { self.new.header ≡ self.old.header }
@@ -85,9 +110,9 @@ impl Machine {
                 Ready::Changeset(framed) => self.judge_changeset(alloc, who, framed),
                 _ => unreachable!(),
             },
-            Ask::PutWhole(_) => match ready {
-                Ready::Refused(refusal) => self.refuse(refusal),
-                _ => unreachable!(),
+            Ask::PutWhole(_) => match found {
+                Found::Joined(whole) => self.judge_whole(alloc, who, whole),
+                Found::Nothing => unreachable!(),
             },
             Ask::SetBookmark {
                 caller,
@@ -110,6 +135,13 @@ impl Machine {
     }
 }
 
+// Bytes are below 256.
+fn keep_bytes(bytes: &[u8])
+    ensures { are_bytes bytes.now ≡ true }
+{
+    let _bytes = bytes;
+}
+
 /// Makes a change ready: all of its work that needs no machine. A content's bytes are copied once, into its record.
 pub fn prepare<'a>(alloc: Global, ask: &'a Ask<'a>) -> Result<Prepared<'a>, AllocError>
     ensures { IfOk result (IsPreparedFor (call_seen ask.now)) }
@@ -117,9 +149,8 @@ pub fn prepare<'a>(alloc: Global, ask: &'a Ask<'a>) -> Result<Prepared<'a>, Allo
     let ready = match *ask {
         Ask::PutContent(bytes) => ready_content(alloc, bytes)?,
         Ask::PutChangeset(bytes) => ready_changeset(alloc, bytes)?,
-        Ask::PutWhole(body) => ready_whole(body),
         Ask::SetPolicy { caller, text } => Ready::Policy(read_policy(alloc, caller, text)?),
-        Ask::SetBookmark { .. } | Ask::Land { .. } => Ready::Asked,
+        Ask::PutWhole(_) | Ask::SetBookmark { .. } | Ask::Land { .. } => Ready::Asked,
     };
     Ok(Prepared { ask, ready })
 }
@@ -153,25 +184,6 @@ fn ready_changeset(alloc: Global, bytes: &[u8]) -> Result<Ready, AllocError>
         Ok(commit) => Ok(Ready::Changeset(framed_changeset(alloc, commit, bytes)?)),
         Err(fault) => Ok(Ready::Refused(refusal_of(fault)?)),
     }
-}
-
-// No contents are joined yet, so all that is said is why.
-fn ready_whole(body: &[u8]) -> Ready
-    ensures { IsReadyTo (Joins body.now) result }
-{
-    let length = body.len() as u64;
-    if is_parts_length(length) {
-        Ready::Refused(Refusal::OldFormat)
-    } else {
-        Ready::Refused(Refusal::BadParts { length })
-    }
-}
-
-// Whether 1 to 64 ids have so many bytes.
-fn is_parts_length(length: u64) -> bool
-    ensures { result ≡ is_parts_len length }
-{
-    length % 32 == 0 && length >= 32 && length <= 32 * MOST_PARTS
 }
 
 // A changeset that these bytes spell, with their record.

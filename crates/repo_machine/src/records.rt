@@ -3,6 +3,7 @@
 use object_id::Id;
 use repo_events::Move;
 use repo_path::BookName;
+use std::sync::Arc;
 
 /// A draft that was landed on a bookmark.
 #[derive(Debug, Drop)]
@@ -23,17 +24,33 @@ pub(crate) struct LandRecord {
 #[derive(Debug, Drop)]
 pub(crate) enum Record {
     /// A content of this id and length in bytes was stored.
-    Content { id: Id, length: u64 },
+    Content {
+        id: Id,
+        length: u64,
+    },
+    /// Contents were joined to one of this id and length in bytes, in this order.
+    Whole {
+        id: Id,
+        length: u64,
+        parts: Arc<Vec<Id>>,
+    },
     /// The changeset of this number was uploaded.
-    Change { number: u32 },
+    Change {
+        number: u32,
+    },
     /// A bookmark was made, moved or deleted.
     Book(Move),
     /// A stack was landed.
     Land(LandRecord),
     /// Who may land and move bookmarks from here on was set, and by whom.
-    Policy { caller: BookName, text: Vec<u8> },
+    Policy {
+        caller: BookName,
+        text: Vec<u8>,
+    },
     /// The disk failed. After a breaking fault nothing is stored.
-    Fault { breaking: bool },
+    Fault {
+        breaking: bool,
+    },
 }
 
 /// An entry: the number of the seat that made it, 0 where it was recovered, and what it says.

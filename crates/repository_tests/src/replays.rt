@@ -1,10 +1,12 @@
 //! Payloads of entries, entered one after another.
-ghost use Rattle.std.specs.Prelude.{◌≡◌};
+ghost use Rattle.std.specs.Prelude.{◌≡◌, IsTrue};
 ghost use Rattle.history_model.specs.History.{stored};
+ghost use Rattle.history_model.specs.Journal.{is_header};
 ghost use Rattle.reply_model.specs.Legal.{IsLegal};
 
 use crate::rows::same;
 use crate::steps::{log_text, new_run, run_lines};
+use blob_disk::{Disk, MemDisk};
 use bonsai::Version;
 use ports::ZeroBytes;
 use recovery::{ReplayFault, enter_payload};
@@ -87,27 +89,48 @@ content abc
 line - 1 0";
 
 // Enters a payload in hex digits, if it is the entry that comes next.
-fn enter(alloc: Global, machine: &mut Machine, digits: &str) -> Result<&'static str, Fail>
+fn enter(
+    alloc: Global,
+    disk: &mut MemDisk,
+    machine: &mut Machine,
+    digits: &str,
+) -> Result<&'static str, Fail>
+    requires limits { IsTrue (is_header machine.old.header) }
     requires legal { IsLegal machine.old.header machine.old.history }
     requires stored { machine.old.history ≡ stored machine.old.history }
+    ensures limits { IsTrue (is_header machine.new.header) }
     ensures legal { IsLegal machine.new.header machine.new.history }
     ensures stored { machine.new.history ≡ stored machine.new.history }
 {
     let payload = hex::decode(alloc, digits)?;
-    match enter_payload(alloc, machine, payload.as_slice()) {
+    let Ok(size) = disk.size() else {
+        return Err(Fail::from("size"));
+    };
+    if size < machine.size() {
+        return Err(Fail::from("a short disk"));
+    }
+    match enter_payload(alloc, disk, machine, payload.as_slice()) {
         Ok(()) => Ok("+"),
         Err(ReplayFault::BadPayload) => Ok("-"),
+        Err(ReplayFault::DiskFault) => Err(Fail::from("the disk")),
         Err(ReplayFault::Memory) => Err(Fail::from("memory")),
     }
 }
 
-fn enter_all(rt: &impl Abort, alloc: Global, machine: &mut Machine, rows: &str) -> Result<(), Fail>
+fn enter_all(
+    rt: &impl Abort,
+    alloc: Global,
+    disk: &mut MemDisk,
+    machine: &mut Machine,
+    rows: &str,
+) -> Result<(), Fail>
+    requires limits { IsTrue (is_header machine.old.header) }
     requires legal { IsLegal machine.old.header machine.old.history }
     requires stored { machine.old.history ≡ stored machine.old.history }
 {
     'rows: for row in rows.lines() {
         let (digits, wanted) = row.split_once(" = ").unwrap_or((row, ""));
-        let told = enter(alloc, machine, digits)?;
+        let told = enter(alloc, disk, machine, digits)?;
         same(rt, told, wanted, row);
     }
     Ok(())
@@ -120,6 +143,13 @@ fn state(alloc: Global, machine: &Machine) -> Result<String, Fail> {
     Ok(state)
 }
 
+// A disk that is as long as a file may become. No parts of a whole stand on it.
+fn empty_disk(alloc: Global) -> Result<MemDisk, Fail> {
+    let mut file = Vec::new(alloc);
+    file.resize(65_536, 0)?;
+    Ok(MemDisk::holding(alloc, file.as_slice(), 65_536, Vec::new(alloc))?)
+}
+
 // What is there once these are entered in a file of this version.
 fn entered(
     rt: &impl Abort,
@@ -128,7 +158,8 @@ fn entered(
     payloads: &str,
 ) -> Result<String, Fail> {
     let mut machine = Machine::new(alloc, RandomState::new(&ZeroBytes)?, 65_536, version);
-    enter_all(rt, alloc, &mut machine, payloads)?;
+    let mut disk = empty_disk(alloc)?;
+    enter_all(rt, alloc, &mut disk, &mut machine, payloads)?;
     state(alloc, &machine)
 }
 

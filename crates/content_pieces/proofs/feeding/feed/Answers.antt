@@ -1,4 +1,4 @@
-use Rattle.std.proofs.Common.{◌≡◌, ◌-◌, ◌++◌, length, take, subst, arith}
+use Rattle.std.proofs.Common.{◌≡◌, ◌-◌, ◌++◌, length, take, subst, arith, rules}
 use Rattle.std.proofs.lemmas.List.{append_assoc, length-take-le}
 use Rattle.blob_disk.proofs.Clients.{kept_then}
 use Rattle.repo_journal.proofs.Walks.{leaves_walk, walk_then}
@@ -26,7 +26,7 @@ loop-left-preserved g c =
     let few = c.loop-left.invariant.few in
     let within = c.requires.within in
     let size : length (take count c.loop-left.block) ≡ count = length-take-le count c.loop-left.block (let long = c.min-count.array_long in let least = c.min-count.ensures in omega arith) in
-    let block = one_read j m (g.D.Disk.meaning c.loop-left.disk) c.loop-left.at count (take count c.loop-left.block) c.read.new.buf walked (g.met.D.Disk.sound c.loop-left.disk) size c.read.auto.buf
+    let block = one_read j m (g.D.Disk.meaning c.loop-left.disk) c.loop-left.at count (take count c.loop-left.block) c.read.new.buf walked (g.met.D.Disk.sound c.loop-left.disk) size c.read.auto.buf (search rules)
     (c.in_ok-read.ensures.bytes) (c.read.ensures.waiting) (λ inside. (let apart = within.apart in omega arith)) in
     record {
       at_is = omega arith;

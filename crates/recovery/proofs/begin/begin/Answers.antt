@@ -10,7 +10,7 @@ returns-in_err-sync-clause-spares g c =
     let n = g.D.Disk.meaning c.sync.new.self in
     let counts : Counts a.faults n.faults (is_err c.from_residual-in_err-sync.result) = search rules in
     spares_then m a n (is_err c.from_residual-in_err-sync.result)
-    (spares_look m a false c.in_ok-size.ensures.looked c.in_ok-size.ensures.kept c.in_ok-size.ensures.time c.in_ok-size.ensures.faults)
+    (spares_look m a false c.in_ok-size.ensures.looked c.in_ok-size.ensures.kept (λ _. c.in_ok-size.ensures.time) c.in_ok-size.ensures.faults)
     (spares_sync a n false (is_err c.from_residual-in_err-sync.result) (g.met.D.Disk.sound c.size.new.self) c.in_err-sync.ensures.did c.in_err-sync.ensures.kept c.in_err-sync.ensures.time counts)
 
 pub returns-clause-begun : goal.returns-clause-begun
@@ -24,5 +24,5 @@ returns-clause-spares g c =
     let a = g.D.Disk.meaning c.size.new.self in
     let n = g.D.Disk.meaning c.sync.new.self in
     spares_then m a n false
-    (spares_look m a false c.in_ok-size.ensures.looked c.in_ok-size.ensures.kept c.in_ok-size.ensures.time c.in_ok-size.ensures.faults)
+    (spares_look m a false c.in_ok-size.ensures.looked c.in_ok-size.ensures.kept (λ _. c.in_ok-size.ensures.time) c.in_ok-size.ensures.faults)
     (spares_sync a n true false (g.met.D.Disk.sound c.size.new.self) c.in_ok-sync.ensures.did c.in_ok-sync.ensures.kept c.in_ok-sync.ensures.time c.in_ok-sync.ensures.faults)

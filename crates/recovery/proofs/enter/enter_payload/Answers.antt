@@ -1,19 +1,22 @@
-use Rattle.reply_model.specs.Opening.{next_entry}
-use Rattle.recovery.proofs.Asked.{entered_bad, entered_err, entered_ok, entered_stored}
+use Rattle.recovery.proofs.Replays.{replayed_bad, replayed_err, replayed_ok, replayed_size, replayed_stored}
 use Rattle.recovery.proofs.enter.enter_payload.Goals as goal
 
 pub returns-clause-ok : goal.returns-clause-ok
-returns-clause-ok c =
-    entered_ok c.args.machine.now.history (λ file. next_entry file c.args.machine.now.header c.args.machine.now.history c.args.payload.now) c.enter_body.new.machine.history c.enter_body.result c.enter_body.ensures.enters
+returns-clause-ok g c =
+    replayed_ok (g.D.Disk.meaning c.args.disk.now) c.args.machine.now.header c.args.machine.now.history c.args.payload.now c.enter_body.result c.enter_body.new.machine.history c.enter_body.ensures.replays
 
 pub returns-clause-bad : goal.returns-clause-bad
-returns-clause-bad c =
-    entered_bad c.args.machine.now.history (λ file. next_entry file c.args.machine.now.header c.args.machine.now.history c.args.payload.now) c.enter_body.new.machine.history c.enter_body.result c.enter_body.ensures.enters
+returns-clause-bad g c =
+    replayed_bad (g.D.Disk.meaning c.args.disk.now) c.args.machine.now.header c.args.machine.now.history c.args.payload.now c.enter_body.result c.enter_body.new.machine.history c.enter_body.ensures.replays
 
 pub returns-clause-err : goal.returns-clause-err
-returns-clause-err c =
-    entered_err c.args.machine.now.history (λ file. next_entry file c.args.machine.now.header c.args.machine.now.history c.args.payload.now) c.enter_body.new.machine.history c.enter_body.result c.enter_body.ensures.enters
+returns-clause-err g c =
+    replayed_err (g.D.Disk.meaning c.args.disk.now) c.args.machine.now.header c.args.machine.now.history c.args.payload.now c.enter_body.result c.enter_body.new.machine.history c.enter_body.ensures.replays
+
+pub returns-clause-size : goal.returns-clause-size
+returns-clause-size g c =
+    replayed_size (g.D.Disk.meaning c.args.disk.now) c.args.machine.now.header c.args.machine.now.history c.args.payload.now c.enter_body.result c.enter_body.new.machine.history c.enter_body.ensures.replays
 
 pub returns-clause-stored : goal.returns-clause-stored
-returns-clause-stored c =
-    entered_stored c.args.machine.now.history (λ file. next_entry file c.args.machine.now.header c.args.machine.now.history c.args.payload.now) c.enter_body.new.machine.history c.enter_body.result c.enter_body.ensures.enters c.requires.stored
+returns-clause-stored g c =
+    replayed_stored (g.D.Disk.meaning c.args.disk.now) c.args.machine.now.header c.args.machine.now.history c.args.payload.now c.enter_body.result c.enter_body.new.machine.history c.enter_body.ensures.replays c.requires.stored

@@ -23,7 +23,7 @@ returns-in_err-enter_record-in-Record-clause-spares g c =
     let n = g.D.Disk.meaning c.enter_record.new.disk in
     let next = c.in_ok-next.ensures in
     let same : is_disk_fault c.enter_record.result ≡ is_disk_fault c.from_residual-in_err-enter_record-in-Record.result = search rules in
-    spares_then m a n (is_disk_fault c.from_residual-in_err-enter_record-in-Record.result) (spares_look m a false next.looked next.kept next.time next.faults)
+    spares_then m a n (is_disk_fault c.from_residual-in_err-enter_record-in-Record.result) (spares_look m a false next.looked next.kept (λ _. next.time) next.faults)
     (subst (λ b. Spares a n b) same c.enter_record.ensures.spares)
 
 pub returns-in-Closed-clause-read : goal.returns-in-Closed-clause-read
@@ -46,4 +46,4 @@ returns-in_ok-enter_record-in-Record-clause-spares g c =
     let m = g.D.Disk.meaning c.args.disk.now in
     let a = g.D.Disk.meaning c.next.new.disk in
     let next = c.in_ok-next.ensures in
-    spares_then m a (g.D.Disk.meaning c.enter_record.new.disk) false (spares_look m a false next.looked next.kept next.time next.faults) c.in_ok-enter_record-in-Record.ensures.spares
+    spares_then m a (g.D.Disk.meaning c.enter_record.new.disk) false (spares_look m a false next.looked next.kept (λ _. next.time) next.faults) c.in_ok-enter_record-in-Record.ensures.spares

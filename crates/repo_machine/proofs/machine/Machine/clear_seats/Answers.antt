@@ -1,6 +1,6 @@
 use Rattle.std.proofs.Common.{ap, ◌∙◌}
 use Rattle.repo_machine.specs.Seats.{cleared}
-use Rattle.repo_machine.proofs.ClearedEntries.{history_unseated, within_unseated, kept_unseated, indexes_unseated, places_unseated}
+use Rattle.repo_machine.proofs.ClearedEntries.{history_unseated, within_unseated, kept_unseated, indexes_unseated, places_unseated, joined_unseated}
 use Rattle.repo_machine.proofs.HeldPolicy.{held_cleared}
 use Rattle.repo_machine.proofs.machine.Machine.clear_seats.Goals as goal
 
@@ -13,6 +13,7 @@ invariant_of-self c =
       places_unseated c.self.inside.changesets.known _ _ clears _ k.2,
       kept_unseated c.self.inside.changesets.known _ _ clears _ k.3,
       held_cleared _ c.self.inside.held k.4 _ (history_unseated c.self.inside.changesets.known _ _ clears),
+      joined_unseated c.self.inside.changesets.known _ _ clears _ k.5,
     )
 
 pub returns-clause-history : goal.returns-clause-history

@@ -5,9 +5,10 @@ use Rattle.repo_machine.specs.Held.{repository}
 use Rattle.repo_machine.specs.Records.{history_of}
 use Rattle.repo_machine.proofs.Within.{history_pushed_same, within_pushed_same}
 use Rattle.repo_machine.proofs.Growing.{known-content, head-push, content_len-content}
-use Rattle.repo_machine.proofs.Entered.{enterable_as, legal_grown, indexes_grown, places_put, lengths_put}
+use Rattle.repo_machine.proofs.Entered.{enterable_as, legal_grown, indexes_grown, places_put}
 use Rattle.repo_machine.proofs.Kept.{kept_grown}
 use Rattle.repo_machine.proofs.HeldPolicy.{held_stays}
+use Rattle.repo_machine.proofs.Tables.{lengths_entered, places_entered, joined_entered, joined_kept}
 use Rattle.repo_machine.proofs.machine.Machine.enter_content.Goals as goal
 
 pub returns-clause-legal : goal.returns-clause-legal
@@ -25,9 +26,10 @@ invariant_of-self c =
       indexes_grown k c.args.who (Content c.args.id c.args.length) can refl _ grows _ _ _ _
           (k.known_are ∙ sym (known-content h c.args.who c.args.id c.args.length))
           (λ name. k.heads_are name ∙ sym (head-push h c.args.who (Content c.args.id c.args.length) name))
-          (λ y. lengths_put c.args.id _ _ _ c.in-Ok.ensures.updates.0 y ∙ ap (cond (bytes_eq c.args.id y) (Some c.args.length)) (k.lengths_are y) ∙ sym (content_len-content h c.args.who c.args.id c.args.length y can.new))
+          (λ y. lengths_entered c.self.inside.contents c.enter.new.self c.args.id _ c.enter.ensures.entered y ∙ ap (cond (bytes_eq c.args.id y) (Some c.args.length)) (k.lengths_are y) ∙ sym (content_len-content h c.args.who c.args.id c.args.length y can.new))
           (omega arith),
-      places_put h c.args.who c.args.id _ _ _ c.self.invariant.2 c.in-Ok.ensures.updates.0 _ grows (ap (λ n. n + 5) k.size_is),
+      places_put h c.args.who c.args.id _ _ _ c.self.invariant.2 (places_entered c.self.inside.contents c.enter.new.self c.args.id _ c.enter.ensures.entered) _ grows (ap (λ n. n + 5) k.size_is),
       kept_grown c.self.inside.entries.items _ c.self.invariant.3 _ _ c.push_reserved-2.ensures.items refl _ (omega (arith, c.len.ensures)) _ c.push_reserved.ensures.items,
       held_stays h c.args.who (Content c.args.id c.args.length) refl c.self.inside.held c.self.invariant.4 _ grows,
+      joined_kept h c.args.who c.args.id c.args.length can.new _ _ c.self.invariant.5 (joined_entered c.self.inside.contents c.enter.new.self c.args.id _ c.enter.ensures.entered) _ grows,
     )

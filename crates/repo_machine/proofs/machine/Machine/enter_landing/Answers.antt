@@ -17,6 +17,7 @@ use Rattle.repo_machine.proofs.Kept.{kept_grown}
 use Rattle.repo_machine.proofs.KnownLanding.{known-land}
 use Rattle.repo_machine.proofs.LandingEntry.{history_landed, within_landed}
 use Rattle.repo_machine.proofs.HeldPolicy.{held_stays}
+use Rattle.repo_machine.proofs.Tables.{joined_stays}
 use Rattle.repo_machine.proofs.machine.Machine.enter_landing.Goals as goal
 
 pub add_all-requires-clause-can : goal.add_all-requires-clause-can
@@ -47,4 +48,5 @@ invariant_of-self c =
       places_stay h (entry_by c.args.who (Land (landing_made c.args.landing))) _ c.self.invariant.2 _ grows,
       kept_grown c.self.inside.entries.items _ c.self.invariant.3 _ _ c.push_reserved-2.ensures.items refl _ (omega (arith, c.len.ensures)) _ c.push_reserved.ensures.items,
       held_stays h c.args.who (Land (landing_made c.args.landing)) refl c.self.inside.held c.self.invariant.4 _ grows,
+      joined_stays h (entry_by c.args.who (Land (landing_made c.args.landing))) (λ x. refl) (λ x. refl) _ c.self.invariant.5 _ grows,
     )

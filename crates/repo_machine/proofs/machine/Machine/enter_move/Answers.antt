@@ -10,6 +10,7 @@ use Rattle.repo_machine.proofs.Growing.{known-move, head-move, heads_set, conten
 use Rattle.repo_machine.proofs.Entered.{enterable_as, legal_grown, indexes_grown, places_stay}
 use Rattle.repo_machine.proofs.Kept.{kept_grown}
 use Rattle.repo_machine.proofs.HeldPolicy.{held_stays}
+use Rattle.repo_machine.proofs.Tables.{joined_stays}
 use Rattle.repo_machine.proofs.machine.Machine.enter_move.Goals as goal
 
 pub returns-clause-legal : goal.returns-clause-legal
@@ -31,4 +32,5 @@ invariant_of-self c =
       places_stay h (entry_by c.args.who (Book (move_of c.args.movement))) _ c.self.invariant.2 _ grows,
       kept_grown c.self.inside.entries.items _ c.self.invariant.3 _ _ c.push_reserved-2.ensures.items refl _ (omega (arith, c.len.ensures)) _ c.push_reserved.ensures.items,
       held_stays h c.args.who (Book (move_of c.args.movement)) refl c.self.inside.held c.self.invariant.4 _ grows,
+      joined_stays h (entry_by c.args.who (Book (move_of c.args.movement))) (λ x. refl) (λ x. refl) _ c.self.invariant.5 _ grows,
     )

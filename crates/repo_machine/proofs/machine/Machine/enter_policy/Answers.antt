@@ -10,6 +10,7 @@ use Rattle.repo_machine.proofs.Entered.{enterable_as, legal_grown, indexes_grown
 use Rattle.repo_machine.proofs.Kept.{kept_grown}
 use Rattle.repo_machine.proofs.Logging.{count_is}
 use Rattle.repo_machine.proofs.HeldPolicy.{last_set}
+use Rattle.repo_machine.proofs.Tables.{joined_stays}
 use Rattle.repo_machine.proofs.machine.Machine.enter_policy.Goals as goal
 
 pub returns-clause-legal : goal.returns-clause-legal
@@ -32,4 +33,5 @@ invariant_of-self c =
       places_stay h (entry_by c.args.who body) _ c.self.invariant.2 _ grows,
       kept_grown c.self.inside.entries.items _ c.self.invariant.3 _ _ c.push_reserved-2.ensures.items refl _ (omega (arith, c.len-2.ensures)) _ c.push_reserved.ensures.items,
       last_set h c.args.who c.args.caller c.args.text.items c.args.rules _ c.requires.parses (count_is c.self.inside.changesets.known c.self.inside.entries.items c.self.inside.kept.items c.self.invariant.3 _ (omega (arith, c.len.ensures))) _ grows,
+      joined_stays h (entry_by c.args.who body) (λ x. refl) (λ x. refl) _ c.self.invariant.5 _ grows,
     )

@@ -6,6 +6,7 @@ use Rattle.repo_machine.proofs.Within.{history_pushed_same, within_pushed_same}
 use Rattle.repo_machine.proofs.Entered.{legal_faulted, indexes_faulted, places_stay}
 use Rattle.repo_machine.proofs.Kept.{kept_stays}
 use Rattle.repo_machine.proofs.HeldPolicy.{held_stays}
+use Rattle.repo_machine.proofs.Tables.{joined_stays}
 use Rattle.repo_machine.proofs.machine.Machine.fault.Goals as goal
 
 pub returns-clause-legal : goal.returns-clause-legal
@@ -20,4 +21,5 @@ invariant_of-self c =
       places_stay _ (entry_by c.args.who (Fault c.args.breaking)) _ c.self.invariant.2 _ grows,
       kept_stays c.self.inside.entries.items _ c.self.invariant.3 _ _ c.push_reserved.ensures.items refl,
       held_stays _ c.args.who (Fault c.args.breaking) refl c.self.inside.held c.self.invariant.4 _ grows,
+      joined_stays _ (entry_by c.args.who (Fault c.args.breaking)) (λ x. refl) (λ x. refl) _ c.self.invariant.5 _ grows,
     )
