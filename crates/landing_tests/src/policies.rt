@@ -1,9 +1,9 @@
 //! Policies of a repository in a file, and what they allow. The ids are those of an independent computation.
 use crate::moves::{CHANGES, DRAFT, ROOT};
 use crate::repository::{Names, id, make_changes, names_of, new_repository};
-use blob_disk::MemDisk;
+use blob_disk::{Disk, MemDisk};
 use object_id::Id;
-use repo_calls::{Ask, Granted, Refusal};
+use repo_calls::{Ask, ChangeFault, Granted};
 use repo_state::RepoState;
 use std::alloc::{AllocError, Global};
 use std::process::Abort;
@@ -24,11 +24,12 @@ bob move = Denied { place: Bookmark(main), rule: None }
 bob policy allow bob /; = Denied { place: Policy, rule: None }
 ann move = done";
 
-fn told(alloc: Global, answer: Result<Granted, Refusal>) -> Result<String, Fail> {
+fn told(alloc: Global, answer: Result<Granted, ChangeFault>) -> Result<String, Fail> {
     match answer {
         Ok(Granted::Policy { number }) => Ok(format!(in alloc; "policy {number}")?),
         Ok(_) => Ok(format!(in alloc; "done")?),
-        Err(refusal) => Ok(format!(in alloc; "{refusal:?}")?),
+        Err(ChangeFault::Refused(refusal)) => Ok(format!(in alloc; "{refusal:?}")?),
+        Err(_) => Err(Fail::from("a change")),
     }
 }
 
@@ -60,7 +61,7 @@ fn ask<'a>(names: &'a Names, word: &str, draft: Id, text: &'a [u8]) -> Ask<'a> {
     }
 }
 
-fn answer(alloc: Global, state: &mut RepoState<MemDisk>, words: &str) -> Result<String, Fail> {
+fn answer<D: Disk>(alloc: Global, state: &mut RepoState<D>, words: &str) -> Result<String, Fail> {
     let (caller, words) = words.split_once(" ").ok_or("a caller")?;
     let (word, lines) = words.split_once(" ").unwrap_or((words, ""));
     let names = names_of(alloc, caller)?;
@@ -70,19 +71,26 @@ fn answer(alloc: Global, state: &mut RepoState<MemDisk>, words: &str) -> Result<
     told(alloc, state.store(alloc, 2, &ask))
 }
 
-#[test]
-fn a_policy_decides_who_may_change_what(rt: HostRuntime) -> Result<(), Fail> {
-    let mut state = new_repository(rt.alloc())?;
-    make_changes(
-        rt.alloc(),
-        &mut state,
-        &names_of(rt.alloc(), "ann")?,
-        CHANGES,
-    )?;
+fn check_rows<D: Disk>(
+    rt: &impl Abort,
+    alloc: Global,
+    state: &mut RepoState<D>,
+) -> Result<(), Fail> {
     for row in ROWS.lines() {
         let (words, wanted) = row.split_once(" = ").ok_or("a row")?;
-        let told = answer(rt.alloc(), &mut state, words)?;
+        let told = answer(alloc, state, words)?;
         assert_eq!(rt; told.as_str(), wanted, "{row}");
     }
     Ok(())
+}
+
+fn decide(rt: &impl Abort, alloc: Global, state: &mut RepoState<MemDisk>) -> Result<(), Fail> {
+    make_changes(alloc, state, &names_of(alloc, "ann")?, CHANGES)?;
+    check_rows(rt, alloc, state)
+}
+
+#[test]
+fn a_policy_decides_who_may_change_what(rt: HostRuntime) -> Result<(), Fail> {
+    let mut state = new_repository(rt.alloc())?;
+    decide(&rt, rt.alloc(), &mut state)
 }

@@ -5,11 +5,11 @@ use blob_disk::{Disk, MemDisk};
 use object_id::Id;
 use ports::ZeroBytes;
 use recovery::{Opened, open};
-use repo_calls::{Ask, Granted, Refusal};
+use repo_calls::{Ask, ChangeFault, Granted};
 use repo_journal::init;
 use repo_path::BookName;
 use repo_state::RepoState;
-use std::alloc::Global;
+use std::alloc::{AllocError, Global};
 use std::hash::RandomState;
 use std::test::Fail;
 
@@ -50,6 +50,18 @@ pub(crate) fn names_of(alloc: Global, caller: &str) -> Result<Names, Fail> {
         main: BookName::parse(alloc, "main")?,
         caller: BookName::parse(alloc, caller)?,
     })
+}
+
+// The file of a new repository of the first version, of 65,536 bytes at most.
+const FIRST_FILE: &[u8] = b"BONSAI\x00\x01\x00\x00\x00\x00\x00\x01\x00\x00\x00";
+
+fn first_disk(alloc: Global) -> Result<MemDisk, AllocError> {
+    MemDisk::holding(alloc, FIRST_FILE, 65_536, Vec::new(alloc))
+}
+
+/// A new repository of the first version.
+pub(crate) fn first_repository(alloc: Global) -> Result<RepoState<MemDisk>, Fail> {
+    open_file(alloc, keys()?, first_disk(alloc)?)
 }
 
 /// A new repository of 65,536 bytes at most.
@@ -104,7 +116,7 @@ fn make_change(
     }
 }
 
-fn done(answer: Result<Granted, Refusal>) -> Result<(), Fail> {
+fn done(answer: Result<Granted, ChangeFault>) -> Result<(), Fail> {
     match answer {
         Ok(_) => Ok(()),
         Err(_) => Err(Fail::from("a change")),

@@ -1,9 +1,8 @@
 -- The answers of the repository of one thread to changes and reads of contents.
-use Rattle.std.proofs.Common.{◌≡◌, ◌≢◌, ℕ, List, [], ◌∷◌, length, take, drop, refl, sym, ap, subst, ◌∙◌}
-use Rattle.std.specs.Prelude.{◌⊎◌, Option, None, Some, Result, Ok, Err, IsSome, MatchOption, ok_or}
+use Rattle.std.proofs.Common.{◌≡◌, ◌≢◌, ℕ, List, ◌∷◌, length, take, drop, refl, sym, ap, subst, ◌∙◌}
+use Rattle.std.specs.Prelude.{◌⊎◌, Contains, Option, None, Some, Result, Ok, Err, IsSome, MatchOption, ok_or}
 use mathlib.Core.Logic.{inl, inr}
 use Rattle.std.proofs.lemmas.List.{append-nil}
-use Rattle.std.proofs.lemmas.List.Elements.{Contains-append_left, Contains-push}
 use Rattle.byte_fields.specs.Bytes.{Id, IsContent}
 use Rattle.changeset_model.specs.Path.{Path}
 use Rattle.changeset_model.specs.Changeset.{Changeset, CopySource, copies_of, spelling}
@@ -20,7 +19,7 @@ use Rattle.repo_calls.specs.declared.calls.Seen.TheVariants.{Log}
 use Rattle.repo_calls.specs.declared.calls.AskFault.{AskFault}
 use Rattle.repo_calls.specs.declared.calls.AskFault.TheVariants as asked
 use Rattle.repo_calls.specs.Asking.{IsAnswer, fault_answer}
-use Rattle.reply_model.specs.After.{Call, Looks, Answer, Refuses, Shows, BadBytes, Memory, Answers, Replies, nothing}
+use Rattle.reply_model.specs.After.{Call, Looks, Answer, Refuses, Shows, Lacks, BadBytes, Memory, Answers, Replies, nothing}
 
 pub unmade : (header : Header) (h : List Entry) (who : ℕ) (call : Call) (answer : Answer) → Answers header h call answer nothing → Replies header h who call answer h
 unmade header h who call answer answers = record { made = nothing; answers = answers; new_is = sym (append-nil h) }
@@ -35,8 +34,11 @@ bytes_answered header h x n bytes found is = (refl, subst (SeesContent x (Ok (Se
 is_some_of : (o : Option ℕ) (n : ℕ) → o ≡ Some n → IsSome o
 is_some_of o n e = subst (λ o. IsSome o) (sym e) search
 
-pub bad_bytes_answered : (header : Header) (h : List Entry) (x found : Id) (n : ℕ) → content_len h x ≡ Some n → found ≢ x → Answers header h (Looks (ContentOf x)) (BadBytes x found) nothing
-bad_bytes_answered header h x found n stored other = (refl, is_some_of (content_len h x) n stored, Contains-append_left (x ∷ []) (whole_parts h x) x (Contains-push [] x), other)
+pub absent_answered : (header : Header) (h : List Entry) (x : Id) → content_len h x ≡ None → Answers header h (Looks (ContentOf x)) (Lacks (AbsentContent x)) nothing
+absent_answered header h x none = (refl, subst (SeesContent x (Err (AbsentContent x))) (sym none) refl)
+
+pub bad_bytes_answered : (header : Header) (h : List Entry) (x wanted found : Id) (n : ℕ) → content_len h x ≡ Some n → Contains (x ∷ whole_parts h x) wanted → found ≢ wanted → Answers header h (Looks (ContentOf x)) (BadBytes wanted found) nothing
+bad_bytes_answered header h x wanted found n stored among other = (refl, is_some_of (content_len h x) n stored, among, other)
 
 pub page_answers : (header : Header) (h : List Entry) (n : ℕ) (page : LogPage) → lines_seen page.entries.items ≡ log_lines h n → page.total ≡ length (stored h)
     → (answer : Answer) × IsAnswer (Ok (Log page)) answer × Answers header h (Looks (LogFrom n)) answer nothing

@@ -1,37 +1,15 @@
 -- A call that is a change, by the change that it asks for.
---     some_ask header h ask      the call asks for some change
 --     for_call      what answers the change answers the call
 --     IsAskedAs header h who call answer new      the call is answered so as it asks for this change
-use Rattle.std.proofs.Common.{◌≡◌, ℕ, Bool, true, false, not, List, [], length, subst, refl}
-use Rattle.std.specs.Prelude.{Err}
+use Rattle.std.proofs.Common.{◌≡◌, ℕ, List, subst, refl}
 use Rattle.history_model.specs.History.{Entry}
 use Rattle.history_model.specs.Journal.{Header}
 use Rattle.reply_model.specs.Reply as reply
-use Rattle.reply_model.specs.Reply.{PutWhole, Granted, Refusal, BadParts, OldFormat, is_parts_len, parts_of, refuse_if, ◌>>=◌}
+use Rattle.reply_model.specs.Reply.{PutWhole, Granted, Refusal, parts_of}
 use Rattle.reply_model.specs.After.{Call, Asks, Joins, Looks, Derives, Answer, Grants, Refuses, Shows, Lacks, Roots, DiskFault, ReadFault, BadBytes, NodeCollision, Memory, Made, nothing, Answers, Replies, IsJoining}
 use Rattle.reply_model.proofs.Joining.{joined_granted, joined_refused}
-use Rattle.repo_calls.specs.Calls.{call_seen, refused}
-use Rattle.repo_calls.specs.declared.ask.Ask.{Ask}
-use Rattle.repo_calls.specs.declared.ask.Ask.TheVariants as asks
-use Rattle.repo_calls.specs.declared.refusal.Refusal as refusal
 use Rattle.repo_machine.specs.Asked.{IsAskOf}
-use Rattle.repo_state.specs.Alone.{RepliesAlone, wanted}
-use Rattle.repo_state.proofs.Answered.{refused_by}
-
--- ---- some change is asked for
-
--- contents aren't joined yet, so any bytes will do
-joins_any : (h : List Entry) (bad : Bool) (n : ℕ) → IsJoining (refuse_if bad (BadParts n) >>= λ _. Err OldFormat) h []
-joins_any h true n = tt
-joins_any h false n = tt
-
-pub some_ask : (header : Header) (h : List Entry) (ask : Ask) → (asked : reply.Ask) × IsAskOf header h (call_seen ask) asked
-some_ask header h (asks.PutContent bytes) = (_, refl)
-some_ask header h (asks.PutWhole body) = (PutWhole body.now [], ([], joins_any h (not (is_parts_len (length body.now))) (length body.now), refl))
-some_ask header h (asks.PutChangeset bytes) = (_, refl)
-some_ask header h (asks.SetBookmark caller name from to) = (_, refl)
-some_ask header h (asks.Land caller name draft moment) = (_, refl)
-some_ask header h (asks.SetPolicy caller text) = (_, refl)
+use Rattle.repo_state.specs.Alone.{RepliesAlone}
 
 -- ---- what answers the change answers the call
 
@@ -72,18 +50,11 @@ granted_ask header h who (Joins body) granted new r = let j = joined_granted hea
 granted_ask header h who (Looks question) granted new r = absurd r.answers
 granted_ask header h who (Derives id) granted new r = absurd r.answers
 
-refuses_ask : (header : Header) (h : List Entry) (who : ℕ) (call : Call) (refusal : Refusal) (new : List Entry) → Replies header h who call (Refuses refusal) new → IsAskedAs header h who call (Refuses refusal) new
+pub refuses_ask : (header : Header) (h : List Entry) (who : ℕ) (call : Call) (refusal : Refusal) (new : List Entry) → Replies header h who call (Refuses refusal) new → IsAskedAs header h who call (Refuses refusal) new
 refuses_ask header h who (Asks ask) refusal new r = record { ask = ask; asks = refl; replies = r }
 refuses_ask header h who (Joins body) refusal new r = let j = joined_refused header h who body refusal new r in record { ask = PutWhole body j.0; asks = (j.0, j.1, refl); replies = j.2 }
 refuses_ask header h who (Looks question) refusal new r = absurd r.answers
 refuses_ask header h who (Derives id) refusal new r = absurd r.answers
-
-pub refused_ask : (header : Header) (h : List Entry) (who : ℕ) (ask : Ask) (e : refusal.Refusal) (new : List Entry) → Replies header h who (call_seen ask) (refused e) new → IsAskedAs header h who (call_seen ask) (refused e) new
-refused_ask header h who ask e new =
-    refused_by (λ answer. Replies header h who (call_seen ask) answer new → IsAskedAs header h who (call_seen ask) answer new)
-    (λ refusal r. refuses_ask header h who (call_seen ask) refusal new r)
-    (λ r. let some = some_ask header h ask in record { ask = some.0; asks = some.1; replies = record { made = r.made; answers = wanted header h (call_seen ask) r.made r.answers; new_is = r.new_is } })
-    e
 
 -- ---- a refusal makes nothing, and want of memory may stand for any answer
 

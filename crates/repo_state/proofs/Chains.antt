@@ -1,7 +1,8 @@
 -- Calls of a disk one after another.
-use Rattle.std.proofs.Common.{ℕ, List, arith}
+use Rattle.std.proofs.Common.{◌≡◌, ℕ, List, sym, subst, arith}
 use Rattle.std.specs.Prelude.{◌⊎◌}
 use mathlib.Core.Logic.{inl, inr}
+use Rattle.disk_model.specs.Images.{IsImage}
 use Rattle.disk_model.specs.Meaning.{Meaning, LeftSince}
 use Rattle.disk_model.specs.Calls.{Kept, LeavesOnly}
 
@@ -17,3 +18,6 @@ leaves_then {P} a b c kept p q = record {
 
 pub leaves_nothing : {P : List ℕ → Type 0} (a : Meaning) → LeavesOnly P a a
 leaves_nothing a = record { since = λ t image early l. inl l }
+
+pub leaves_same : (a b : Meaning) → b ≡ a → LeavesOnly (IsImage b.state) a b
+leaves_same a b same = subst (λ (d : Meaning). LeavesOnly (IsImage d.state) a d) (sym same) (leaves_nothing a)

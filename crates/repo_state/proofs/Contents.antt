@@ -4,33 +4,28 @@
 --     lies s n      it is one or the other
 use Rattle.std.proofs.Common.{◌≡◌, ℕ, zero, suc, ◌+◌, ◌-◌, ◌≤◌, ◌<◌, Bool, true, false, cond, List, [], ◌∷◌, ◌++◌, map, length, take, drop, refl, sym, ap, subst, ◌∙◌, arith, inl, inr}
 use Rattle.std.specs.Prelude.{◌⊎◌, IsTrue, sum_by, bytes_eq, None, Some, Option}
-use Rattle.std.specs.Option.{ForSome, option_or}
-use Rattle.std.specs.List.{AllByRecursion}
+use Rattle.std.specs.Option.{option_or}
 use mathlib.Core.Bool.{true≢false}
 use Rattle.std.proofs.Math.Seq.{drop-append-add}
 use Rattle.std.proofs.lemmas.List.{drop-append-le}
-use Rattle.std.proofs.lemmas.List.Sums.{sum_by-append}
+use Rattle.std.proofs.lemmas.List.Sums.{sum_by-append, sum_by-cons}
 use Rattle.byte_fields.specs.Bytes.{Id, IsContent}
-use Rattle.byte_fields.proofs.Lists.{weaker}
-use Rattle.changeset_model.specs.Version.{First}
 use Rattle.disk_model.specs.Meaning.{Meaning}
 use Rattle.disk_model.specs.Meaning as disk
 use Rattle.history_model.specs.History.{Body, Content, Entry, bodies, content_len, length_in, unnumbered}
-use Rattle.history_model.specs.Journal.{Header, HoldsParts, Stands, header_bytes, record_len, size}
-use Rattle.opening_laws.proofs.Places.{content_place}
+use Rattle.history_model.specs.Journal.{Header, HoldsRecords, Stands, open_record, record_len, size}
+use Rattle.opening_laws.proofs.Places.{content_place, first_place, record_measured}
 use Rattle.reply_model.proofs.Histories.{bodies-append}
 use Rattle.reply_model.proofs.Parents.{same_id}
-use Rattle.reply_model.specs.Legal.{IsLegal}
 use Rattle.repo_journal.specs.Groups.{group}
 use Rattle.repo_journal.specs.Payloads.{ArePayloads, records}
-use Rattle.repo_journal.proofs.Histories.{stands_for}
-use Rattle.repo_machine.specs.declared.place.Place.{Place}
+use Rattle.repo_journal.proofs.Histories.{holds_records}
+use Rattle.content_table.specs.declared.place.Place.{Place}
 use Rattle.repo_machine.specs.Indexes.{StandsAt}
 use Rattle.bookmark_lock.specs.Opening.{Opening}
 use Rattle.repo_state.specs.Images.{sealed_part, IsPending}
 use Rattle.repo_state.specs.State.{IsSound}
 use Rattle.repo_state.proofs.GroupParts.{rest, bodies_part, bodies_rest, part_and_rest, part_grows}
-use Rattle.repo_state.proofs.Wholes.{AsksNothing, none_asks, all_behind}
 use Rattle.repo_state.proofs.Stands.{size-same, size-split, stands-same}
 
 -- the entry of a content in a history
@@ -121,9 +116,6 @@ drop_one zero [] = refl
 drop_one (suc n) [] = refl
 drop_one n (x ∷ xs) = refl
 
-abbrev any_header : Header
-any_header = record { capacity = 4_096; version = First }
-
 waiting_bodies : {h : List Entry} {x : Id} {place : Place} (s : StandsAt h x place) (n : ℕ) → n ≤ length (bodies s.before) → drop n (bodies h) ≡ bodies (rest n s.before ++ stored_at s.who x place.length ∷ s.later)
 waiting_bodies {h} {x} {place} s n le =
     ap (drop n) (whole s)
@@ -131,26 +123,33 @@ waiting_bodies {h} {x} {place} s n le =
     ∙ ap (λ bs. bs ++ Content x place.length ∷ bodies s.later) (sym (bodies_rest n s.before))
     ∙ sym (bodies-append (rest n s.before) (stored_at s.who x place.length ∷ s.later))
 
--- behind a header of its own, what waits stands for the entries that wait
-pub waiting_content : (header : Header) {h : List Entry} {x : Id} {place : Place} (s : StandsAt h x place) (n : ℕ) (bytes : List ℕ) → IsLegal header h → Behind s n → IsPending h n bytes → IsContent x place.length (take place.length (drop (place.at - size (sealed_part n h)) bytes))
-waiting_content header {h} {x} {place} s n bytes legal behind p =
+-- where a content stands among the records
+place_in : (before later : List Body) (x : Id) (n : ℕ) (bytes : List ℕ) → HoldsRecords (before ++ Content x n ∷ later) bytes → IsContent x n (take n (drop (sum_by record_len before + 6) bytes))
+place_in [] later x n bytes holds = first_place x n holds.0 holds.1 bytes holds.2 holds.3
+place_in (body ∷ before) later x n bytes holds =
+    let front = open_record holds.0 in
+    let len = record_measured body holds.0 holds.2 in
+    let cons = sum_by-cons record_len body before in
+    let far : sum_by record_len (body ∷ before) + 6 ≡ length front + (sum_by record_len before + 6) = omega arith in
+    subst (λ t. IsContent x n (take n t)) (sym ((λ i. drop (far i) (holds.3 i)) ∙ drop-append-add front holds.1 (sum_by record_len before + 6)))
+    (place_in before later x n holds.1 holds.4)
+
+pub waiting_content : {h : List Entry} {x : Id} {place : Place} (s : StandsAt h x place) (n : ℕ) (bytes : List ℕ) → Behind s n → IsPending h n bytes → IsContent x place.length (take place.length (drop (place.at - size (sealed_part n h)) bytes))
+waiting_content {h} {x} {place} s n bytes behind p =
     let k = sum_by record_len (bodies (rest n s.before)) in
-    let tail = records p.payloads ++ 0 ∷ [] in
-    let are = subst (λ bs. ArePayloads bs p.payloads) (waiting_bodies s n behind.before) p.are in
-    let none = subst (AllByRecursion AsksNothing) (waiting_bodies s n behind.before) (all_behind AsksNothing n (bodies h) (none_asks header h legal)) in
-    let all = bodies (rest n s.before ++ stored_at s.who x place.length ∷ s.later) in
-    let parts = weaker AsksNothing (HoldsParts (header_bytes any_header ++ tail) all) (λ body asks. asks (header_bytes any_header ++ tail) all) all none in
-    let stands : Stands any_header (header_bytes any_header ++ tail) (rest n s.before ++ stored_at s.who x place.length ∷ s.later) = stands_for any_header (rest n s.before ++ stored_at s.who x place.length ∷ s.later) p.payloads 0 [] refl are (λ e. absurd cc) parts in
-    let far : size (rest n s.before) + 5 ≡ length (header_bytes any_header) + suc (k + 5) = omega arith in
-    let away = far_behind s n behind.before in
+    let all = records p.payloads ++ 0 ∷ [] in
+    let is = waiting_bodies s n behind.before ∙ bodies-append (rest n s.before) (stored_at s.who x place.length ∷ s.later) in
+    let are = subst (λ bs. ArePayloads bs p.payloads) is p.are in
+    let holds = holds_records (bodies (rest n s.before) ++ Content x place.length ∷ bodies s.later) p.payloads 0 [] are (λ e. absurd cc) in
+    let far = far_behind s n behind.before in
     let place_is : k + 5 ≡ place.at - size (sealed_part n h) = omega arith in
-    let there : drop (size (rest n s.before) + 5) (header_bytes any_header ++ tail) ≡ drop (place.at - size (sealed_part n h)) bytes =
-    ap (λ m. drop m (header_bytes any_header ++ tail)) far
-    ∙ drop-append-add (header_bytes any_header) tail (suc (k + 5))
-    ∙ sym (drop_one (k + 5) tail)
+    let next : suc (k + 5) ≡ k + 6 = omega arith in
+    let there : drop (k + 6) all ≡ drop (place.at - size (sealed_part n h)) bytes =
+    ap (λ m. drop m all) (sym next)
+    ∙ sym (drop_one (k + 5) all)
     ∙ ap (λ m. drop m (group p.payloads)) place_is
     ∙ ap (drop (place.at - size (sealed_part n h))) (sym p.is) in
-    subst (λ t. IsContent x place.length (take place.length t)) there (content_place any_header (header_bytes any_header ++ tail) (rest n s.before) s.later s.who x place.length stands)
+    subst (λ t. IsContent x place.length (take place.length t)) there (place_in (bodies (rest n s.before)) (bodies s.later) x place.length all holds)
 
 -- ---- an honest disk gives the content
 
@@ -159,12 +158,12 @@ content_stands header {h} {x} {place} s g later image is stands =
     subst (λ a. IsContent x place.length (take place.length (drop a image))) (sym s.at_is)
     (content_place header image s.before later s.who x place.length (stands-same header image g (s.before ++ stored_at s.who x place.length ∷ later) is stands))
 
--- what reads of an honest disk give at its place is the content
+-- what an honest disk gives at its place is the content
 pub honest_content : (opening : Opening) {h : List Entry} {x : Id} {place : Place} (s : StandsAt h x place) (n : ℕ) (m : Meaning) (bytes : List ℕ) → InFile s n
-    → IsSound opening h n m → disk.IsSound m → IsTrue m.honest → ForSome m.reads (λ file. bytes ≡ take place.length (drop place.at file)) → IsContent x place.length bytes
+    → IsSound opening h n m → disk.IsSound m → IsTrue m.honest → bytes ≡ take place.length (drop place.at m.state.reads) → IsContent x place.length bytes
 honest_content opening {h} {x} {place} s n m bytes in_it sound told honest read =
     let leaves = sound.leaves honest in
-    subst (λ b. IsContent x place.length b) (sym (read m.state.reads (told.reads honest)))
+    subst (λ b. IsContent x place.length b) (sym read)
     (elim (leaves.now m.state.reads (told.image honest)) as (λ _. IsContent x place.length (take place.length (drop place.at m.state.reads))) [
       | inl stands ↦ content_stands opening.header s (sealed_part n h) in_it.later m.state.reads in_it.is stands
       | inr all ↦ content_stands opening.header s h s.later m.state.reads (ap (λ g. bodies g) s.history_is) all.1

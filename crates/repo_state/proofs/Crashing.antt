@@ -1,23 +1,23 @@
 -- What a crash may leave of a repository's file is what a crash of the core leaves, and begins with what is sealed.
 use Rattle.std.proofs.Common.{◌≡◌, ℕ, ◌≤◌, Bool, true, false, List, ◌++◌, map, length, take, drop, refl, sym, ap, subst, ◌∙◌, arith, length-append}
-use Rattle.std.specs.Prelude.{IsTrue, None, Some}
-use mathlib.Core.Bool.{true≢false}
+use Rattle.std.specs.Prelude.{if◌then◌else◌, IsTrue, Option, None, Some, option_map}
 use mathlib.Core.List.{IsPrefix}
 use mathlib.Core.Logic.{inl, inr}
 use Rattle.std.proofs.lemmas.List.{map-append, take-take, take-append-drop, take-append-le}
 use Rattle.disk_model.specs.Images.{IsImage}
 use Rattle.disk_model.specs.Meaning.{Meaning}
-use Rattle.history_model.specs.History.{Body, Entry, bodies, is_down, unnumbered}
+use Rattle.history_model.specs.History.{Body, Entry, bodies, unnumbered}
 use Rattle.history_model.specs.Journal.{Header, Stands}
 use Rattle.reply_model.proofs.Histories.{bodies-append}
-use Rattle.core_model.specs.Core.{State, LeftOver, reopened}
-use Rattle.landing_core.specs.Steps.{IsLeft, Shows, left_open}
-use Rattle.landing_core.proofs.Crashing.{left_shows}
+use Rattle.core_model.specs.Core.{State, may_be_kept, reopened}
+use Rattle.landing_core.specs.Steps.{Shows}
+use Rattle.repo_journal.specs.declared.cut.Cut.{Cut}
 use Rattle.bookmark_lock.specs.Opening.{Opening}
-use Rattle.repo_state.specs.Cores.{CrashLeaves, CrashesOf}
+use Rattle.repo_state.specs.Cores.{CrashLeaves, CrashesOf, ShowsLeft}
 use Rattle.repo_state.specs.Images.{sealed_part}
-use Rattle.repo_state.specs.State.{IsSound}
+use Rattle.repo_state.specs.State.{IsSound, LeavesAfter}
 use Rattle.repo_state.proofs.GroupParts.{part_whole}
+use Rattle.repo_state.proofs.LeftGates.{kept_by}
 use Rattle.repo_state.proofs.Stands.{stands-same}
 
 -- ---- a crash of the core
@@ -31,35 +31,21 @@ alone_left header h n s image same sealed stands = record {
   stands = subst (Stands header image) (λ i. sealed_part (sym sealed i) (sym same i)) stands;
 }
 
--- or the whole group
-group_left : (header : Header) (h : List Entry) (s : State) (image : List ℕ) → s.history ≡ h → Stands header image h → CrashLeaves header (left_open 0 s) image
-group_left header h s image same stands = record {
+-- or the whole group, where the gate may stand open
+group_left : (header : Header) (h : List Entry) (s : State) (image : List ℕ) → s.history ≡ h → may_be_kept s.sealing ≡ true → Stands header image h → CrashLeaves header s image
+group_left header h s image same gate stands = record {
   kept = true;
-  after = reopened (left_open 0 s) (length (bodies s.history));
-  crashes = refl;
+  after = reopened s (length (bodies s.history));
+  crashes = ap (λ (b : Bool). option_map (reopened s) (if b then Some (length (bodies s.history)) else None)) gate;
   stands = stands-same header image h (sealed_part (length (bodies s.history)) s.history) (sym (part_whole s.history ∙ ap (λ g. bodies g) same)) stands;
 }
 
-by_down : (opening : Opening) (h : List Entry) (n : ℕ) (m : Meaning) (s : State) (down : Bool) → is_down h ≡ down → IsSound opening h n m → IsTrue m.honest → Shows h n s → CrashesOf opening.header h n m s
-by_down opening h n m s false up sound honest shows = record {
-  sealing = None;
-  shows = record { history_is = shows.history_is; sealed_is = shows.sealed_is; left = subst (λ b. IsLeft b None) (sym up) tt };
-  leaves = λ image is. elim ((sound.leaves honest).now image is) as (λ _. CrashLeaves opening.header (record s { sealing = None }) image) [
-    | inl stands ↦ alone_left opening.header h n (record s { sealing = None }) image shows.history_is shows.sealed_is stands
-    | inr whole ↦ absurd (true≢false (sym whole.0 ∙ up))
-  ];
-}
-by_down opening h n m s true down sound honest shows = record {
-  sealing = Some (record { who = 0; stage = LeftOver true });
-  shows = left_shows h n 0 s down shows;
-  leaves = λ image is. elim ((sound.leaves honest).now image is) as (λ _. CrashLeaves opening.header (left_open 0 s) image) [
-    | inl stands ↦ alone_left opening.header h n (left_open 0 s) image shows.history_is shows.sealed_is stands
-    | inr whole ↦ group_left opening.header h s image shows.history_is whole.1
-  ];
-}
-
-pub crashes_of : (opening : Opening) (h : List Entry) (n : ℕ) (m : Meaning) (s : State) → IsSound opening h n m → IsTrue m.honest → Shows h n s → CrashesOf opening.header h n m s
-crashes_of opening h n m s sound honest shows = by_down opening h n m s (is_down h) refl sound honest shows
+pub crashes_of : (header : Header) (h : List Entry) (n : ℕ) (pending : List ℕ) (left : Option Cut) (m : Meaning) (s : State) → LeavesAfter header h n pending left m → IsTrue m.honest → Shows h n s → ShowsLeft left s → CrashesOf header m s
+crashes_of header h n pending left m s leaves honest shows gate image is =
+    elim (leaves.now honest image is) as (λ _. CrashLeaves header s image) [
+      | inl stands ↦ alone_left header h n s image shows.history_is shows.sealed_is stands
+      | inr whole ↦ group_left header h s image shows.history_is (kept_by s.sealing left gate whole.0) whole.1
+    ]
 
 -- ---- what is sealed
 

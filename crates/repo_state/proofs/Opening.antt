@@ -3,19 +3,24 @@ use Rattle.std.proofs.Common.{◌≡◌, ℕ, ◌≤◌, ◌<◌, true, List, le
 use Rattle.std.specs.Prelude.{nat_le}
 use Rattle.std.proofs.lemmas.List.{length-map}
 use Rattle.std.proofs.lemmas.Bool.{and_parts, leb-true}
+use Rattle.std.specs.List.{AllByRecursion}
 use Rattle.disk_model.specs.Meaning.{Meaning}
+use Rattle.disk_model.specs.Meaning as disk
 use Rattle.history_model.specs.History.{Entry, bodies, stored, unnumbered, is_down}
-use Rattle.history_model.specs.Journal.{Header, Stands, is_header}
+use Rattle.history_model.specs.Journal.{Header, HoldsParts, Stands, is_header, size}
 use Rattle.reply_model.specs.Legal.{IsLegal}
 use Rattle.reply_model.proofs.Stored.{is_down-stored}
 use Rattle.opening_laws.proofs.Sizes.{history_fits}
+use Rattle.repo_journal.specs.Groups.{with_group}
 use Rattle.repo_journal.specs.Opened.{IsOpened}
 use Rattle.repo_journal.specs.View.{JournalView}
 use Rattle.blob_disk.proofs.Clients.{kept_none}
 use Rattle.repo_state.specs.Images.{sealed_part, IsPending}
-use Rattle.repo_state.specs.State.{IsSound, Agrees, opening_of}
+use Rattle.repo_state.specs.State.{IsSound, LeavesAfter, Agrees, opening_of}
 use Rattle.repo_state.proofs.Chains.{leaves_nothing}
 use Rattle.repo_state.proofs.GroupParts.{nothing_pending, part_whole}
+use Rattle.repo_state.proofs.Laid.{holds_opened}
+use Rattle.repo_state.proofs.LeftOver.{left_none}
 use Rattle.repo_state.proofs.Stands.{no_fault-stored, no_faults, size-same, stands-same}
 
 pub stored_count : (h : List Entry) → length (stored h) ≡ length (bodies h)
@@ -54,21 +59,27 @@ room_for header limits =
     let least = leb-true 4_096 header.capacity (and_parts (nat_le 4_096 header.capacity) (nat_le header.capacity 34_359_738_368) limits).0 in
     omega (arith, least)
 
-agrees_all : (header : Header) (h : List Entry) (journal : JournalView) (m : Meaning) → is_header header ≡ true → IsLegal header h → IsOpened header h journal m → h ≡ stored h → Agrees header h (length (bodies h)) journal m
-agrees_all header h journal m limits legal opened alone = record {
+agrees_all : (header : Header) (h : List Entry) (journal : JournalView) (m : Meaning) → disk.IsSound m → is_header header ≡ true → IsLegal header h → IsOpened header h journal m → h ≡ stored h → Agrees header h (length (bodies h)) journal m
+agrees_all header h journal m told limits legal opened alone = record {
   capacity_is = opened.capacity_is;
   fits = history_fits header h (room_for header limits) legal;
   size_is = opened.size_is ∙ sym (size-same (sealed_part (length (bodies h)) h) h (part_whole h));
-  broken_is = opened.whole ∙ sym (ap (λ g. is_down g) alone ∙ is_down-stored h);
+  left = subst (λ o. LeavesAfter header h (length (bodies h)) journal.pending.bytes o m) (sym opened.whole)
+      (left_none header h (length (bodies h)) journal.pending.bytes m (ap (λ g. is_down g) alone ∙ is_down-stored h) (λ honest image i. whole_stands header h image (opened.now honest image i)));
   long = opened.long;
   waits = subst (λ b. IsPending h (length (bodies h)) b) (sym opened.settled) (nothing_pending h);
+  holds = λ honest. (
+      let long : size h ≤ length m.state.reads = subst (λ k. k ≤ length m.state.reads) opened.size_is (opened.long m.state.reads (told.reads honest)) in
+      let all = holds_opened h m.state.reads long (opened.now honest m.state.reads (told.image honest)).4 in
+      subst (λ f. AllByRecursion (HoldsParts f (bodies h)) (bodies h)) (λ i. with_group (sym opened.size_is i) (sym opened.settled i) m.state.reads) all);
+  stable = λ honest up. opened.stable honest;
 }
 
 pub sound_opened : (header : Header) (h : List Entry) (n : ℕ) (journal : JournalView) (m : Meaning) → n ≡ length (stored h) → IsOpened header h journal m → IsLegal header h → h ≡ stored h → IsSound (opening_of header journal.opening m) h n m
 sound_opened header h n journal m is opened legal alone = subst (λ k. IsSound (opening_of header journal.opening m) h k m) (sym (is ∙ stored_count h)) (sound_all header h journal m opened legal alone)
 
-pub agrees_opened : (header : Header) (h : List Entry) (n : ℕ) (journal : JournalView) (m : Meaning) → n ≡ length (stored h) → is_header header ≡ true → IsLegal header h → IsOpened header h journal m → h ≡ stored h → Agrees header h n journal m
-agrees_opened header h n journal m is limits legal opened alone = subst (λ k. Agrees header h k journal m) (sym (is ∙ stored_count h)) (agrees_all header h journal m limits legal opened alone)
+pub agrees_opened : (header : Header) (h : List Entry) (n : ℕ) (journal : JournalView) (m : Meaning) → n ≡ length (stored h) → disk.IsSound m → is_header header ≡ true → IsLegal header h → IsOpened header h journal m → h ≡ stored h → Agrees header h n journal m
+agrees_opened header h n journal m is told limits legal opened alone = subst (λ k. Agrees header h k journal m) (sym (is ∙ stored_count h)) (agrees_all header h journal m told limits legal opened alone)
 
 pub all_are_sealed : (h : List Entry) (p : ℕ) → p ≡ length (stored h) → p < length (bodies h) → ⊥
 all_are_sealed h p count less = let len = stored_count h in omega arith

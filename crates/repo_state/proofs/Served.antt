@@ -1,30 +1,44 @@
 -- A repository that is served alone: a change with the seal of its entry, and a read.
-use Rattle.std.proofs.Common.{◌≡◌, ◌≢◌, ℕ, ◌+◌, ◌≤◌, ◌<◌, true, false, not, cond, List, [], ◌∷◌, ◌++◌, length, refl, sym, ap, subst, ◌∙◌, arith, append-nil, append_assoc}
-use Rattle.std.specs.Prelude.{◌⊎◌, Option, None, Some, IsTrue, Ok}
+use Rattle.std.proofs.Common.{◌≡◌, ◌≢◌, ℕ, ◌+◌, ◌≤◌, ◌<◌, Bool, true, false, not, cond, List, [], ◌∷◌, ◌++◌, length, refl, sym, ap, subst, ◌∙◌, arith, append-nil, append_assoc}
+use Rattle.std.specs.Prelude.{◌⊎◌, is_some, Option, None, Some, IsTrue, Ok, Err}
 use mathlib.Core.Bool.{true≢false}
 use mathlib.Core.Logic.{inl, inr}
+use Rattle.disk_model.specs.Images.{IsImage}
 use Rattle.disk_model.specs.Meaning.{Meaning}
+use Rattle.disk_model.specs.Calls.{LeavesOnly}
 use Rattle.history_model.specs.History.{Body, Fault, Entry, bodies, is_down, is_stored}
 use Rattle.history_model.specs.Journal.{Header, Stands}
-use Rattle.landing_core.specs.Steps.{IsMadeFirst, Goes, Shows as Holds}
+use Rattle.core_model.specs.Core.{Step, after_steps}
+use Rattle.landing_core.specs.Steps.{asking, calls_to, Goes, Shows as Holds}
+use Rattle.landing_core.proofs.Asked.{stored_goes}
 use Rattle.landing_core.proofs.Down.{down-stored, down-fault, down-breaking}
-use Rattle.landing_core.proofs.Serving.{served_goes}
+use Rattle.landing_core.proofs.Sealed.{cut_goes}
+use Rattle.landing_core.proofs.Serving.{goes_then, served_goes}
+use Rattle.reply_model.specs.Reply as reply
 use Rattle.reply_model.specs.Reply.{Ask, Granted, Question, HeadOf, ContentOf, ChangesetOf, LogFrom, FsnodeOf, UnodeOf, HistoryOf, CopiesOf, PathLogOf, DeletedOf, PolicyOf, judge}
-use Rattle.reply_model.specs.After.{Call, Asks, Looks, Answer, Grants, Refuses, Shows, Lacks, Roots, DiskFault, ReadFault, BadBytes, NodeCollision, Memory, Made, nothing, only_fault, Answers, Replies, entry_by, entries_of}
+use Rattle.reply_model.specs.After.{Call, Asks, Joins, Looks, Derives, Answer, Grants, Refuses, Shows, Lacks, Roots, DiskFault, ReadFault, BadBytes, NodeCollision, Memory, Made, nothing, only_fault, Answers, Replies, entry_by, entries_of}
 use Rattle.reply_model.proofs.Granted.{MakesStored, judge_stored}
 use Rattle.reply_model.proofs.Stored.{granted_is_up}
 use Rattle.core_model.proofs.Cores.{one_more}
-use Rattle.repo_calls.specs.Calls.{call_seen, refused}
-use Rattle.repo_calls.specs.declared.ask.Ask as calls
+use Rattle.byte_fields.specs.Bytes.{Id}
+use Rattle.repo_calls.specs.Asking.{stored_answer, is_disk_fault}
+use Rattle.repo_calls.specs.Calls.{refused}
+use Rattle.repo_calls.specs.declared.ask.Granted as calls
+use Rattle.repo_calls.specs.declared.calls.ChangeFault.{ChangeFault}
+use Rattle.repo_calls.specs.declared.calls.ChangeFault.TheVariants as changes
 use Rattle.repo_calls.specs.declared.refusal.Refusal.{Refusal}
-use Rattle.repo_state.specs.Alone.{RepliesAlone, as_one, wanted}
-use Rattle.repo_state.specs.Cores.{StoresAlone, StoresCallAlone}
-use Rattle.repo_state.specs.Images.{sealed_part, LeavesSeal, LeavesChange}
+use Rattle.repo_journal.specs.declared.cut.Cut.{Cut}
+use Rattle.repo_state.specs.Alone.{RepliesAlone, wanted}
+use Rattle.repo_state.specs.Cores.{ShowsLeft, StoresAlone, StoresCall, StoresCallAlone, cut_of}
+use Rattle.repo_state.specs.Images.{sealed_part, LeavesSeal, LeavesChange, StandsNow}
 use Rattle.repo_state.specs.State.{IsSealedAlone, after_seal}
 use Rattle.repo_state.proofs.Answered.{refused_by}
-use Rattle.repo_state.proofs.Asked.{refused_ask, refuses_nothing}
-use Rattle.repo_state.proofs.Chains.{leaves_map}
-use Rattle.repo_state.proofs.GroupParts.{part_grows, part_whole}
+use Rattle.repo_state.proofs.Asked.{refuses_ask, refuses_nothing}
+use Rattle.repo_state.proofs.LeftGates.{asking_leaves, cut_shows, gate_left, shows_none}
+use Rattle.repo_state.proofs.LeftOver.{none_of, some_of}
+use Rattle.repo_state.proofs.Stepping.{stays, wants_nothing}
+use Rattle.repo_state.proofs.Chains.{leaves_map, leaves_nothing}
+use Rattle.repo_state.proofs.GroupParts.{part_grows, part_same, part_whole}
 use Rattle.repo_state.proofs.Stands.{bodies-fault, stands-same}
 
 -- ---- what a call makes
@@ -148,6 +162,10 @@ module _ {header : Header} {h : List Entry} {ask : Ask} {granted : Granted} {fro
       let same : bodies (sealed_part n front) ≡ bodies h = ap (λ g. bodies g) part ∙ ap (λ k. bodies (sealed_part k h)) whole ∙ part_whole h in
       stands-same header image (sealed_part n front) h same stands
 
+  -- before that the disk was read at most
+  pub granted_looked : (new : List Entry) (m after : Meaning) → ((image : List ℕ) → IsImage after.state image → StandsNow header front n image) → LeavesOnly (IsImage after.state) m after → LeavesChange header h new m after
+  granted_looked new m after stands only = leaves_map m after (λ image is. inl (elim (stands image is) as (λ _. Stands header image h) [ inl sealed ↦ stood image sealed | inr all ↦ absurd (true≢false (sym all.0 ∙ front_up)) ])) only
+
   -- ---- it is sealed
 
   pub granted_alone : (new : List Entry) → new ≡ front → RepliesAlone header h 0 (Asks ask) (Grants granted) new
@@ -167,13 +185,23 @@ module _ {header : Header} {h : List Entry} {ask : Ask} {granted : Granted} {fro
   granted_leaves new m after same leaves =
       leaves_map m after (λ image stands. elim stands as (λ _. Stands header image h ⊎ Stands header image new) [ inl before ↦ inl (stood image before) | inr now ↦ inr (stands-same header image front new (sym same) now) ]) leaves
 
-  pub granted_core : (new : List Entry) (after : ℕ) → new ≡ front → length (bodies front) ≤ after → after ≤ length (bodies front) → StoresAlone header h n ask (Grants granted) new after
-  granted_core new after same least last = λ s shows may.
+  pub granted_core : (left gate : Option Cut) (new : List Entry) (after : ℕ) → new ≡ front → length (bodies front) ≤ after → after ≤ length (bodies front) → is_some gate ≡ is_down new → StoresAlone header h n left ask (Grants granted) new after gate
+  granted_core left gate new after same least last broken = λ s shows _ may.
       (let replies = subst (λ g. Replies header h 0 (Asks ask) (Grants granted) g) (sym same) r in
       let served = served_goes header h n 0 ask (Grants granted) new s replies (λ e. absurd cc) (λ _. whole) shows may in
+      let goes = served.2 in
       let len = ap (λ g. length (bodies g)) same in
       let is : length (bodies new) ≡ after = omega arith in
-      (served.0, served.1, subst (λ k. Goes header s served.0 (Holds new k)) is served.2))
+      let new_up : is_down new ≡ false = ap (λ g. is_down g) same ∙ front_up in (
+        served.0,
+        served.1,
+        tt,
+        record {
+          state = goes.state;
+          taken = goes.taken;
+          meets = (subst (λ k. Holds new k goes.state) is goes.meets, subst (λ o. ShowsLeft o goes.state) (sym (none_of gate (broken ∙ new_up))) (shows_none new (length (bodies new)) goes.state new_up goes.meets));
+        },
+      ))
 
   -- ---- or the disk fails
 
@@ -216,30 +244,129 @@ module _ {header : Header} {h : List Entry} {ask : Ask} {granted : Granted} {fro
     pub failed_leaves : (new : List Entry) (m after : Meaning) → new ≡ after_seal 0 true front → LeavesSeal header front n m after → LeavesChange header h new m after
     failed_leaves new m after same leaves = granted_leaves new m after (ap (λ g. bodies g) (same ∙ failed_is) ∙ same_stored) leaves
 
-    failed_steps : StoresAlone header h n ask DiskFault failed n
-    failed_steps = λ s shows may.
-        (let first : IsMadeFirst h DiskFault failed = (λ _. (let len = ap (λ (bs : List Body). length bs) same_stored in let is = whole in omega arith)) in
-        served_goes header h n 0 ask DiskFault failed s (as_one failed_reply) first (λ _. whole) shows may)
+    failed_steps : (left : Option Cut) (cut : Cut) → StoresAlone header h n left ask DiskFault failed n (Some cut)
+    failed_steps left cut = λ s shows _ may.
+        (let steps = stored_goes header h n 0 ask (Grants granted) front s (λ p. absurd cc) r shows may in
+        let entered = subst (λ (x : List Step). Goes header s x (Holds front n)) steps.1 steps.2 in
+        let goes = goes_then header s (asking 0 ask) (calls_to 0 (cut_of cut)) (Holds front n) (λ t. Holds failed n t × ShowsLeft (Some cut) t) entered
+        (λ t shown. let seal = cut_goes header front n 0 t (cut_of cut) front_up waits shown in record { state = seal.state; taken = seal.taken; meets = (seal.meets, cut_shows header t seal.state 0 cut seal.taken) }) in
+        (asking 0 ask ++ calls_to 0 (cut_of cut), (cut_of cut, refl), (cut, refl, refl), goes))
 
-    pub failed_core : (new : List Entry) (after : ℕ) → new ≡ after_seal 0 true front → after ≡ n → StoresAlone header h n ask DiskFault new after
-    failed_core new after same is =
-        subst (λ k. StoresAlone header h n ask DiskFault new k) (sym is)
-        (subst (λ g. StoresAlone header h n ask DiskFault g n) (sym (same ∙ failed_is)) failed_steps)
+    pub failed_core : (left gate : Option Cut) (new : List Entry) (after : ℕ) → new ≡ after_seal 0 true front → after ≡ n → is_some gate ≡ is_down new → StoresAlone header h n left ask DiskFault new after gate
+    failed_core left gate new after same is broken =
+        let now = same ∙ failed_is in
+        let cut = some_of gate (broken ∙ ap (λ g. is_down g) now ∙ down-breaking front 0) in
+        subst (λ o. StoresAlone header h n left ask DiskFault new after o) (sym cut.1)
+        (subst (λ k. StoresAlone header h n left ask DiskFault new k (Some cut.0)) (sym is)
+        (subst (λ g. StoresAlone header h n left ask DiskFault g n (Some cut.0)) (sym now) (failed_steps left cut.0)))
 
 -- ---- or it is refused
 
-refused_core : {header : Header} {h : List Entry} {ask : Ask} {new : List Entry} (n : ℕ) (e : Refusal) → IsSealedAlone h n → n ≤ length (bodies h) → Replies header h 0 (Asks ask) (refused e) new → StoresAlone header h n ask (refused e) new n
-refused_core {header} {h} {ask} {new} n e all most =
-    refused_by (λ answer. Replies header h 0 (Asks ask) answer new → StoresAlone header h n ask answer new n)
-    (λ refusal r. λ s shows may. served_goes header h n 0 ask (Refuses refusal) new s r (λ p. absurd cc) whole shows may)
-    (λ r. λ s shows may. served_goes header h n 0 ask Memory new s r (λ p. absurd cc) whole shows may)
+pub refused_core : {header : Header} {h : List Entry} (call : Call) {new : List Entry} (n : ℕ) (left : Option Cut) (e : Refusal) → IsSealedAlone h n → n ≤ length (bodies h) → Replies header h 0 call (refused e) new → StoresCallAlone header h n left call (refused e) new n left
+refused_core {header} {h} call {new} n left e all most =
+    refused_by (λ answer. Replies header h 0 call answer new → StoresCallAlone header h n left call answer new n left)
+    (λ refusal r. (let a = refuses_ask header h 0 call refusal new r in (a.ask, a.asks, λ s shows gate may. by a.ask refusal a.replies s shows gate may)))
+    (λ r. (stays header h new n (wants_nothing header h 0 call new r), (refl, refl)))
     e
   where
     whole : is_down h ≡ false → n ≡ length (bodies h)
     whole up = (let least = all.0 up in omega arith)
 
-pub refused_core_call : {header : Header} {h : List Entry} (ask : calls.Ask) {new : List Entry} (n : ℕ) (e : Refusal) → IsSealedAlone h n → n ≤ length (bodies h) → Replies header h 0 (call_seen ask) (refused e) new → StoresCallAlone header h n (call_seen ask) (refused e) new n
-refused_core_call {header} {h} ask {new} n e all most r = let a = refused_ask header h 0 ask e new r in (a.ask, a.asks, refused_core n e all most a.replies)
+    by : (ask : Ask) (refusal : reply.Refusal) → Replies header h 0 (Asks ask) (Refuses refusal) new → StoresAlone header h n left ask (Refuses refusal) new n left
+    by ask refusal replies s shows gate may =
+        let served = served_goes header h n 0 ask (Refuses refusal) new s replies (λ p. absurd cc) whole shows may in
+        let goes = served.2 in
+        let asked = subst (λ (x : List Step). after_steps header s x ≡ Some goes.state) served.1 goes.taken in
+        (served.0, served.1, tt, record { state = goes.state; taken = goes.taken; meets = (goes.meets, gate_left header left (asking 0 ask) s goes.state (asking_leaves 0 ask) asked gate) })
+
+-- ---- or contents can't be read
+
+unread_made : (header : Header) (h : List Entry) (call : Call) (made : Made) → Answers header h call ReadFault made → made ≡ only_fault false
+unread_made header h (Asks ask) made a = absurd a
+unread_made header h (Joins body) made a = a.0
+unread_made header h (Looks (HeadOf m)) made a = absurd a
+unread_made header h (Looks (ContentOf c)) made a = a.0
+unread_made header h (Looks (ChangesetOf c)) made a = absurd a
+unread_made header h (Looks (LogFrom n)) made a = absurd a
+unread_made header h (Looks (FsnodeOf c p)) made a = absurd a
+unread_made header h (Looks (UnodeOf c p)) made a = absurd a
+unread_made header h (Looks (HistoryOf c p)) made a = absurd a
+unread_made header h (Looks (CopiesOf c)) made a = absurd a
+unread_made header h (Looks (PathLogOf c p)) made a = absurd a
+unread_made header h (Looks (DeletedOf c p)) made a = absurd a
+unread_made header h (Looks (PolicyOf n)) made a = absurd a
+unread_made header h (Derives x) made a = absurd a
+
+misread_made : (header : Header) (h : List Entry) (call : Call) (wanted found : Id) (made : Made) → Answers header h call (BadBytes wanted found) made → made ≡ nothing
+misread_made header h (Asks ask) wanted found made a = absurd a
+misread_made header h (Joins body) wanted found made a = a.0
+misread_made header h (Looks (HeadOf m)) wanted found made a = absurd a
+misread_made header h (Looks (ContentOf c)) wanted found made a = a.0
+misread_made header h (Looks (ChangesetOf c)) wanted found made a = absurd a
+misread_made header h (Looks (LogFrom n)) wanted found made a = absurd a
+misread_made header h (Looks (FsnodeOf c p)) wanted found made a = absurd a
+misread_made header h (Looks (UnodeOf c p)) wanted found made a = absurd a
+misread_made header h (Looks (HistoryOf c p)) wanted found made a = absurd a
+misread_made header h (Looks (CopiesOf c)) wanted found made a = absurd a
+misread_made header h (Looks (PathLogOf c p)) wanted found made a = absurd a
+misread_made header h (Looks (DeletedOf c p)) wanted found made a = absurd a
+misread_made header h (Looks (PolicyOf n)) wanted found made a = absurd a
+misread_made header h (Derives x) wanted found made a = absurd a
+
+-- what comes of a change that isn't granted
+pub record IsUngranted (header : Header) (h : List Entry) (n : ℕ) (left : Option Cut) (call : Call) (answer : Answer) (new : List Entry) : Type 0 where
+  pub replies : RepliesAlone header h 0 call answer new
+  pub sealed : IsSealedAlone new n
+  pub core : StoresCallAlone header h n left call answer new n left
+  pub bodies_same : bodies new ≡ bodies h
+  pub down_same : is_down new ≡ is_down h
+
+pub ungranted : {header : Header} {h : List Entry} {call : Call} {new : List Entry} (n : ℕ) (left : Option Cut) (fault : ChangeFault) → IsSealedAlone h n → n ≤ length (bodies h) → is_disk_fault {T = calls.Granted} (Err fault) ≡ false
+    → Replies header h 0 call (stored_answer (Err fault)) new → StoresCall header h n 0 call (stored_answer (Err fault)) new → IsUngranted header h n left call (stored_answer (Err fault)) new
+ungranted {header} {h} {call} {new} n left (changes.Refused e) all most undone r core =
+    let alone = refused_alone e r in
+    record {
+      replies = alone.0;
+      sealed = subst (λ g. IsSealedAlone g n) (sym alone.1) all;
+      core = refused_core call n left e all most r;
+      bodies_same = ap (λ (g : List Entry). bodies g) alone.1;
+      down_same = ap (λ (g : List Entry). is_down g) alone.1;
+    }
+ungranted {header} {h} {call} {new} n left changes.DiskFault all most undone r core = absurd (true≢false undone)
+ungranted {header} {h} {call} {new} n left changes.ReadFault all most undone r core =
+    let made = unread_made header h call r.made r.answers in
+    let grows : new ≡ h ++ entry_by 0 (Fault false) ∷ [] = r.new_is ∙ ap (λ made. h ++ entries_of 0 made) made in
+    let same = ap (λ (g : List Entry). bodies g) grows ∙ bodies-fault h 0 false in
+    record {
+      replies = calm_alone r (not_breaking made);
+      sealed = same_sealed h new n same (ap (λ (g : List Entry). is_down g) grows ∙ down-fault h 0) all;
+      core = (core, (refl, refl));
+      bodies_same = same;
+      down_same = ap (λ (g : List Entry). is_down g) grows ∙ down-fault h 0;
+    }
+ungranted {header} {h} {call} {new} n left (changes.BadBytes wanted found) all most undone r core =
+    let made = misread_made header h call wanted found r.made r.answers in
+    let same : new ≡ h = r.new_is ∙ ap (λ made. h ++ entries_of 0 made) made ∙ append-nil h in
+    record {
+      replies = calm_alone r (none_made made);
+      sealed = subst (λ g. IsSealedAlone g n) (sym same) all;
+      core = (core, (refl, refl));
+      bodies_same = ap (λ (g : List Entry). bodies g) same;
+      down_same = ap (λ (g : List Entry). is_down g) same;
+    }
+
+-- the disk was read, or not even that
+pub ungranted_leaves : (header : Header) (h new : List Entry) (n : ℕ) (m after : Meaning) → IsSealedAlone h n → n ≤ length (bodies h) → bodies new ≡ bodies h → is_down new ≡ is_down h → (is_down h ≡ true → after ≡ m)
+    → ((image : List ℕ) → IsImage after.state image → StandsNow header new n image) → LeavesOnly (IsImage after.state) m after → LeavesChange header h new m after
+ungranted_leaves header h new n m after all most same down still stands only = by (is_down h) refl
+  where
+    by : (t : Bool) → is_down h ≡ t → LeavesChange header h new m after
+    by true e = subst (λ (d : Meaning). LeavesChange header h new m d) (sym (still e)) (leaves_nothing m)
+    by false e = leaves_map m after (λ image is. (
+        let least = all.0 e in
+        let whole : n ≡ length (bodies h) = omega arith in
+        let part : bodies (sealed_part n new) ≡ bodies h = ap (λ g. bodies g) (part_same n new h same) ∙ ap (λ k. bodies (sealed_part k h)) whole ∙ part_whole h in
+        inl (elim (stands image is) as (λ _. Stands header image h) [ inl sealed ↦ stands-same header image (sealed_part n new) h part sealed | inr all ↦ absurd (true≢false (sym all.0 ∙ down ∙ e)) ]))) only
 
 -- ---- what is told of the seal, of the values before the change
 

@@ -4,22 +4,26 @@ use Rattle.std.specs.Prelude.{cond, IsTrue, Option, None, Some, MatchOption, IsS
 use mathlib.Core.Logic.{inl, inr}
 use Rattle.ports.specs.Faults.{Counts, Rose}
 use Rattle.disk_model.specs.Images.{IsImage}
-use Rattle.disk_model.specs.Meaning.{Meaning}
+use Rattle.disk_model.specs.Meaning.{Meaning, IsLong}
 use Rattle.disk_model.specs.Calls.{Kept, LeavesOnly, Looked}
-use Rattle.history_model.specs.History.{Body, Fault, Entry, is_stored}
-use Rattle.history_model.specs.Journal.{Header, IsPayload, Keeps, record_len, size}
+use Rattle.history_model.specs.History.{Body, Fault, Entry, bodies, is_down, is_stored}
+use Rattle.std.specs.List.{AllByRecursion}
+use Rattle.history_model.specs.Journal.{Header, HoldsParts, IsPayload, Keeps, record_len, size}
 use Rattle.reply_model.specs.Legal.{MayFollow, IsLegal}
 use Rattle.reply_model.proofs.Histories.{IsLegal-push, size-push}
 use Rattle.repo_journal.specs.Sealing.{AllClosed}
+use Rattle.repo_journal.specs.Groups.{with_group}
 use Rattle.repo_journal.specs.View.{JournalView}
 use Rattle.repo_journal.proofs.Histories.{shape_of}
 use Rattle.opening_laws.proofs.Made.{is_made}
 use Rattle.bookmark_lock.specs.Opening.{Opening}
 use Rattle.repo_machine.specs.Held.{Room}
+use Rattle.repo_state.specs.Images.{IsPending}
 use Rattle.repo_state.specs.State.{IsQuiet, faults_in, Covers, IsSound, Agrees, HasFaultRoom, opening_of, unseated}
-use Rattle.blob_disk.proofs.Clients.{kept_then}
+use Rattle.blob_disk.proofs.Clients.{kept_none, kept_then}
 use Rattle.repo_state.proofs.GroupParts.{part_same, pending_same}
 use Rattle.repo_state.proofs.Leaving.{leaves_read, leaves_read_failed, leaves_cleared}
+use Rattle.repo_state.proofs.LeftOver.{left_journal, left_looked}
 use Rattle.repo_state.proofs.Stands.{bodies-fault, faults-fault, size-same, bodies-cleared, is_down-cleared, faults-cleared, no_fault-cleared}
 use Rattle.landing_core.proofs.Down.{down-fault as is_down-fault}
 use Rattle.repo_machine.proofs.MadeReady.{payload_length}
@@ -62,6 +66,23 @@ Holds first m header h n journal = IsSound (opening_of header journal.opening fi
 pub holds_at : (first m : Meaning) (header header1 : Header) (h h1 : List Entry) (n : ℕ) (journal : JournalView) → header1 ≡ header → h1 ≡ h → Holds first m header h n journal → Holds first m header1 h1 n journal
 holds_at first m header header1 h h1 n journal eh e holds = subst (λ x. Holds first m x h1 n journal) (sym eh) (subst (λ x. Holds first m header x n journal) (sym e) holds)
 
+-- with more room for what waits
+pub holds_reserved : (first m : Meaning) (header : Header) (h : List Entry) (n : ℕ) (journal after : JournalView) → after ≡ record journal { pending = after.pending } → after.pending.bytes ≡ journal.pending.bytes → Holds first m header h n journal → Holds first m header h n after
+holds_reserved first m header h n journal after same bytes holds = (
+  subst (λ o. IsSound (opening_of header o first) h n m) (sym (ap (λ (j : JournalView). j.opening) same)) holds.0,
+  (let size_is = ap (λ (j : JournalView). j.size) same in
+      record {
+        capacity_is = ap (λ (j : JournalView). j.capacity) same ∙ holds.1.capacity_is;
+        fits = holds.1.fits;
+        size_is = size_is ∙ holds.1.size_is;
+        left = left_journal header h n journal after m bytes (ap (λ (j : JournalView). j.broken) same) holds.1.left;
+        long = subst (λ k. IsLong m.reads k) (sym size_is) holds.1.long;
+        waits = subst (λ b. IsPending h n b) (sym bytes) holds.1.waits;
+        holds = λ honest. subst (λ f. AllByRecursion (HoldsParts f (bodies h)) (bodies h)) (λ i. with_group (sym size_is i) (sym bytes i) m.state.reads) (holds.1.holds honest);
+        stable = holds.1.stable;
+      }),
+)
+
 -- with more room
 pub room_kept : (h h1 : List Entry) (n : ℕ) (room room1 : Room) → h1 ≡ h → room.entries ≤ room1.entries → HasFaultRoom h n room → HasFaultRoom h1 n room1
 room_kept h h1 n room room1 e more has = subst (λ g. HasFaultRoom g n room1) (sym e) (λ up some. (let one = has up some in omega arith))
@@ -73,7 +94,7 @@ pub record Read (fails : Bool) (m new : Meaning) : Type 0 where
   pub counts : Counts m.faults new.faults fails
   pub calm : IsSome m.quiet → fails ≡ false
   pub looked : Looked m new
-  pub only : LeavesOnly (IsImage new.state) m new
+  pub only : IsTrue m.honest → LeavesOnly (IsImage new.state) m new
 
 pub sound_read : (opening : Opening) (h : List Entry) (n : ℕ) (m new : Meaning) → Read false m new → IsSound opening h n m → IsSound opening h n new
 sound_read opening h n m new done sound = record {
@@ -86,7 +107,7 @@ sound_read opening h n m new done sound = record {
   kept = kept_then opening.disk m new sound.kept done.kept;
   covers = covers_on (faults_in h) opening.faults m.faults new.faults done.counts.grows sound.covers;
   most = done.counts.most sound.most;
-  leaves = λ honest. (let was = was_honest m new done.kept honest in leaves_read opening.header opening.length opening.moment h n opening.disk m new sound.begun sound.kept sound.begins (done.looked was) done.only (sound.leaves was));
+  leaves = λ honest. (let was = was_honest m new done.kept honest in leaves_read opening.header opening.length opening.moment h n opening.disk m new sound.begun sound.kept sound.begins (done.looked was) (done.only was) (sound.leaves was));
 }
 
 some_quiet : (opening : Opening) (m : Meaning) → opening.quiet ≡ m.quiet → IsQuiet opening → IsSome m.quiet
@@ -109,7 +130,7 @@ sound_read_failed opening h n who m new done sound =
       kept = kept_then opening.disk m new sound.kept done.kept;
       covers = subst (λ f. Covers f opening.faults new.faults) (sym (faults-fault h who false)) (covers_one (faults_in h) opening.faults m.faults new.faults done.counts.grows sound.covers (done.counts.cause refl));
       most = done.counts.most sound.most;
-      leaves = λ honest. (let was = was_honest m new done.kept honest in leaves_read_failed opening.header opening.length opening.moment h n who opening.disk m new sound.begun sound.kept sound.begins (done.looked was) done.only (sound.leaves was));
+      leaves = λ honest. (let was = was_honest m new done.kept honest in leaves_read_failed opening.header opening.length opening.moment h n who opening.disk m new sound.begun sound.kept sound.begins (done.looked was) (done.only was) (sound.leaves was));
     }
 
 -- ---- when the seats are cleared
@@ -135,26 +156,45 @@ room_cleared h h1 n room room1 e same has =
 
 -- ---- the journal
 
-pub agrees_read : (header : Header) (h : List Entry) (n : ℕ) (journal : JournalView) (m new : Meaning) → Kept m new → Agrees header h n journal m → Agrees header h n journal new
-agrees_read header h n journal m new kept agrees = record {
+abbrev AllHold : JournalView → List Body → Meaning → Type 0
+AllHold journal bs m = AllByRecursion (HoldsParts (with_group journal.size journal.pending.bytes m.state.reads) bs) bs
+
+holds_looked : (journal : JournalView) (bs cs : List Body) (m new : Meaning) → bs ≡ cs → Kept m new → Looked m new → (IsTrue m.honest → AllHold journal bs m) → IsTrue new.honest → AllHold journal cs new
+holds_looked journal bs cs m new same kept looked holds honest =
+    let was = was_honest m new kept honest in
+    subst (λ d. AllByRecursion (HoldsParts (with_group journal.size journal.pending.bytes d.reads) cs) cs) (sym (looked was)) (subst (λ bs. AllHold journal bs m) same (holds was))
+
+stable_looked : (h g : List Entry) (m new : Meaning) → is_down g ≡ is_down h → Kept m new → Looked m new → (IsTrue m.honest → is_down h ≡ false → (image : List ℕ) → IsImage m.state image → image ≡ m.state.reads) → IsTrue new.honest → is_down g ≡ false → (image : List ℕ) → IsImage new.state image → image ≡ new.state.reads
+stable_looked h g m new down kept looked stable honest up image left =
+    let was = was_honest m new kept honest in
+    let same = looked was in
+    stable was (sym down ∙ up) image (subst (λ d. IsImage d image) same left) ∙ ap (λ d. d.reads) (sym same)
+
+pub agrees_read : (header : Header) (h : List Entry) (n : ℕ) (journal : JournalView) (m new : Meaning) → Kept m new → Looked m new → Agrees header h n journal m → Agrees header h n journal new
+agrees_read header h n journal m new kept looked agrees = record {
   capacity_is = agrees.capacity_is;
   fits = agrees.fits;
   size_is = agrees.size_is;
-  broken_is = agrees.broken_is;
+  left = left_looked header h h n journal.pending.bytes journal.broken m new refl refl kept looked agrees.left;
   long = kept.no_shorter journal.size agrees.long;
   waits = agrees.waits;
+  holds = holds_looked journal (bodies h) (bodies h) m new refl kept looked agrees.holds;
+  stable = stable_looked h h m new refl kept looked agrees.stable;
 }
 
-pub agrees_read_failed : (header : Header) (h : List Entry) (n who : ℕ) (journal : JournalView) (m new : Meaning) → Kept m new → Agrees header h n journal m → Agrees header (h ++ record { who = who; body = Fault false } ∷ []) n journal new
-agrees_read_failed header h n who journal m new kept agrees =
+pub agrees_read_failed : (header : Header) (h : List Entry) (n who : ℕ) (journal : JournalView) (m new : Meaning) → Kept m new → Looked m new → Agrees header h n journal m → Agrees header (h ++ record { who = who; body = Fault false } ∷ []) n journal new
+agrees_read_failed header h n who journal m new kept looked agrees =
+    let more : List Entry = h ++ record { who = who; body = Fault false } ∷ [] in
     let same = sym (bodies-fault h who false) in
     record {
       capacity_is = agrees.capacity_is;
-      fits = subst (λ s. s ≤ header.capacity) (size-same h (h ++ record { who = who; body = Fault false } ∷ []) same) agrees.fits;
-      size_is = agrees.size_is ∙ ap (λ (g : List Entry). size g) (part_same n h (h ++ record { who = who; body = Fault false } ∷ []) same);
-      broken_is = agrees.broken_is ∙ sym (is_down-fault h who);
+      fits = subst (λ s. s ≤ header.capacity) (size-same h more same) agrees.fits;
+      size_is = agrees.size_is ∙ ap (λ (g : List Entry). size g) (part_same n h more same);
+      left = left_looked header h more n journal.pending.bytes journal.broken m new same (is_down-fault h who) kept looked agrees.left;
       long = kept.no_shorter journal.size agrees.long;
-      waits = pending_same h (h ++ record { who = who; body = Fault false } ∷ []) n journal.pending.bytes same agrees.waits;
+      waits = pending_same h more n journal.pending.bytes same agrees.waits;
+      holds = holds_looked journal (bodies h) (bodies more) m new same kept looked agrees.holds;
+      stable = stable_looked h more m new (is_down-fault h who) kept looked agrees.stable;
     }
 
 pub agrees_cleared : (header : Header) (h : List Entry) (n : ℕ) (journal : JournalView) (m : Meaning) → Agrees header h n journal m → Agrees header (map unseated h) n journal m
@@ -164,7 +204,9 @@ agrees_cleared header h n journal m agrees =
       capacity_is = agrees.capacity_is;
       fits = subst (λ s. s ≤ header.capacity) (size-same h (map unseated h) same) agrees.fits;
       size_is = agrees.size_is ∙ ap (λ (g : List Entry). size g) (part_same n h (map unseated h) same);
-      broken_is = agrees.broken_is ∙ sym (is_down-cleared h);
+      left = left_looked header h (map unseated h) n journal.pending.bytes journal.broken m m same (is_down-cleared h) (kept_none m) (λ _. refl) agrees.left;
       long = agrees.long;
       waits = pending_same h (map unseated h) n journal.pending.bytes same agrees.waits;
+      holds = λ honest. subst (λ bs. AllHold journal bs m) same (agrees.holds honest);
+      stable = λ honest up. agrees.stable honest (sym (is_down-cleared h) ∙ up);
     }

@@ -1,6 +1,6 @@
 -- The calls of a repository in a file as steps of the core, by their answers.
-use Rattle.std.proofs.Common.{◌≡◌, ◌≢◌, ℕ, ◌<◌, Bool, true, false, List, length, [], ◌∷◌, ◌++◌, refl, sym, ap, subst, ◌∙◌}
-use Rattle.std.specs.Prelude.{Result, Ok, Err, IfOk}
+use Rattle.std.proofs.Common.{◌≡◌, ℕ, ◌<◌, Bool, true, false, List, length, [], ◌∷◌, ◌++◌, refl, sym, ap, subst, ◌∙◌, append-nil}
+use Rattle.std.specs.Prelude.{Option, None, Some, Result, Ok, Err, IfOk}
 use mathlib.Core.Logic.{inl, inr}
 use Rattle.byte_fields.specs.Bytes.{Id}
 use Rattle.history_model.specs.History.{Fault, Entry, bodies, is_down, stored}
@@ -9,78 +9,51 @@ use Rattle.history_model.specs.Pushrebase.{rewrite}
 use Rattle.reply_model.specs.Reply as reply
 use Rattle.reply_model.specs.Reply.{LandDraft}
 use Rattle.reply_model.specs.After as answers
-use Rattle.reply_model.specs.After.{Call, Answer, Asks, Replies, entry_by}
+use Rattle.reply_model.specs.After.{Call, Asks, Replies, entries_of, entry_by}
 use Rattle.reply_model.proofs.Stored.{is_down-stored}
-use Rattle.repo_calls.specs.Calls.{call_seen, denied_path, granted_seen, refused}
-use Rattle.repo_calls.specs.declared.ask.Ask as calls_asked
-use Rattle.repo_calls.specs.declared.ask.Granted as calls
-use Rattle.repo_state.specs.State.{entered_answer}
+use Rattle.repo_calls.specs.Calls.{denied_path, refused}
 use Rattle.repo_calls.specs.declared.refusal.Refusal as refusal
 use Rattle.repo_calls.specs.declared.refusal.Refusal.TheVariants as refusals
 use Rattle.repo_machine.specs.Plans.{PlannedLanding, RebasedLanding, IsPlan, PassesPlan}
 use Rattle.core_model.specs.Core.{State, opened}
-use Rattle.landing_core.specs.Steps.{Shows, HasPlan, AtSeal, all_calls, calls_to, Goes}
+use Rattle.landing_core.specs.Steps.{Shows, HasPlan, all_calls, calls_to, Goes}
 use Rattle.landing_core.proofs.Asked.{stored_goes}
 use Rattle.landing_core.proofs.Exchanged.{landed_goes, moved_goes, refused_goes}
 use Rattle.landing_core.proofs.Sealed.{seal_goes, cut_goes}
-use Rattle.landing_core.proofs.Others.{plan_goes, fault_goes, opened_shows}
+use Rattle.landing_core.proofs.Others.{plan_goes, looked_goes, fault_goes, opened_shows}
 use Rattle.repo_machine.proofs.Judging.{refused_down}
-use Rattle.repo_state.proofs.Asked.{granted_ask, refused_ask}
+use Rattle.repo_state.specs.Alone.{wanted}
+use Rattle.repo_state.proofs.Answered.{refused_by}
+use Rattle.repo_state.proofs.Asked.{granted_ask, refuses_ask}
 use Rattle.repo_state.proofs.Storing.{refused_replies}
 use Rattle.repo_state.specs.Exchanging.{Exchanges}
-use Rattle.repo_state.specs.Cores.{Stores, StoresCall, asked_landing, ExchangesSo, SealsSo, Plans, LooksSo}
+use Rattle.repo_journal.specs.declared.cut.Cut.{Cut}
+use Rattle.repo_state.specs.Cores.{StoresCall, Stays, asked_landing, ExchangesSo, SealsSo, ShowsLeft, Plans, LooksSo, cut_of}
+use Rattle.repo_state.proofs.LeftGates.{cut_shows, shows_none}
 use Rattle.repo_state.proofs.Opening.{stored_count}
 use Rattle.repo_state.specs.declared.exchanged.Exchanged.{Exchanged}
 use Rattle.repo_state.specs.declared.exchanged.Exchanged.TheVariants.{Landed, HeadMoved, Refused}
 
 -- ---- changes
 
-no_fault : (e : refusal.Refusal) → refused e ≢ answers.DiskFault
-no_fault refusals.Down = λ p. absurd cc
-no_fault (refusals.TooLong n) = λ p. absurd cc
-no_fault (refusals.BadEncoding at) = λ p. absurd cc
-no_fault (refusals.SelfConflict short long) = λ p. absurd cc
-no_fault refusals.Merge = λ p. absurd cc
-no_fault (refusals.BadParts n) = λ p. absurd cc
-no_fault refusals.OldFormat = λ p. absurd cc
-no_fault (refusals.NoPiece x) = λ p. absurd cc
-no_fault (refusals.NotAPiece x) = λ p. absurd cc
-no_fault (refusals.NoParent x) = λ p. absurd cc
-no_fault (refusals.NoContent path x) = λ p. absurd cc
-no_fault (refusals.WrongSize path wanted found) = λ p. absurd cc
-no_fault (refusals.Unresolved path) = λ p. absurd cc
-no_fault (refusals.Collision x) = λ p. absurd cc
-no_fault (refusals.NoChangeset x) = λ p. absurd cc
-no_fault (refusals.Moved found) = λ p. absurd cc
-no_fault refusals.NoBookmark = λ p. absurd cc
-no_fault refusals.NoRoot = λ p. absurd cc
-no_fault (refusals.TooFarBehind distance) = λ p. absurd cc
-no_fault refusals.AlreadyIn = λ p. absurd cc
-no_fault (refusals.StackTooLong count) = λ p. absurd cc
-no_fault (refusals.MergeInStack x) = λ p. absurd cc
-no_fault (refusals.MergeInRange x) = λ p. absurd cc
-no_fault (refusals.Denied place rule) = λ p. absurd cc
-no_fault (refusals.Clash left right) = λ p. absurd cc
-no_fault (refusals.TooLarge n) = λ p. absurd cc
-no_fault (refusals.BadPolicy line) = λ p. absurd cc
-no_fault (refusals.Full size n) = λ p. absurd cc
-no_fault refusals.Memory = λ p. absurd cc
+-- nothing was asked
+pub stays : (header : Header) (h new : List Entry) (n : ℕ) → new ≡ h → Stays header h n new
+stays header h new n same = λ s shows. record { state = s; taken = refl; meets = subst (λ g. Shows g n s) (sym same) shows }
 
-refused_stores : (header : Header) (h : List Entry) (n who : ℕ) (ask : reply.Ask) (e : refusal.Refusal) (new : List Entry) → Replies header h who (Asks ask) (refused e) new → Stores header h n who ask (refused e) new
-refused_stores header h n who ask e new r = λ s shows may. stored_goes header h n who ask (refused e) new s (no_fault e) r shows may
-
-granted_stores : (header : Header) (h : List Entry) (n who : ℕ) (ask : reply.Ask) (granted : reply.Granted) (new : List Entry) → Replies header h who (Asks ask) (answers.Grants granted) new → Stores header h n who ask (answers.Grants granted) new
-granted_stores header h n who ask granted new r = λ s shows may. stored_goes header h n who ask (answers.Grants granted) new s (λ p. absurd cc) r shows may
+pub wants_nothing : (header : Header) (h : List Entry) (who : ℕ) (call : Call) (new : List Entry) → Replies header h who call answers.Memory new → new ≡ h
+wants_nothing header h who call new r = r.new_is ∙ ap (λ made. h ++ entries_of who made) (wanted header h call r.made r.answers) ∙ append-nil h
 
 pub granted_call : (header : Header) (h : List Entry) (n who : ℕ) (call : Call) (granted : reply.Granted) (new : List Entry) → Replies header h who call (answers.Grants granted) new → StoresCall header h n who call (answers.Grants granted) new
-granted_call header h n who call granted new r = let a = granted_ask header h who call granted new r in (a.ask, a.asks, granted_stores header h n who a.ask granted new a.replies)
+granted_call header h n who call granted new r =
+    let a = granted_ask header h who call granted new r in
+    (a.ask, a.asks, λ s shows may. stored_goes header h n who a.ask (answers.Grants granted) new s (λ p. absurd cc) a.replies shows may)
 
-pub refused_call : (header : Header) (h : List Entry) (n who : ℕ) (ask : calls_asked.Ask) (e : refusal.Refusal) (new : List Entry) → Replies header h who (call_seen ask) (refused e) new → StoresCall header h n who (call_seen ask) (refused e) new
-refused_call header h n who ask e new r = let a = refused_ask header h who ask e new r in (a.ask, a.asks, refused_stores header h n who a.ask e new a.replies)
-
-pub entered_call : (header : Header) (h : List Entry) (n who : ℕ) (ask : calls_asked.Ask) (result : Result calls.Granted refusal.Refusal) (new : List Entry) → Replies header h who (call_seen ask) (entered_answer result) new → StoresCall header h n who (call_seen ask) (entered_answer result) new
-entered_call header h n who ask (Ok granted) new r = granted_call header h n who (call_seen ask) (granted_seen granted) new r
-entered_call header h n who ask (Err e) new r = refused_call header h n who ask e new r
+pub refused_call : (header : Header) (h : List Entry) (n who : ℕ) (call : Call) (e : refusal.Refusal) (new : List Entry) → Replies header h who call (refused e) new → StoresCall header h n who call (refused e) new
+refused_call header h n who call e new =
+    refused_by (λ answer. Replies header h who call answer new → StoresCall header h n who call answer new)
+    (λ refusal r. (let a = refuses_ask header h who call refusal new r in (a.ask, a.asks, λ s shows may. stored_goes header h n who a.ask (answers.Refuses refusal) new s (λ p. absurd cc) a.replies shows may)))
+    (λ r. stays header h new n (wants_nothing header h who call new r))
+    e
 
 -- ---- planned landings
 
@@ -150,23 +123,47 @@ pub plans_if_ok : {E : Type 0} (header : Header) (h : List Entry) (n : ℕ) (cal
 plans_if_ok header h n caller name draft (Ok plan) p = plans header h n caller name draft plan p
 plans_if_ok header h n caller name draft (Err e) p = tt
 
+pub looks_done : (header : Header) (h new : List Entry) (n who : ℕ) → new ≡ h → LooksSo header h n who true new
+looks_done header h new n who same = λ s shows. looked_goes header h new n who s same shows
+
 pub looks_fault : (header : Header) (h new : List Entry) (n who : ℕ) → new ≡ h ++ entry_by who (Fault false) ∷ [] → LooksSo header h n who false new
 looks_fault header h new n who grows = λ s shows. fault_goes header h new n who s grows shows
 
 -- ---- seals
 
 -- nothing is asked
-pub seals_nothing : (header : Header) (h : List Entry) (n who : ℕ) (failed : Bool) → SealsSo header h n who failed h n
-seals_nothing header h n who failed = λ s shows. ([], inl refl, record { state = s; taken = refl; meets = shows })
+pub seals_nothing : (header : Header) (h : List Entry) (n : ℕ) (left : Option Cut) (who : ℕ) (failed : Bool) → SealsSo header h n left who failed h n left
+seals_nothing header h n left who failed = λ s shows gate. ([], inl (refl, refl), record { state = s; taken = refl; meets = (shows, gate) })
 
-pub seals_all : (header : Header) (h : List Entry) (n p who : ℕ) → is_down h ≡ false → n < length (bodies h) → p ≡ length (bodies h) → SealsSo header h n who false h p
-seals_all header h n p who up some all = λ s shows. (all_calls who, inr refl, subst (λ k. Goes header s (all_calls who) (Shows h k)) (sym all) (seal_goes header h n who s up some shows))
+pub seals_all : (header : Header) (h : List Entry) (n p : ℕ) (left gate : Option Cut) (who : ℕ) → is_down h ≡ false → n < length (bodies h) → p ≡ length (bodies h) → gate ≡ None → SealsSo header h n left who false h p gate
+seals_all header h n p left gate who up some all none = λ s shows _.
+    (let goes = seal_goes header h n who s up some shows in (
+      all_calls who,
+      inr refl,
+      record {
+        state = goes.state;
+        taken = goes.taken;
+        meets = (subst (λ k. Shows h k goes.state) (sym all) goes.meets, subst (λ o. ShowsLeft o goes.state) (sym none) (shows_none h (length (bodies h)) goes.state up goes.meets));
+      },
+    ))
 
-pub seals_failed : (header : Header) (h new : List Entry) (n who : ℕ) → is_down h ≡ false → n < length (bodies h) → new ≡ h ++ entry_by who (Fault true) ∷ [] → SealsSo header h n who true new n
-seals_failed header h new n who up some grows = λ s shows.
-    (calls_to who AtSeal, inr (AtSeal, refl), subst (λ g. Goes header s (calls_to who AtSeal) (Shows g n)) (sym grows) (cut_goes header h n who s AtSeal up some shows))
+pub seals_failed : (header : Header) (h new : List Entry) (n : ℕ) (left gate : Option Cut) (who : ℕ) (cut : Cut) → is_down h ≡ false → n < length (bodies h) → new ≡ h ++ entry_by who (Fault true) ∷ [] → gate ≡ Some cut → SealsSo header h n left who true new n gate
+seals_failed header h new n left gate who cut up some grows is = λ s shows _.
+    (let goes = cut_goes header h n who s (cut_of cut) up some shows in (
+      calls_to who (cut_of cut),
+      inr (cut, is, refl),
+      record {
+        state = goes.state;
+        taken = goes.taken;
+        meets = (subst (λ g. Shows g n goes.state) (sym grows) goes.meets, subst (λ o. ShowsLeft o goes.state) (sym is) (cut_shows header s goes.state who cut goes.taken));
+      },
+    ))
 
 -- ---- as it is opened
 
 pub opened_as : (h : List Entry) (n : ℕ) → n ≡ length (stored h) → h ≡ stored h → Shows h n (opened h)
 opened_as h n count alone = subst (λ k. Shows h k (opened h)) (sym (count ∙ stored_count h)) (opened_shows h (ap is_down alone ∙ is_down-stored h))
+
+-- nothing is left over then
+pub opened_left : (h : List Entry) (left : Option Cut) → left ≡ None → ShowsLeft left (opened h)
+opened_left h left none = subst (λ o. ShowsLeft o (opened h)) (sym none) refl

@@ -1,25 +1,31 @@
 -- A change of a repository in a file: judged, and entered or not.
-use Rattle.std.proofs.Common.{◌≡◌, ℕ, ◌≤◌, true, false, List, [], ◌∷◌, ◌++◌, refl, sym, ap, subst, ◌∙◌}
-use Rattle.std.specs.Prelude.{Option, None, Some, Ok, IsSome, option_map}
+use Rattle.std.proofs.Common.{◌≡◌, ℕ, ◌≤◌, true, false, List, [], ◌∷◌, ◌++◌, refl, sym, ap, subst, ◌∙◌, append-nil}
+use Rattle.std.specs.Prelude.{Option, None, Some, Ok, IsSome, IsTrue, option_map}
 use mathlib.Core.Logic.{inl, inr}
 use Rattle.disk_model.specs.Meaning.{Meaning}
-use Rattle.history_model.specs.History.{Body, Entry, is_down, is_stored}
-use Rattle.history_model.specs.Journal.{Header, IsPayload, framed}
+use Rattle.disk_model.specs.Meaning as disk
+use Rattle.history_model.specs.History.{Body, Entry, bodies, is_down, is_stored}
+use Rattle.history_model.specs.Journal.{Header, HoldsParts, IsPayload, framed, size}
 use Rattle.reply_model.specs.Reply.{Ask, judge}
-use Rattle.reply_model.specs.After.{Answers, Asks, Grants, Replies, entries_of, entry_by, nothing}
+use Rattle.reply_model.specs.After.{Call, Answer, Answers, Asks, Grants, Replies, entries_of, entry_by, nothing}
 use Rattle.reply_model.specs.Legal.{MayFollow}
 use Rattle.reply_model.proofs.Granted.{MakesStored, judge_stored, follows_granted}
 use Rattle.reply_model.proofs.Stored.{granted_is_up}
 use Rattle.byte_fields.proofs.Booleans.{same_some}
-use Rattle.repo_journal.specs.Groups.{grown}
+use Rattle.repo_journal.specs.Groups.{grown, with_group}
 use Rattle.repo_journal.specs.View.{JournalView}
 use Rattle.repo_calls.specs.declared.refusal.Refusal.{Refusal}
 use Rattle.repo_calls.specs.Calls.{refused}
 use Rattle.repo_calls.specs.Refusing.{IsRefusal}
+use Rattle.repo_machine.specs.Asked.{JudgesCall}
+use Rattle.repo_machine.specs.Entering.{Judges}
 use Rattle.repo_machine.specs.Held.{Room}
 use Rattle.repo_machine.specs.Judged.{JudgedChange, IsJudged, Frames}
-use Rattle.repo_state.specs.State.{HasFaultRoom, IsSound, opening_of}
+use Rattle.repo_state.specs.Images.{sealed_part}
+use Rattle.repo_state.specs.Joining.{Holds as HoldsNext}
+use Rattle.repo_state.specs.State.{State, HasFaultRoom, IsSound, opening_of}
 use Rattle.repo_state.proofs.Answered.{unmade}
+use Rattle.repo_state.proofs.Asked.{for_call}
 use Rattle.repo_state.proofs.Entering.{sound_entered, agrees_entered}
 use Rattle.repo_state.proofs.Sounds.{Holds, holds_at}
 
@@ -61,20 +67,35 @@ making_by header h ask judged frame (Some body) e is gives =
 pub making : (header : Header) (h : List Entry) (ask : Ask) (judged : JudgedChange) (frame : List ℕ) → IsJudged header h ask judged → Some frame ≡ option_map (λ body. judged.frame) judged.made → Making header h ask judged frame
 making header h ask judged frame is gives = making_by header h ask judged frame judged.made refl is gives
 
+-- ---- it makes no entry
+
+pub none_made : (other : List ℕ) (o : Option Body) → ◌≡◌ {A = Option (List ℕ)} None (option_map (λ body. other) o) → o ≡ None
+none_made other None e = refl
+none_made other (Some body) e = absurd cc
+
+pub still : (h h1 : List Entry) (who : ℕ) (o : Option Body) → o ≡ None → h1 ≡ h ++ entries_of who (record { entry = o; fault = None }) → h1 ≡ h
+still h h1 who o none e = e ∙ ap (λ (o : Option Body). h ++ entries_of who (record { entry = o; fault = None })) none ∙ append-nil h
+
 -- ---- it is entered, and waits
 
 pub holds_entered : (header header1 header2 : Header) (h h1 h2 : List Entry) (n : ℕ) (ask : Ask) (judged : JudgedChange) (frame : List ℕ) (journal after : JournalView) (first m : Meaning)
-    → header1 ≡ header → header2 ≡ header1 → h1 ≡ h → h2 ≡ h1 ++ entries_of judged.who (record { entry = judged.made; fault = None }) → Making header h ask judged frame
+    → header1 ≡ header → header2 ≡ header1 → h1 ≡ h → h2 ≡ h1 ++ entries_of judged.who (record { entry = judged.made; fault = None }) → (making : Making header h ask judged frame) → disk.IsSound m
     → after ≡ record journal { pending = after.pending } → after.pending.bytes ≡ grown journal.pending.bytes frame
+    → (IsTrue m.honest → HoldsParts (with_group journal.size journal.pending.bytes m.state.reads) (bodies h) making.body)
     → Holds first m header h n journal → Holds first m header2 h2 n after
-holds_entered header header1 header2 h h1 h2 n ask judged frame journal after first m eh1 eh2 e1 e2 making same holds_it holds =
+holds_entered header header1 header2 h h1 h2 n ask judged frame journal after first m eh1 eh2 e1 e2 making told same grows parts holds =
     let entry : Entry = entry_by judged.who making.body in
     let now : h2 ≡ h ++ entry ∷ [] = e2 ∙ ap (λ (g : List Entry). g ++ entries_of judged.who (record { entry = judged.made; fault = None })) e1 ∙ ap (λ (o : Option Body). h ++ entries_of judged.who (record { entry = o; fault = None })) making.made_is in
     holds_at first m header header2 (h ++ entry ∷ []) h2 n after (eh2 ∙ eh1) now (
       subst (λ o. IsSound (opening_of header o first) (h ++ entry ∷ []) n m) (sym (ap (λ (j : JournalView). j.opening) same))
           (sound_entered (opening_of header journal.opening first) h n entry m making.up making.kind making.follows holds.1.waits.most holds.0),
-      agrees_entered header h n entry making.payload frame journal after m making.kind making.follows making.is_payload making.framed_is same holds_it holds.1,
+      agrees_entered header h n entry making.payload frame journal after m making.up told holds.0.legal making.kind making.follows making.is_payload making.framed_is same grows parts holds.1,
     )
+
+-- what it needs of the file, as the repository tells
+pub holds_made : {inside now : State} → inside ≡ now → (journal : JournalView) (made : Option Body) (body : Body) → made ≡ Some body → journal.size ≡ size (sealed_part inside.sealed inside.history) → journal.pending.bytes ≡ inside.pending.bytes → HoldsNext now made → IsTrue inside.disk.honest → HoldsParts (with_group journal.size journal.pending.bytes inside.disk.state.reads) (bodies inside.history) body
+holds_made {inside} {now} same journal made body is file waits holds honest =
+    subst (λ f. HoldsParts f (bodies inside.history) body) (λ i. with_group (sym file i) (sym waits i) inside.disk.state.reads) (subst (HoldsNext inside) is (subst (λ s. HoldsNext s made) (sym same) holds) honest)
 
 some_made : (o : Option Body) (body : Body) → o ≡ Some body → IsSome o
 some_made o body e = subst (λ (o : Option Body). IsSome o) (sym e) search
@@ -100,3 +121,12 @@ refused_replies header h h1 who ask e same why =
       | inl memory ↦ subst (λ (x : Refusal). Answers header h (Asks ask) (refused x) nothing) (sym memory) refl
       | inr r ↦ subst (λ a. Answers header h (Asks ask) a nothing) (sym r.2) (refl, r.1)
     ]))
+
+-- the answer to a call that was judged, and was entered or not
+pub entered_replies : {header header1 : Header} {h h1 new : List Entry} {room : Room} {who : ℕ} {call : Call} {judged : JudgedChange} {answer : Answer} → JudgesCall header h room who call judged → header1 ≡ header → h1 ≡ h
+    → ((ask : Ask) → Judges header1 h1 room judged.who ask judged → Replies header1 h1 judged.who (Asks ask) answer new) → Replies header h who call answer new
+entered_replies {header} {header1} {h} {h1} {new} {room} {who} {call} {judged} {answer} j eh e replies =
+    let at = subst (λ x. Judges x h room judged.who j.ask judged → Replies x h judged.who (Asks j.ask) answer new) eh
+    (subst (λ g. Judges header1 g room judged.who j.ask judged → Replies header1 g judged.who (Asks j.ask) answer new) e (replies j.ask)) in
+    for_call j.asks
+    (subst (λ w. Replies header h w (Asks j.ask) answer new) j.judges.by (at (subst (λ w. Judges header h room w j.ask judged) (sym j.judges.by) j.judges)))

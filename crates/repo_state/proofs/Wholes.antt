@@ -1,65 +1,73 @@
--- No change makes a whole yet, so no entry has parts that a file must hold.
-use Rattle.std.proofs.Common.{◌≡◌, ℕ, zero, suc, List, [], ◌∷◌, ◌++◌, drop, refl, sym, subst, append-nil, append_assoc}
-use Rattle.std.specs.Prelude.{Some, Result, Ok, Err, Bool, true, false, cond}
+-- What the file and what waits must hold of the parts of wholes.
+use Rattle.std.proofs.Common.{◌≡◌, ℕ, zero, suc, false, List, [], ◌∷◌, drop, refl, sym, ap, subst, ◌∙◌}
+use Rattle.std.specs.Prelude.{IsTrue, Option, None, Some, Ok}
 use Rattle.std.specs.List.{AllByRecursion}
-use Rattle.byte_fields.specs.Bytes.{Id}
-use Rattle.byte_fields.proofs.Lists.{all_both, weaker}
-use Rattle.disk_model.specs.Images.{Disk}
-use Rattle.history_model.specs.History.{Body, Content, Whole, Change, Book, Land, Policy, Fault, Entry, bodies, is_down, is_stored}
-use Rattle.history_model.specs.Journal.{Header, HoldsParts}
-use Rattle.reply_model.specs.Reply.{Ask, PutContent, PutWhole, PutChangeset, SetBookmark, LandDraft, SetPolicy, Granted, Refusal, Down, BadParts, OldFormat, Judged, refuse_if, ◌>>=◌, judge}
-use Rattle.reply_model.specs.Legal.{MayFollow, GoesOn, IsLegal}
-use Rattle.reply_model.proofs.Histories.{bodies-append}
+use Rattle.disk_model.specs.Meaning.{Meaning}
+use Rattle.history_model.specs.History.{Body, Entry, bodies, is_down}
+use Rattle.history_model.specs.Journal.{Header, HoldsParts, size}
+use Rattle.opening_laws.proofs.Made.{MakesEach, Fitting, MadeBy, judge_makes}
+use Rattle.reply_model.specs.Reply.{Ask, PutContent, PutWhole, PutChangeset, SetBookmark, LandDraft, SetPolicy, Granted, judge}
+use Rattle.repo_calls.specs.Calls.{call_seen}
+use Rattle.repo_calls.specs.declared.ask.Ask as calls
+use Rattle.repo_calls.specs.declared.ask.Ask.TheVariants as asks
 use Rattle.repo_journal.specs.Groups.{GroupHolds, with_group}
-use Rattle.opening_laws.proofs.Made.{MadeBy, is_made}
+use Rattle.repo_journal.specs.View.{JournalView}
+use Rattle.repo_state.specs.Images.{sealed_part}
+use Rattle.repo_machine.specs.Asked.{IsAskOf}
+use Rattle.repo_machine.specs.Found.{IsFoundFor}
+use Rattle.repo_machine.specs.Judged.{JudgedChange, IsJudged}
+use Rattle.repo_machine.specs.declared.found.Found.TheVariants.{Nothing}
+use Rattle.repo_state.specs.Joining.{Holds}
+use Rattle.repo_state.specs.State.{State, Agrees, laid}
 
--- whatever a file holds of contents
-abbrev pub AsksNothing : Body → Type 0
-AsksNothing body = (file : List ℕ) (all : List Body) → HoldsParts file all body
+-- ---- entries that need nothing of the file
 
-refused_whole : (down bad : Bool) (n : ℕ) (join : List Id → Result Judged Refusal) (judged : Judged) → (refuse_if down Down >>= λ _. (refuse_if bad (BadParts n) >>= λ _. Err OldFormat) >>= join) ≡ Ok judged → ⊥
-refused_whole true bad n join judged e = cc
-refused_whole false true n join judged e = cc
-refused_whole false false n join judged e = cc
+abbrev pub NoJoin : Ask → Type 0
+NoJoin (PutContent bytes) = Unit {0}
+NoJoin (PutWhole body pieces) = ⊥
+NoJoin (PutChangeset bytes) = Unit {0}
+NoJoin (SetBookmark caller name from to) = Unit {0}
+NoJoin (LandDraft caller name draft moment) = Unit {0}
+NoJoin (SetPolicy caller text) = Unit {0}
 
-no_whole : (header : Header) (h : List Entry) (ask : Ask) (granted : Granted) (x : Id) (n : ℕ) (parts : List Id) → judge header h ask ≡ Ok (record { granted = granted; made = Some (Whole x n parts) }) → MadeBy h ask (Whole x n parts) → ⊥
-no_whole header h (PutContent bytes) granted x n parts judged m = let e = m.1 in cc
-no_whole header h (PutWhole body pieces) granted x n parts judged m = refused_whole (is_down h) _ _ _ _ judged
-no_whole header h (PutChangeset bytes) granted x n parts judged m = let e = m.3 in cc
-no_whole header h (SetBookmark caller name from to) granted x n parts judged m = let e = m.0 in cc
-no_whole header h (LandDraft caller name draft moment) granted x n parts judged m = let e = m.8 in cc
-no_whole header h (SetPolicy caller text) granted x n parts judged m = let e = m.0 in cc
+no_whole : (h : List Entry) (ask : Ask) (body : Body) → NoJoin ask → MadeBy h ask body → (file : List ℕ) (all : List Body) → HoldsParts file all body
+no_whole h (PutContent bytes) body none made = subst (λ b. (file : List ℕ) (all : List Body) → HoldsParts file all b) (sym made.1) (λ file all. tt)
+no_whole h (PutWhole ids pieces) body none made = absurd none
+no_whole h (PutChangeset bytes) body none made = subst (λ b. (file : List ℕ) (all : List Body) → HoldsParts file all b) (sym made.3) (λ file all. tt)
+no_whole h (SetBookmark caller name from to) body none made = subst (λ b. (file : List ℕ) (all : List Body) → HoldsParts file all b) (sym made.0) (λ file all. tt)
+no_whole h (LandDraft caller name draft moment) body none made = subst (λ b. (file : List ℕ) (all : List Body) → HoldsParts file all b) (sym made.8) (λ file all. tt)
+no_whole h (SetPolicy caller text) body none made = subst (λ b. (file : List ℕ) (all : List Body) → HoldsParts file all b) (sym made.0) (λ file all. tt)
 
-asks_next : (header : Header) (h : List Entry) (body : Body) → MayFollow header h body → AsksNothing body
-asks_next header h (Content x n) m = λ file all. tt
-asks_next header h (Whole x n parts) m = let made = is_made header h (Whole x n parts) refl m in absurd (no_whole header h made.ask made.granted x n parts made.judged made.made)
-asks_next header h (Change c) m = λ file all. tt
-asks_next header h (Book move) m = λ file all. tt
-asks_next header h (Land landing) m = λ file all. tt
-asks_next header h (Policy caller text) m = λ file all. tt
-asks_next header h (Fault breaking) m = λ file all. tt
+pub asks_nothing : (header : Header) (h : List Entry) (ask : Ask) (granted : Granted) (body : Body) → NoJoin ask → judge header h ask ≡ Ok (record { granted = granted; made = Some body }) → (file : List ℕ) (all : List Body) → HoldsParts file all body
+asks_nothing header h ask granted body none judged = no_whole h ask body none (subst (MakesEach (Fitting header h (MadeBy h ask))) judged (judge_makes header h ask) body refl).0
 
-asks_one : (e : Entry) (stored : Bool) → is_stored e.body ≡ stored → AsksNothing e.body → AllByRecursion AsksNothing (cond stored (e.body ∷ []) [])
-asks_one e true is asks = (asks, tt)
-asks_one e false is asks = tt
+-- a change for which nothing is found joins nothing
+pub no_join : (header : Header) (h : List Entry) (call : calls.Ask) (ask : Ask) → IsFoundFor header h (call_seen call) Nothing → IsAskOf header h (call_seen call) ask → NoJoin ask
+no_join header h (asks.PutContent bytes) ask found is = subst NoJoin (sym is) tt
+no_join header h (asks.PutWhole body) ask found is = absurd found
+no_join header h (asks.PutChangeset bytes) ask found is = subst NoJoin (sym is) tt
+no_join header h (asks.SetBookmark caller name from to) ask found is = subst NoJoin (sym is) tt
+no_join header h (asks.Land caller name draft moment) ask found is = subst NoJoin (sym is) tt
+no_join header h (asks.SetPolicy caller text) ask found is = subst NoJoin (sym is) tt
 
-asks_from : (header : Header) (before later : List Entry) → AllByRecursion AsksNothing (bodies before) → GoesOn header before later → AllByRecursion AsksNothing (bodies (before ++ later))
-asks_from header before [] all goes = subst (λ h. AllByRecursion AsksNothing (bodies h)) (sym (append-nil before)) all
-asks_from header before (e ∷ later) all goes =
-    subst (λ h. AllByRecursion AsksNothing (bodies h)) (append_assoc before (e ∷ []) later)
-    (asks_from header (before ++ e ∷ []) later
-    (subst (AllByRecursion AsksNothing) (sym (bodies-append before (e ∷ []))) (all_both AsksNothing (bodies before) (bodies (e ∷ [])) all (asks_one e (is_stored e.body) refl (asks_next header before e.body goes.0)))) goes.1)
+pub needs_nothing : (s : State) (h : List Entry) (header : Header) (ask : Ask) (judged : JudgedChange) → NoJoin ask → IsJudged header h ask judged → Holds s judged.made
+needs_nothing s h header ask judged none is = by judged.made refl
+  where
+    by : (o : Option Body) → judged.made ≡ o → Holds s o
+    by None e = tt
+    by (Some body) e = λ honest. asks_nothing header h ask judged.granted body none (is.granted ∙ ap (λ (o : Option Body). Ok (record { granted = judged.granted; made = o })) e) (laid s) (bodies s.history)
 
--- of a legal history
-pub none_asks : (header : Header) (h : List Entry) → IsLegal header h → AllByRecursion AsksNothing (bodies h)
-none_asks header h legal = asks_from header [] h tt legal
+-- ---- what waits
 
 pub all_behind : {X : Type 0} (P : X → Type 0) (n : ℕ) (xs : List X) → AllByRecursion P xs → AllByRecursion P (drop n xs)
 all_behind P zero xs all = all
 all_behind P (suc n) [] all = tt
 all_behind P (suc n) (x ∷ xs) all = all_behind P n xs all.1
 
--- whatever waits, the group has all that its entries ask for
-pub group_holds : (header : Header) (h : List Entry) (n : ℕ) (d : Disk) (size : ℕ) (bytes : List ℕ) (all : List Body) → IsLegal header h → GroupHolds d size bytes all (drop n (bodies h))
-group_holds header h n d size bytes all legal = λ before is.
-    weaker AsksNothing (HoldsParts (with_group size bytes before) all) (λ body asks. asks (with_group size bytes before) all) (drop n (bodies h)) (all_behind AsksNothing n (bodies h) (none_asks header h legal))
+-- behind each image of the file it has what the parts of its wholes need
+pub group_holds : (header : Header) (h : List Entry) (n : ℕ) (journal : JournalView) (m : Meaning) (bytes : List ℕ) → Agrees header h n journal m → is_down h ≡ false → IsTrue m.honest → journal.pending.bytes ≡ bytes → GroupHolds m.state (size (sealed_part n h)) bytes (bodies h) (drop n (bodies h))
+group_holds header h n journal m bytes agrees up honest is = λ before left.
+    (let all = agrees.holds honest in
+    let file : with_group journal.size journal.pending.bytes m.state.reads ≡ with_group (size (sealed_part n h)) bytes before =
+    (λ i. with_group (agrees.size_is i) (is i) (sym (agrees.stable honest up before left) i)) in
+    all_behind (HoldsParts (with_group (size (sealed_part n h)) bytes before) (bodies h)) n (bodies h) (subst (λ f. AllByRecursion (HoldsParts f (bodies h)) (bodies h)) file all))

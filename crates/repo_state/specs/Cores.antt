@@ -1,19 +1,23 @@
 -- The calls of a repository in a file as steps of the core.
 --     Stores header h n who ask answer new      from each state of the core that shows h with n entries sealed, the steps of a change that is answered so can be taken, and show new, with as many sealed
---     StoresCall header h n who call answer new      so it is of a change that the call asks for
+--     StoresCall header h n who call answer new      so it is of a change that the call asks for. Contents that can't be read are a read, done or not, and for want of memory nothing is asked
 --     ExchangesSo header h n who r new      the same of a planned landing, where the seat has this plan
---     SealsSo header h n who failed new after      a seal, after which so many are sealed: the device calls where something waits, or none where enough is sealed or a breaking fault is held
---     StoresAlone header h n ask answer new after      a change of the only seat, which is sealed before it is answered
---     StoresCallAlone header h n call answer new after      so it is of a change that the call asks for
+--     cut_of cut      the device call that failed
+--     ShowsLeft left s      the core's state has a group left over just where a seal was cut off, with the gate as it may stand then
+--     leaves_gate step      it seals nothing, and is no crash
+--     SealsSo header h n left who failed new after gate      a seal, after which so many are sealed, and a seal was cut off so: the device calls where something waits, up to the one that failed, or none where enough is sealed or a breaking fault is held
+--     StoresAlone header h n left ask answer new after gate      a change of the only seat, which is sealed before it is answered
+--     StoresCallAlone header h n left call answer new after gate      so it is of a change that the call asks for, as above
 --     Plans header h n name draft plan      a plan is a step of any seat at any moment, which has it then
 --     LooksSo header h n who done new      a read that the disk failed or not
+--     Stays header h n new      no step, after which this is shown
 --     ShowsTable ks t s      of these known changesets the core's state has just those settled that the table has
 --     id_at ks n      the id of the changeset of a number
 --     TakesJob header h n t next      the next job is a step, after which it was taken. Where there is none nothing is taken
 --     SettlesSo header h sealed old n result new      what was derived of a job that was taken is settled in both, or in neither
 --     CrashLeaves header s image      the image stands for the history that a crash of the state leaves
---     CrashesOf header h n m s      each image of the disk is left so, by the state with its group left over with the gate open or not
-use Rattle.std.specs.Prelude.{◌≡◌, ◌⊎◌, ℕ, Bool, true, false, List, [], ◌∷◌, Option, None, Some, Result, Ok, Err}
+--     CrashesOf header m s      each image of the disk is left so
+use Rattle.std.specs.Prelude.{◌≡◌, ◌⊎◌, ℕ, Bool, true, false, List, [], ◌∷◌, ◌++◌, Option, None, Some, option_map, Result, Ok, Err}
 use Rattle.std.specs.Option.{option_map_or}
 use Rattle.byte_fields.specs.Bytes.{Id}
 use Rattle.history_model.specs.History.{Entry, Known, known}
@@ -22,15 +26,18 @@ use Rattle.disk_model.specs.Meaning.{Meaning}
 use Rattle.history_model.specs.Journal.{Header, Stands}
 use Rattle.history_model.specs.Pushrebase.{rewrite}
 use Rattle.reply_model.specs.Reply.{Ask, LandDraft}
-use Rattle.reply_model.specs.After.{Call, Answer}
-use Rattle.core_model.specs.Core.{State, Sealing, Step, PlanLanding, Exchange, Look, TakeJob, Settle, Crash, after_step}
-use Rattle.landing_core.specs.Steps.{Shows, MayAsk, HasPlan, asking, all_calls, Cut, calls_to, AreSteps, AreStepsWithSeal, Goes}
+use Rattle.reply_model.specs.After.{Call, Answer, Grants, Refuses, Shows as Sees, Lacks, Roots, DiskFault, ReadFault, BadBytes, NodeCollision, Memory}
+use Rattle.core_model.specs.Core.{State, LeftOver, Step, PlanLanding, Exchange, Look, WriteGroup, SyncGroup, OpenGate, Seal, Acknowledge, TakeJob, Settle, Crash, after_step}
+use Rattle.landing_core.specs.Steps.{Shows, MayAsk, HasPlan, asking, all_calls, Cut as CoreCut, AtWrite, AtSync, AtOpen, AtSeal, calls_to, AreSteps, AreStepsWithSeal, Goes}
 use Rattle.landing_core.specs.Settled.{ShowsSettled, HasJob}
 use Rattle.node_table.specs.Table.{Table, is_settled}
 use Rattle.node_table.specs.declared.fault.TableFault.{TableFault}
 use Rattle.node_table.specs.declared.fault.TableFault.TheVariants as tables
 use Rattle.changeset_store.specs.Store.{number_in, known_at}
 use Rattle.derive_step.specs.declared.job.Job.{Job}
+use Rattle.repo_journal.specs.Cuts.{opens}
+use Rattle.repo_journal.specs.declared.cut.Cut.{Cut}
+use Rattle.repo_journal.specs.declared.cut.Cut.TheVariants as cuts
 use Rattle.repo_machine.specs.Asked.{IsAskOf}
 use Rattle.repo_machine.specs.Plans.{PlannedLanding, RebasedLanding}
 
@@ -38,8 +45,27 @@ abbrev pub Stores : Header → List Entry → ℕ → ℕ → Ask → Answer →
 Stores header h n who ask answer new = (s : State) → Shows h n s → MayAsk s who ask → (steps : List Step) × AreSteps (asking who ask) answer steps × Goes header s steps (Shows new n)
 
 -- Of contents that are to be joined it is with some bytes that were read of them.
+abbrev pub StoresAsked : Header → List Entry → ℕ → ℕ → Call → Answer → List Entry → Type 0
+StoresAsked header h n who call answer new = (ask : Ask) × IsAskOf header h call ask × Stores header h n who ask answer new
+
+abbrev pub LooksSo : Header → List Entry → ℕ → ℕ → Bool → List Entry → Type 0
+LooksSo header h n who done new = (s : State) → Shows h n s → Goes header s (Look who done ∷ []) (Shows new n)
+
+-- no step is taken
+abbrev pub Stays : Header → List Entry → ℕ → List Entry → Type 0
+Stays header h n new = (s : State) → Shows h n s → Goes header s [] (Shows new n)
+
 abbrev pub StoresCall : Header → List Entry → ℕ → ℕ → Call → Answer → List Entry → Type 0
-StoresCall header h n who call answer new = (ask : Ask) × IsAskOf header h call ask × Stores header h n who ask answer new
+StoresCall header h n who call (Grants granted) new = StoresAsked header h n who call (Grants granted) new
+StoresCall header h n who call (Refuses refusal) new = StoresAsked header h n who call (Refuses refusal) new
+StoresCall header h n who call (Sees seen) new = ⊥
+StoresCall header h n who call (Lacks absent) new = ⊥
+StoresCall header h n who call (Roots fsnode unode deleted) new = ⊥
+StoresCall header h n who call DiskFault new = ⊥
+StoresCall header h n who call ReadFault new = LooksSo header h n who false new
+StoresCall header h n who call (BadBytes wanted found) new = LooksSo header h n who true new
+StoresCall header h n who call (NodeCollision x) new = ⊥
+StoresCall header h n who call Memory new = Stays header h n new
 
 abbrev pub HasRebased : State → ℕ → RebasedLanding → Type 0
 HasRebased s who r = HasPlan s who r.name r.draft r.asked r.old r.new
@@ -50,25 +76,80 @@ asked_landing who r = Exchange who (LandDraft r.caller r.name r.draft r.asked) �
 abbrev pub ExchangesSo : Header → List Entry → ℕ → ℕ → RebasedLanding → List Entry → Type 0
 ExchangesSo header h n who r new = (s : State) → Shows h n s → MayAsk s who (LandDraft r.caller r.name r.draft r.asked) → HasRebased s who r → Goes header s (asked_landing who r) (Shows new n)
 
--- the device calls of a seal that failed or not, where something is sealed or is to be
-abbrev pub AreSealing : ℕ → Bool → List Step → Type 0
-AreSealing who false steps = steps ≡ all_calls who
-AreSealing who true steps = (cut : Cut) × (steps ≡ calls_to who cut)
+-- ---- what a seal that failed leaves over
 
-abbrev pub SealsSo : Header → List Entry → ℕ → ℕ → Bool → List Entry → ℕ → Type 0
-SealsSo header h n who failed new after = (s : State) → Shows h n s → (steps : List Step) × ((steps ≡ []) ⊎ AreSealing who failed steps) × Goes header s steps (Shows new after)
+abbrev pub cut_of : Cut → CoreCut
+cut_of cuts.Write = AtWrite
+cut_of cuts.Sync = AtSync
+cut_of cuts.Open = AtOpen
+cut_of cuts.Seal = AtSeal
 
-abbrev pub StoresAlone : Header → List Entry → ℕ → Ask → Answer → List Entry → ℕ → Type 0
-StoresAlone header h n ask answer new after = (s : State) → Shows h n s → MayAsk s 0 ask → (steps : List Step) × AreStepsWithSeal 0 (asking 0 ask) answer steps × Goes header s steps (Shows new after)
+abbrev pub ShowsLeft : Option Cut → State → Type 0
+ShowsLeft left s = option_map (λ r. r.stage) s.sealing ≡ option_map (λ cut. LeftOver (opens cut)) left
 
-abbrev pub StoresCallAlone : Header → List Entry → ℕ → Call → Answer → List Entry → ℕ → Type 0
-StoresCallAlone header h n call answer new after = (ask : Ask) × IsAskOf header h call ask × StoresAlone header h n ask answer new after
+abbrev pub leaves_gate : Step → Bool
+leaves_gate (PlanLanding who name draft moment) = true
+leaves_gate (Exchange who ask) = true
+leaves_gate (Look who done) = true
+leaves_gate (WriteGroup who done) = false
+leaves_gate (SyncGroup done) = false
+leaves_gate (OpenGate done) = false
+leaves_gate (Seal done) = false
+leaves_gate (Acknowledge who) = true
+leaves_gate (TakeJob x) = true
+leaves_gate (Settle x) = true
+leaves_gate (Crash kept) = false
+
+-- ---- seals
+
+-- the device calls of a seal that failed or not, where something is sealed or is to be. The call that failed is the one that is known
+abbrev pub AreSealing : ℕ → Bool → Option Cut → List Step → Type 0
+AreSealing who false gate steps = steps ≡ all_calls who
+AreSealing who true gate steps = (cut : Cut) × (gate ≡ Some cut) × (steps ≡ calls_to who (cut_of cut))
+
+abbrev pub IsNoSeal : Option Cut → Option Cut → List Step → Type 0
+IsNoSeal left gate steps = (steps ≡ []) × (gate ≡ left)
+
+abbrev pub SealsSo : Header → List Entry → ℕ → Option Cut → ℕ → Bool → List Entry → ℕ → Option Cut → Type 0
+SealsSo header h n left who failed new after gate = (s : State) → Shows h n s → ShowsLeft left s → (steps : List Step) × (IsNoSeal left gate steps ⊎ AreSealing who failed gate steps) × Goes header s steps (λ t. Shows new after t × ShowsLeft gate t)
+
+-- where the disk failed, the device calls go up to the one that is known
+abbrev pub FailsAt : Option Cut → List Step → Answer → List Step → Type 0
+FailsAt gate asked (Grants granted) steps = Unit {0}
+FailsAt gate asked (Refuses refusal) steps = Unit {0}
+FailsAt gate asked (Sees seen) steps = Unit {0}
+FailsAt gate asked (Lacks absent) steps = Unit {0}
+FailsAt gate asked (Roots fsnode unode deleted) steps = Unit {0}
+FailsAt gate asked DiskFault steps = (cut : Cut) × (gate ≡ Some cut) × (steps ≡ asked ++ calls_to 0 (cut_of cut))
+FailsAt gate asked ReadFault steps = Unit {0}
+FailsAt gate asked (BadBytes wanted found) steps = Unit {0}
+FailsAt gate asked (NodeCollision x) steps = Unit {0}
+FailsAt gate asked Memory steps = Unit {0}
+
+abbrev pub StoresAlone : Header → List Entry → ℕ → Option Cut → Ask → Answer → List Entry → ℕ → Option Cut → Type 0
+StoresAlone header h n left ask answer new after gate = (s : State) → Shows h n s → ShowsLeft left s → MayAsk s 0 ask → (steps : List Step) × AreStepsWithSeal 0 (asking 0 ask) answer steps × FailsAt gate (asking 0 ask) answer steps × Goes header s steps (λ t. Shows new after t × ShowsLeft gate t)
+
+abbrev pub StoresAskedAlone : Header → List Entry → ℕ → Option Cut → Call → Answer → List Entry → ℕ → Option Cut → Type 0
+StoresAskedAlone header h n left call answer new after gate = (ask : Ask) × IsAskOf header h call ask × StoresAlone header h n left ask answer new after gate
+
+-- nothing is sealed, and no seal fails
+abbrev pub IsUnsealed : ℕ → ℕ → Option Cut → Option Cut → Type 0
+IsUnsealed n after left gate = (after ≡ n) × (gate ≡ left)
+
+abbrev pub StoresCallAlone : Header → List Entry → ℕ → Option Cut → Call → Answer → List Entry → ℕ → Option Cut → Type 0
+StoresCallAlone header h n left call (Grants granted) new after gate = StoresAskedAlone header h n left call (Grants granted) new after gate
+StoresCallAlone header h n left call (Refuses refusal) new after gate = StoresAskedAlone header h n left call (Refuses refusal) new after gate
+StoresCallAlone header h n left call (Sees seen) new after gate = ⊥
+StoresCallAlone header h n left call (Lacks absent) new after gate = ⊥
+StoresCallAlone header h n left call (Roots fsnode unode deleted) new after gate = ⊥
+StoresCallAlone header h n left call DiskFault new after gate = StoresAskedAlone header h n left call DiskFault new after gate
+StoresCallAlone header h n left call ReadFault new after gate = LooksSo header h n 0 false new × IsUnsealed n after left gate
+StoresCallAlone header h n left call (BadBytes wanted found) new after gate = LooksSo header h n 0 true new × IsUnsealed n after left gate
+StoresCallAlone header h n left call (NodeCollision x) new after gate = ⊥
+StoresCallAlone header h n left call Memory new after gate = Stays header h n new × IsUnsealed n after left gate
 
 abbrev pub Plans : Header → List Entry → ℕ → List ℕ → Id → PlannedLanding → Type 0
 Plans header h n name draft plan = (s : State) (who moment : ℕ) → Shows h n s → Goes header s (PlanLanding who name draft moment ∷ []) (λ t. Shows h n t × HasPlan t who plan.name plan.draft moment plan.old (rewrite plan.stack plan.old moment))
-
-abbrev pub LooksSo : Header → List Entry → ℕ → ℕ → Bool → List Entry → Type 0
-LooksSo header h n who done new = (s : State) → Shows h n s → Goes header s (Look who done ∷ []) (Shows new n)
 
 -- ---- manifests
 
@@ -103,8 +184,5 @@ pub record CrashLeaves (header : Header) (s : State) (image : List ℕ) : Type 0
   pub crashes : after_step header s (Crash kept) ≡ Some after
   pub stands : Stands header image after.history
 
--- a state that shows the history too, with its group left over with the gate open or not, and of which each image is left by a crash
-pub record CrashesOf (header : Header) (h : List Entry) (n : ℕ) (m : Meaning) (s : State) : Type 0 where
-  pub sealing : Option Sealing
-  pub shows : Shows h n (record s { sealing = sealing })
-  pub leaves : (image : List ℕ) → IsImage m.state image → CrashLeaves header (record s { sealing = sealing }) image
+abbrev pub CrashesOf : Header → Meaning → State → Type 0
+CrashesOf header m s = (image : List ℕ) → IsImage m.state image → CrashLeaves header s image

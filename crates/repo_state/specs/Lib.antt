@@ -2,6 +2,8 @@ pub mod Images
 pub mod State
 pub mod Manifests
 pub mod Asking
+pub mod Filling
+pub mod Joining
 pub mod Exchanging
 pub mod Trees
 pub mod Cores

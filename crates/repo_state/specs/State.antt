@@ -1,9 +1,13 @@
 -- What contracts see of a repository in a file, and what is always so of it.
---     State      header and history, how many stored entries are sealed, the records of the others, the room that was made, the manifests that are settled, what is told of the disk, and what it was opened with
+--     State      header and history, how many stored entries are sealed, the records of the others, the call at which a seal was cut off, the room that was made, the manifests that are settled, what is told of the disk, and what it was opened with
 --     IsQuiet opening      the disk fails no call on a file within the capacity;  HasNoFault h      nothing failed
 --     faults_in h      how many faults the history has
 --     IsSound opening h n m      what is so of the history, of which n stored entries are sealed, and of the disk of a repository that was opened so
+--     may_be_open left      the gate of a group whose seal was cut off so may stand open
+--     LeavesAfter header h n pending left m      a seal was cut off exactly where a breaking fault is held, and by the call that failed a crash now leaves what is sealed alone, or this and all that waited
+--     LeavesNow s      so it is of a state
 --     Agrees header h n journal m      the journal's file is that of the sealed part, and the records of the rest wait in it
+--     laid s      the bytes of the file with those that wait behind them
 --     HasFaultRoom h n room      while something waits there is room for the fault that its sealing may meet
 --     IsAllSealed h n      all is sealed, unless a breaking fault is held
 --     IsSealedAlone h n      and also then all but one entry at most, that of the change which met the fault
@@ -11,19 +15,22 @@
 --     breaks failed h, after_seal who failed h      a seal that failed met a breaking fault, and the history after it
 --     entered_answer result      the answer to a change that was entered or refused
 --     opening_of header journal first      what it was opened with, by what the journal keeps and the disk as it was then
-use Rattle.std.specs.Prelude.{◌≡◌, ◌⊎◌, ℕ, ◌+◌, ◌-◌, ◌^◌, ◌≤◌, ◌<◌, Bool, true, false, not, ◌&&◌, if◌then◌else◌, IsTrue, List, [], ◌∷◌, ◌++◌, length, filter, MatchOption, Result, Ok, Err}
+use Rattle.std.specs.Prelude.{◌≡◌, ◌⊎◌, ℕ, ◌+◌, ◌-◌, ◌^◌, ◌≤◌, ◌<◌, Bool, true, false, not, ◌&&◌, if◌then◌else◌, is_some, IsTrue, List, [], ◌∷◌, ◌++◌, length, filter, MatchOption, Option, None, Some, Result, Ok, Err}
 use Rattle.std.specs.List.{AllByRecursion}
+use Rattle.disk_model.specs.Images.{IsImage}
 use Rattle.disk_model.specs.Meaning.{Meaning, IsLong}
 use Rattle.disk_model.specs.Calls.{Kept}
 use Rattle.history_model.specs.History.{Fault, Entry, bodies, is_down, is_stored, unnumbered}
-use Rattle.history_model.specs.Journal.{Header, size}
+use Rattle.history_model.specs.Journal.{Header, HoldsParts, Stands, size}
 use Rattle.reply_model.specs.Legal.{IsLegal}
 use Rattle.reply_model.specs.After.{Answer, Grants, entry_by}
 use Rattle.repo_calls.specs.declared.ask.Granted.{Granted}
 use Rattle.repo_calls.specs.declared.refusal.Refusal.{Refusal}
 use Rattle.repo_calls.specs.Calls.{granted_seen, refused}
-use Rattle.repo_journal.specs.Groups.{PendingView}
+use Rattle.repo_journal.specs.Cuts.{HoldsGroup, opens}
+use Rattle.repo_journal.specs.Groups.{PendingView, with_group}
 use Rattle.repo_journal.specs.View.{JournalView}
+use Rattle.repo_journal.specs.declared.cut.Cut.{Cut}
 use Rattle.repo_journal.specs.declared.opening.Opening as journal
 use Rattle.repo_machine.specs.Held.{Room}
 use Rattle.node_table.specs.Table.{Table}
@@ -35,6 +42,7 @@ pub record State : Type 0 where
   pub history : List Entry
   pub sealed : ℕ
   pub pending : PendingView
+  pub left : Option Cut
   pub room : Room
   pub table : Table
   pub disk : Meaning
@@ -66,15 +74,32 @@ pub record IsSound (opening : Opening) (h : List Entry) (n : ℕ) (m : Meaning) 
   pub most : m.faults ≤ 2 ^ 64 - 1
   pub leaves : IsTrue m.honest → Leaves opening.header opening.length opening.moment h n opening.disk m
 
+abbrev pub may_be_open : Option Cut → Bool
+may_be_open None = false
+may_be_open (Some cut) = opens cut
+
+pub record LeavesAfter (header : Header) (h : List Entry) (n : ℕ) (pending : List ℕ) (left : Option Cut) (m : Meaning) : Type 0 where
+  pub broken_is : is_some left ≡ is_down h
+  pub now : IsTrue m.honest → (image : List ℕ) → IsImage m.state image → Stands header image (sealed_part n h) ⊎ (IsTrue (may_be_open left) × Stands header image h)
+  -- the gate is opened once the group is on the disk behind it
+  pub holds : IsTrue (may_be_open left) → IsTrue m.honest → HoldsGroup (size (sealed_part n h)) pending m.state
+
+abbrev pub LeavesNow : State → Type 0
+LeavesNow s = LeavesAfter s.header s.history s.sealed s.pending.bytes s.left s.disk
+
 pub record Agrees (header : Header) (h : List Entry) (n : ℕ) (journal : JournalView) (m : Meaning) : Type 0 where
   pub capacity_is : journal.capacity ≡ header.capacity
   -- with what waits it fits
   pub fits : size h ≤ header.capacity
   pub size_is : journal.size ≡ size (sealed_part n h)
-  pub broken_is : journal.broken ≡ is_down h
+  pub left : LeavesAfter header h n journal.pending.bytes journal.broken m
   pub long : IsLong m.reads journal.size
   -- also once it is down
   pub waits : IsPending h n journal.pending.bytes
+  -- with what waits it has bytes of each whole's parts that have its id
+  pub holds : IsTrue m.honest → AllByRecursion (HoldsParts (with_group journal.size journal.pending.bytes m.state.reads) (bodies h)) (bodies h)
+  -- until a call of the disk fails, a crash leaves what reads give
+  pub stable : IsTrue m.honest → is_down h ≡ false → (image : List ℕ) → IsImage m.state image → image ≡ m.state.reads
 
 abbrev pub HasFaultRoom : List Entry → ℕ → Room → Type 0
 HasFaultRoom h n room = is_down h ≡ false → n < length (bodies h) → 1 ≤ room.entries
@@ -84,6 +109,9 @@ IsAllSealed h n = is_down h ≡ false → length (bodies h) ≤ n
 
 abbrev pub IsSealedAlone : List Entry → ℕ → Type 0
 IsSealedAlone h n = IsAllSealed h n × (length (bodies h) ≤ n + 1)
+
+abbrev pub laid : State → List ℕ
+laid s = with_group (size (sealed_part s.sealed s.history)) s.pending.bytes s.disk.state.reads
 
 abbrev pub HasRecordRoom : State → ℕ → Type 0
 HasRecordRoom s length = length ≤ s.pending.room

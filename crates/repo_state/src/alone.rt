@@ -1,17 +1,18 @@
 //! A repository that is served alone.
-ghost use Rattle.std.specs.Prelude.{◌≡◌, ◌≤◌, IsTrue, IfOk, false, length};
+ghost use Rattle.std.specs.Prelude.{◌≡◌, ◌≤◌, ◌||◌, IsTrue, IfOk, false, length};
 ghost use Rattle.ports.specs.Faults.{Counts};
-ghost use Rattle.disk_model.specs.Calls.{Kept};
+ghost use Rattle.disk_model.specs.Calls.{Kept, Looked};
 ghost use Rattle.history_model.specs.History.{bodies};
 ghost use Rattle.bookmark_lock.specs.Opening.{Opening};
 ghost use Rattle.repo_calls.proofs.Honest.{honestly};
 ghost use Rattle.repo_calls.specs.Calls.{call_seen, granted_seen};
 ghost use Rattle.repo_calls.specs.Asking.{stored_answer, is_disk_fault, is_misread, is_unread};
 ghost use Rattle.repo_calls.specs.Replying.{Honestly};
+ghost use Rattle.repo_state.specs.Asking.{is_join};
 ghost use Rattle.repo_state.specs.Alone.{RepliesAlone, replying_alone};
 ghost use Rattle.repo_state.specs.Cores.{StoresCallAlone};
 ghost use Rattle.repo_state.specs.Images.{LeavesChange};
-ghost use Rattle.repo_state.specs.State.{IsSealedAlone, IsSound};
+ghost use Rattle.repo_state.specs.State.{IsSealedAlone, IsSound, LeavesNow};
 ghost use Rattle.repo_state.specs.Trees.{LandsAs};
 
 use crate::state::RepoState;
@@ -59,41 +60,50 @@ impl<D: Disk> Alone<D> {
         self.state
     }
 
-    /// Makes a change, and seals its entry, if it makes one, before it is answered. All memory is taken before the first call
-    /// of the disk, and a change without an entry leaves the disk alone.
+    /// Makes a change, and seals its entry, if it makes one, before it is answered. All memory but that for the entry of
+    /// joined contents is taken before the first call of the disk, and a change without an entry leaves the disk alone, unless
+    /// contents were read for it.
     pub fn store(&mut self, alloc: Global, ask: &Ask) -> Result<Granted, ChangeFault>
         ensures reply { RepliesAlone self.old.header self.old.history 0 (call_seen ask.now) (stored_answer result) self.new.history }
         ensures header { self.new.header ≡ self.old.header }
         ensures opening { self.new.opening ≡ self.old.opening }
         ensures table { self.new.table ≡ self.old.table }
         ensures sound { IsSound self.new.opening self.new.history self.new.sealed self.new.disk }
+        ensures leaves_now { LeavesNow self.new }
 
         // What is granted is sealed.
         ensures sealed { IfOk result (λ granted. length (bodies self.new.history) ≤ self.new.sealed) }
 
-        // A change that is refused, and one that makes no entry, leave all as it was.
-        ensures same { is_disk_fault result ≡ false → self.new.history ≡ self.old.history → self.new.disk ≡ self.old.disk }
+        // A change that is refused, and one that makes no entry, leave all as it was. For contents that are to be joined the
+        // disk was read.
+        ensures same { is_join (call_seen ask.now) ≡ false → is_disk_fault result ≡ false → self.new.history ≡ self.old.history → self.new.disk ≡ self.old.disk }
+        ensures looked { is_disk_fault result ≡ false → self.new.history ≡ self.old.history → Looked self.old.disk self.new.disk }
 
         // Each image stood for the history before or after.
         ensures leaves { IsTrue self.old.disk.honest → LeavesChange self.old.header self.old.history self.new.history self.old.disk self.new.disk }
         ensures kept { Kept self.old.disk self.new.disk }
 
-        // The disk fails the change only where a call of it failed, and no content is read for one.
-        ensures faults { Counts self.old.disk.faults self.new.disk.faults (is_disk_fault result) }
-        ensures read { (is_unread result ≡ false) × (is_misread result ≡ false) }
+        // The disk fails the change only where a call of it failed.
+        ensures faults { Counts self.old.disk.faults self.new.disk.faults (is_disk_fault result || is_unread result) }
+
+        // Only contents that are to be joined are read. Those of another id are what the disk gave, which an honest disk never
+        // does.
+        ensures read { is_join (call_seen ask.now) ≡ false → (is_unread result ≡ false) × (is_misread result ≡ false) }
+        ensures honest { IsTrue self.old.disk.honest → is_misread result ≡ false }
 
         // Where a stack lands, the new head's tree has what it sets, and else what the old head's has, in which no path that
         // the stack touches was changed since the root.
         ensures lands { IfOk result (λ granted. LandsAs (call_seen ask.now) (granted_seen granted) self.old.history self.new.history) }
 
         // It is these steps of the repository of many seats.
-        ensures core { StoresCallAlone self.old.header self.old.history self.old.sealed (call_seen ask.now) (stored_answer result) self.new.history self.new.sealed }
+        ensures core { StoresCallAlone self.old.header self.old.history self.old.sealed self.old.left (call_seen ask.now) (stored_answer result) self.new.history self.new.sealed self.new.left }
     {
-        // What is sealed is stored.
+        // What is sealed is stored, and the header is that of the opening.
         let _stored = self.state.stored_length();
+        let _length = self.state.history_length();
         let granted = match self.state.store(alloc, 0, ask) {
             Ok(granted) => granted,
-            Err(refusal) => return Err(ChangeFault::Refused(refusal)),
+            Err(fault) => return Err(fault),
         };
         let stored = self.state.stored_length();
         match self.state.seal(0, stored) {

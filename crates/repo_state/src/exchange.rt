@@ -5,7 +5,7 @@ ghost use Rattle.repo_machine.specs.Held.{HasRoom};
 ghost use Rattle.repo_machine.specs.Plans.{WasPlanned, frame_size, landing_in};
 ghost use Rattle.repo_state.specs.Cores.{ExchangesSo};
 ghost use Rattle.repo_state.specs.Exchanging.{Exchanges};
-ghost use Rattle.repo_state.specs.State.{HasRecordRoom, IsSound};
+ghost use Rattle.repo_state.specs.State.{HasRecordRoom, IsSound, LeavesNow};
 ghost use Rattle.repo_state.specs.Trees.{LandsSo};
 
 use crate::exchanged::Exchanged;
@@ -29,6 +29,8 @@ impl<D: Disk> RepoState<D> {
         ensures sealed { self.new.sealed ≡ self.old.sealed }
         ensures disk { self.new.disk ≡ self.old.disk }
         ensures sound { IsSound self.new.opening self.new.history self.new.sealed self.new.disk }
+        ensures left { self.new.left ≡ self.old.left }
+        ensures leaves_now { LeavesNow self.new }
 
         // Where the stack lands, the new head's tree has what it sets, and else what the old head's has, in which no path that
         // the stack touches was changed since the root.

@@ -1,16 +1,16 @@
-//! Reads bytes of a file and compares their digest.
-ghost use Rattle.std.specs.Prelude.{◌≡◌, ◌≢◌, ◌≤◌, ◌<◌, ◌+◌, ◌-◌, false, length, take, drop, is_err, IfOk, IfErr, IsOk, IsSome};
+//! Reads bytes of a file.
+ghost use Rattle.std.specs.Prelude.{◌≡◌, ◌≤◌, ◌<◌, ◌+◌, ◌-◌, false, length, take, drop, sum_by, is_err, IfOk, IfSome, IsSome, IsTrue, OnOk};
 ghost use Rattle.std.specs.Option.{ForSome};
+ghost use Rattle.std.specs.List.{All};
+ghost use Rattle.byte_fields.specs.Bytes.{IsBytes};
 ghost use Rattle.ports.specs.Faults.{Counts};
-ghost use Rattle.sha2.specs.Sha256.{sha256};
 ghost use Rattle.disk_model.specs.Images.{IsImage};
 ghost use Rattle.disk_model.specs.Meaning.{IsLong};
 ghost use Rattle.disk_model.specs.Calls.{Kept, LeavesOnly, Looked};
-ghost use Rattle.repo_calls.specs.Asking.{is_early};
+ghost use Rattle.repo_state.specs.Filling.{AreFilled, IsPartWithin, IsPlaceWithin, part_len};
 
 use blob_disk::Disk;
-use object_id::Id;
-use repo_calls::AskFault;
+use content_table::{Part, Place};
 use repo_journal::{DiskFault, Journal};
 
 // As many bytes as the buffer has, from this place on: those of the file, or those that wait behind it.
@@ -42,15 +42,64 @@ pub(crate) fn fill<D: Disk>(
     }
 }
 
-/// The bytes, if they have the id that is wanted.
-pub fn check_digest(bytes: Vec<u8>, wanted: Id) -> Result<Vec<u8>, AskFault>
-    ensures ok { IfOk result (λ same. (same.items ≡ bytes.items) × (sha256 bytes.items ≡ wanted)) }
-    ensures asked { is_early result ≡ false }
-    ensures err { IfErr result (λ fault. (fault ≡ AskFault.BadBytes wanted (sha256 bytes.items)) × (sha256 bytes.items ≢ wanted)) }
+// How many bytes the parts have, where so many can be counted.
+pub(crate) fn total(parts: &[Part]) -> Option<u64>
+    ensures { IfSome result (λ n. n ≡ sum_by part_len parts.now) }
 {
-    let found = Id::of(&bytes);
-    if found != wanted {
-        return Err(AskFault::BadBytes { wanted, found });
+    let mut sum = 0_u64;
+    for part in parts {
+        sum = sum.checked_add(part.place.length)?;
     }
-    Ok(bytes)
+    Some(sum)
+}
+
+// Fills a buffer of as many bytes with those of the parts, one behind another.
+pub(crate) fn fill_parts<D: Disk>(
+    journal: &Journal,
+    disk: &mut D,
+    parts: &[Part],
+    buffer: &mut [u8],
+) -> Result<(), DiskFault>
+    requires within { All (IsPartWithin journal.now) parts.now }
+    requires total { length buffer.old ≡ sum_by part_len parts.now }
+    requires long { IsLong (D.meaning disk.old).reads journal.now.size }
+    ensures filled { OnOk result (AreFilled journal.now (D.meaning disk.old) parts.now buffer.new) }
+    ensures looked { Looked (D.meaning disk.old) (D.meaning disk.new) }
+    ensures kept { Kept (D.meaning disk.old) (D.meaning disk.new) }
+    ensures leaves { IsTrue (D.meaning disk.old).honest → LeavesOnly (IsImage (D.meaning disk.new).state) (D.meaning disk.old) (D.meaning disk.new) }
+    ensures faults { Counts (D.meaning disk.old).faults (D.meaning disk.new).faults (is_err result) }
+    ensures quiet { IsSome (D.meaning disk.old).quiet → is_err result ≡ false }
+{
+    let mut done = 0;
+    for part in parts {
+        fill_place(journal, disk, part.place, buffer, done)?;
+        done += part.place.length as usize;
+    }
+    Ok(())
+}
+
+// The bytes at a place, put into the buffer from this one of its bytes on.
+fn fill_place<D: Disk>(
+    journal: &Journal,
+    disk: &mut D,
+    place: Place,
+    buffer: &mut [u8],
+    from: usize,
+) -> Result<(), DiskFault>
+    requires room { from + place.length ≤ length buffer.old }
+    requires within { IsPlaceWithin journal.now place }
+    requires long { IsLong (D.meaning disk.old).reads journal.now.size }
+    ensures before { OnOk result (take from buffer.new ≡ take from buffer.old) }
+    ensures length { length buffer.new ≡ length buffer.old }
+    ensures bytes { OnOk result (IsBytes (take place.length (drop from buffer.new))) }
+    ensures there { OnOk result (place.at < journal.now.size → ForSome (D.meaning disk.old).reads (λ file. take place.length (drop from buffer.new) ≡ take place.length (drop place.at file))) }
+    ensures waiting { OnOk result (journal.now.size ≤ place.at → take place.length (drop from buffer.new) ≡ take place.length (drop (place.at - journal.now.size) journal.now.pending.bytes)) }
+    ensures looked { Looked (D.meaning disk.old) (D.meaning disk.new) }
+    ensures kept { Kept (D.meaning disk.old) (D.meaning disk.new) }
+    ensures leaves { LeavesOnly (IsImage (D.meaning disk.new).state) (D.meaning disk.old) (D.meaning disk.new) }
+    ensures faults { Counts (D.meaning disk.old).faults (D.meaning disk.new).faults (is_err result) }
+    ensures quiet { IsSome (D.meaning disk.old).quiet → is_err result ≡ false }
+{
+    let end = from + place.length as usize;
+    journal.read(disk, place.at, &mut buffer[from..end])
 }

@@ -1,5 +1,5 @@
 //! Laws of a repository in a file, each the contract of a function that does nothing.
-ghost use Rattle.std.specs.Prelude.{◌≡◌, ℕ, ◌≤◌, true, IsTrue, List, length, Some};
+ghost use Rattle.std.specs.Prelude.{◌≡◌, ℕ, ◌≤◌, true, IsTrue, List, length, Option, Some};
 ghost use Rattle.std.specs.List.{AllByRecursion};
 ghost use mathlib.Core.List.{IsPrefix};
 ghost use Rattle.disk_model.specs.Images.{IsImage};
@@ -12,13 +12,19 @@ ghost use Rattle.landing_core.specs.Settled.{leaves_manifests};
 ghost use Rattle.node_table.specs.Table.{Table};
 ghost use Rattle.manifest_store.specs.Manifests.{AreManifests};
 ghost use Rattle.bookmark_lock.specs.Opening.{Opening};
-ghost use Rattle.repo_state.specs.Cores.{CrashesOf, ShowsTable};
+ghost use Rattle.repo_journal.specs.declared.cut.Cut.{Cut};
+ghost use Rattle.repo_state.specs.Cores.{CrashesOf, ShowsLeft, ShowsTable, leaves_gate};
 ghost use Rattle.repo_state.specs.Images.{sealed_part};
-ghost use Rattle.repo_state.specs.State.{IsSound};
+ghost use Rattle.repo_state.specs.State.{IsSound, LeavesAfter};
 
-/// What a crash may leave of the file on an honest disk is what a crash of the repository of many seats leaves: of each state that shows the history, but that its group may be left over with the gate open or not where a breaking fault is in it.
+/// What a crash may leave of the file on an honest disk is what a crash of the repository of many seats leaves: of each state that shows the history and, where a seal failed, the group that is left over with its gate as the call that failed leaves it.
 pub fn a_crash_of_the_file_is_one_of_the_core()
-    ensures { (opening : Opening) (h : List Entry) (n : ℕ) (m : Meaning) (s : State) → IsSound opening h n m → IsTrue m.honest → Shows h n s → CrashesOf opening.header h n m s }
+    ensures { (header : Header) (h : List Entry) (n : ℕ) (pending : List ℕ) (left : Option Cut) (m : Meaning) (s : State) → LeavesAfter header h n pending left m → IsTrue m.honest → Shows h n s → ShowsLeft left s → CrashesOf header m s }
+{}
+
+/// Steps that seal nothing and are no crash leave the group that is left over, with its gate as it was.
+pub fn other_steps_leave_the_gate()
+    ensures { (header : Header) (left : Option Cut) (steps : List Step) (s after : State) → AllByRecursion (λ step. leaves_gate step ≡ true) steps → after_steps header s steps ≡ Some after → ShowsLeft left s → ShowsLeft left after }
 {}
 
 /// Steps that neither take nor settle a job leave what is shown of a table, also where more becomes known.

@@ -2,18 +2,22 @@
 #![tactic(auto)]
 
 pub mod alone;
+pub mod content_reads;
 pub mod counts;
 pub mod derived;
 pub mod exchange;
 pub mod exchanged;
+pub mod file_version;
 pub mod fill;
 pub mod group_images;
+mod joining;
 pub mod landing_laws;
 pub mod laws;
 pub mod look;
 pub mod manifests;
 pub mod plan;
 pub mod plan_again;
+pub mod read_content;
 pub mod seal;
 pub mod seats;
 pub mod state;
@@ -22,5 +26,5 @@ pub mod store;
 pub use alone::Alone;
 pub use derived::settle_fault;
 pub use exchanged::Exchanged;
-pub use fill::check_digest;
+pub use read_content::{ReadContent, check_digest};
 pub use state::RepoState;

@@ -2,21 +2,19 @@
 ghost use Rattle.std.specs.Prelude.{◌≡◌, IsTrue, true, false, not, Some, IfOk, IfErr};
 ghost use Rattle.std.specs.Arc.{arc_value};
 ghost use Rattle.ports.specs.Faults.{Counts};
-ghost use Rattle.sha2.specs.Sha256.{sha256};
 ghost use Rattle.disk_model.specs.Images.{IsImage};
 ghost use Rattle.disk_model.specs.Calls.{Kept, LeavesOnly, Looked};
 ghost use Rattle.history_model.specs.Bookmark.{head};
 ghost use Rattle.history_model.specs.History.{changeset_of, known};
 ghost use Rattle.reply_model.specs.After.{Answer, Answers, Looks, Replies, nothing};
-ghost use Rattle.reply_model.specs.Reply.{ChangesetOf, ContentOf, CopiesOf, LogFrom, PolicyOf};
-ghost use Rattle.repo_calls.specs.Asking.{bytes_answer, fault_answer, is_bad_bytes, is_early, is_read_fault, IsAnswer, question_seen, reads_file};
-ghost use Rattle.repo_state.specs.Asking.{IsReadFor, IsUnsealed, TellsDigest};
+ghost use Rattle.reply_model.specs.Reply.{ChangesetOf, CopiesOf, LogFrom, PolicyOf};
+ghost use Rattle.repo_calls.specs.Asking.{fault_answer, is_bad_bytes, is_early, is_read_fault, IsAnswer, question_seen, reads_file};
+ghost use Rattle.repo_state.specs.Asking.{TellsDigest};
 ghost use Rattle.manifest_store.specs.Manifests.{AreManifests};
 ghost use Rattle.repo_state.specs.Cores.{LooksSo};
 ghost use Rattle.repo_state.specs.Manifests.{StaySettled, asks_manifest};
-ghost use Rattle.repo_state.specs.State.{IsSound};
+ghost use Rattle.repo_state.specs.State.{IsSound, LeavesNow};
 
-use crate::fill::{check_digest, fill};
 use crate::state::RepoState;
 use blob_disk::Disk;
 use bonsai::{Commit, encode};
@@ -35,11 +33,13 @@ impl<D: Disk> RepoState<D> {
         ensures opening { self.new.opening ≡ self.old.opening }
         ensures sealed { self.new.sealed ≡ self.old.sealed }
         ensures sound { IsSound self.new.opening self.new.history self.new.sealed self.new.disk }
+        ensures left { self.new.left ≡ self.old.left }
+        ensures leaves_now { LeavesNow self.new }
         ensures looked { Looked self.old.disk self.new.disk }
-        ensures leaves { LeavesOnly (IsImage self.new.disk.state) self.old.disk self.new.disk }
+        ensures leaves { IsTrue self.old.disk.honest → LeavesOnly (IsImage self.new.disk.state) self.old.disk self.new.disk }
         ensures kept { Kept self.old.disk self.new.disk }
         ensures faults { Counts self.old.disk.faults self.new.disk.faults (is_read_fault result) }
-        ensures found { TellsDigest self.old.disk self.old.history result }
+        ensures found { TellsDigest self.old.disk self.old.history self.old.sealed result }
         ensures honest { IsTrue self.old.disk.honest → is_bad_bytes result ≡ false }
 
         // The disk isn't asked where something is missing, nor for what is known.
@@ -159,98 +159,6 @@ impl<D: Disk> RepoState<D> {
             Ok(Some(commit)) => Ok(commit),
             Ok(None) => Err(AskFault::NoChangeset { id }),
             Err(_) => Err(AskFault::Memory),
-        }
-    }
-
-    /// The bytes of a content, read from the file, or from memory where its record waits. Where the disk fails to read,
-    /// that is entered as a fault that the seat `who` met.
-    pub fn content(&mut self, alloc: Global, who: u64, id: Id) -> Result<Vec<u8>, AskFault>
-        ensures reply { Replies self.old.header self.old.history who (Looks (ContentOf id)) (bytes_answer result) self.new.history }
-        ensures header { self.new.header ≡ self.old.header }
-        ensures opening { self.new.opening ≡ self.old.opening }
-        ensures sealed { self.new.sealed ≡ self.old.sealed }
-        ensures table { self.new.table ≡ self.old.table }
-        ensures sound { IsSound self.new.opening self.new.history self.new.sealed self.new.disk }
-        ensures looked { Looked self.old.disk self.new.disk }
-        ensures leaves { LeavesOnly (IsImage self.new.disk.state) self.old.disk self.new.disk }
-        ensures kept { Kept self.old.disk self.new.disk }
-
-        // The disk fails it only where a call of it failed.
-        ensures faults { Counts self.old.disk.faults self.new.disk.faults (is_read_fault result) }
-
-        // Bytes of another id are what the disk gave, which an honest disk never does.
-        ensures found { TellsDigest self.old.disk self.old.history result }
-        ensures honest { IsTrue self.old.disk.honest → is_bad_bytes result ≡ false }
-
-        // Where there is no such content or no memory, the disk isn't asked.
-        ensures early { IsTrue (is_early result) → self.new.disk ≡ self.old.disk }
-
-        // Nor is it for a content that waits, which always has its digest.
-        ensures waiting { IsUnsealed self.old.history self.old.sealed id → self.new.disk ≡ self.old.disk }
-        ensures waits { IsUnsealed self.old.history self.old.sealed id → (is_read_fault result ≡ false) × (is_bad_bytes result ≡ false) }
-
-        // It is a step of the repository of many seats.
-        ensures core { LooksSo self.old.header self.old.history self.old.sealed who (not (is_read_fault result)) self.new.history }
-    {
-        match self.content_unchecked(alloc, who, id) {
-            Ok(bytes) => check_digest(bytes, id),
-            Err(fault) => Err(fault),
-        }
-    }
-
-    /// The bytes that stand for a content in the file, or in memory where its record waits. Whether they have its id is left
-    /// to `check_digest`, which can be called where nobody waits for the repository. Where the disk fails to read, that is
-    /// entered as a fault that the seat `who` met.
-    pub fn content_unchecked(
-        &mut self,
-        alloc: Global,
-        who: u64,
-        id: Id,
-    ) -> Result<Vec<u8>, AskFault>
-        ensures ok { IfOk result (λ bytes. IsReadFor self.old.disk self.old.history self.old.sealed id bytes.items) }
-        ensures same { IfOk result (λ bytes. self.new.history ≡ self.old.history) }
-        ensures err { IfErr result (λ fault. Replies self.old.header self.old.history who (Looks (ContentOf id)) (fault_answer fault) self.new.history) }
-        ensures unchecked { is_bad_bytes result ≡ false }
-        ensures header { self.new.header ≡ self.old.header }
-        ensures opening { self.new.opening ≡ self.old.opening }
-        ensures sealed { self.new.sealed ≡ self.old.sealed }
-        ensures table { self.new.table ≡ self.old.table }
-        ensures sound { IsSound self.new.opening self.new.history self.new.sealed self.new.disk }
-        ensures looked { Looked self.old.disk self.new.disk }
-        ensures leaves { LeavesOnly (IsImage self.new.disk.state) self.old.disk self.new.disk }
-        ensures kept { Kept self.old.disk self.new.disk }
-
-        // The disk fails it only where a call of it failed.
-        ensures faults { Counts self.old.disk.faults self.new.disk.faults (is_read_fault result) }
-
-        // An honest disk gives the bytes of the content.
-        ensures honest { IsTrue self.old.disk.honest → IfOk result (λ bytes. sha256 bytes.items ≡ id) }
-
-        // Where there is no such content or no memory, the disk isn't asked.
-        ensures early { IsTrue (is_early result) → self.new.disk ≡ self.old.disk }
-
-        // Nor is it for a content that waits.
-        ensures waiting { IsUnsealed self.old.history self.old.sealed id → self.new.disk ≡ self.old.disk }
-        ensures waits { IsUnsealed self.old.history self.old.sealed id → is_read_fault result ≡ false }
-
-        // It is a step of the repository of many seats.
-        ensures core { LooksSo self.old.header self.old.history self.old.sealed who (not (is_read_fault result)) self.new.history }
-    {
-        let Some(place) = self.machine.content_place(&id) else {
-            return Err(AskFault::NoContent { id });
-        };
-        if self.machine.room(2).is_err() {
-            return Err(AskFault::Memory);
-        }
-        let Ok(bytes) = vec![in alloc; 0; place.length as usize] else {
-            return Err(AskFault::Memory);
-        };
-        match fill(&self.journal, &mut self.disk, place.at, bytes) {
-            Ok(bytes) => Ok(bytes),
-            Err(_) => {
-                self.machine.fault(who, false);
-                Err(AskFault::ReadFault)
-            }
         }
     }
 }

@@ -5,7 +5,7 @@ ghost use Rattle.repo_machine.specs.Held.{HasRoom};
 ghost use Rattle.repo_machine.specs.Landings.{IsLandingRefusal};
 ghost use Rattle.repo_machine.specs.Plans.{IsAllowed, IsPlan, frame_size, landing_in};
 ghost use Rattle.repo_state.specs.Cores.{Plans};
-ghost use Rattle.repo_state.specs.State.{HasRecordRoom};
+ghost use Rattle.repo_state.specs.State.{HasRecordRoom, LeavesNow};
 
 use crate::state::RepoState;
 use blob_disk::Disk;
@@ -43,6 +43,8 @@ impl<D: Disk> RepoState<D> {
         ensures opening { self.new.opening ≡ self.old.opening }
         ensures table { self.new.table ≡ self.old.table }
         ensures sealed { self.new.sealed ≡ self.old.sealed }
+        ensures left { self.new.left ≡ self.old.left }
+        ensures leaves_now { LeavesNow self.new }
         ensures room { OnOk result ((caller : Option (List ℕ)) → HasRoom self.new.room (Some (Land (landing_in rebased.now caller)))) }
         ensures record_room { OnOk result (HasRecordRoom self.new (frame_size rebased.now)) }
     {

@@ -6,13 +6,13 @@ ghost use Rattle.core_model.specs.Core.{opened};
 ghost use Rattle.landing_core.specs.Steps.{Shows};
 ghost use Rattle.node_table.specs.Table.{empty_table};
 ghost use Rattle.repo_journal.specs.Opened.{IsOpened};
-ghost use Rattle.repo_state.specs.Cores.{ShowsTable};
-ghost use Rattle.repo_state.specs.State.{IsSound, opening_of};
+ghost use Rattle.repo_state.specs.Cores.{ShowsLeft, ShowsTable};
+ghost use Rattle.repo_state.specs.State.{IsSound, LeavesNow, opening_of};
 
 use blob_disk::Disk;
 use bookmark_lock::Recorded;
 use manifest_store::ManifestStore;
-use repo_journal::Journal;
+use repo_journal::{Cut, Journal};
 use repo_machine::Machine;
 use std::alloc::Global;
 use std::marker::Model;
@@ -47,6 +47,7 @@ impl<D: Disk> Model for RepoState<D> {
       history = s.machine.history;
       sealed = s.sealed;
       pending = s.journal.pending;
+      left = s.journal.broken;
       room = s.machine.room;
       table = s.manifests;
       disk = D.meaning s.disk;
@@ -71,10 +72,12 @@ impl<D: Disk> RepoState<D> {
         ensures disk { result.disk ≡ D.meaning disk }
         ensures opening { result.opening ≡ opening_of machine.header journal.opening (D.meaning disk) }
         ensures sound { IsSound result.opening result.history result.sealed result.disk }
+        ensures leaves_now { LeavesNow result }
         ensures table { result.table ≡ empty_table }
 
         // As the repository of many seats begins.
         ensures core { Shows result.history result.sealed (opened result.history) }
+        ensures core_left { ShowsLeft result.left (opened result.history) }
         ensures core_table { ShowsTable (known result.history) result.table (opened result.history) }
     {
         let first = Snapshot::of(&disk);
@@ -95,6 +98,7 @@ impl<D: Disk> RepoState<D> {
     pub fn into_disk(self) -> D
         ensures disk { D.meaning result ≡ self.disk }
         ensures sound { IsSound self.opening self.history self.sealed self.disk }
+        ensures leaves_now { LeavesNow self }
     {
         self.disk
     }
@@ -106,11 +110,19 @@ impl<D: Disk> RepoState<D> {
         self.machine.down()
     }
 
+    /// Which call of the disk failed in a seal, if one did.
+    pub fn left(&self) -> Option<Cut>
+        ensures { result ≡ self.now.left }
+    {
+        self.journal.broken()
+    }
+
     /// How many entries the history has, with its faults.
     pub fn history_length(&self) -> u64
         ensures length { result ≡ length self.now.history }
         ensures header { self.now.header ≡ self.now.opening.header }
         ensures sound { IsSound self.now.opening self.now.history self.now.sealed self.now.disk }
+        ensures leaves_now { LeavesNow self.now }
     {
         self.machine.history_length()
     }

@@ -1,69 +1,145 @@
 //! Changes.
-ghost use Rattle.std.specs.Prelude.{◌≡◌, IfOk};
-ghost use Rattle.reply_model.specs.After.{Replies};
+ghost use Rattle.std.specs.Prelude.{◌≡◌, false, true, IfOk, IsTrue};
+ghost use Rattle.ports.specs.Faults.{Counts};
+ghost use Rattle.disk_model.specs.Images.{IsImage};
+ghost use Rattle.disk_model.specs.Calls.{Kept, LeavesOnly, Looked};
+ghost use Rattle.history_model.specs.History.{is_down};
+ghost use Rattle.reply_model.specs.After.{Asks, Replies};
+ghost use Rattle.reply_model.specs.Reply.{Ask as ModelAsk};
+ghost use Rattle.repo_calls.specs.Asking.{is_disk_fault, is_misread, is_unread, stored_answer};
 ghost use Rattle.repo_calls.specs.Calls.{call_seen, granted_seen};
+ghost use Rattle.repo_machine.specs.Entering.{Judges};
 ghost use Rattle.repo_machine.specs.Prepared.{IsPrepared, asked_by};
+ghost use Rattle.repo_state.specs.Asking.{is_join};
 ghost use Rattle.repo_state.specs.Cores.{StoresCall};
-ghost use Rattle.repo_state.specs.State.{IsSound, entered_answer};
+ghost use Rattle.repo_state.specs.Joining.{Holds};
+ghost use Rattle.repo_state.specs.State.{IsSound, LeavesNow, entered_answer};
 ghost use Rattle.repo_state.specs.Trees.{LandsAs};
 
 use crate::state::RepoState;
 use blob_disk::Disk;
-use repo_calls::{Ask, Granted, Refusal};
-use repo_machine::{Prepared, prepare};
+use repo_calls::{Ask, ChangeFault, Granted, Refusal};
+use repo_machine::{Found, Judged, Prepared, prepare};
 use std::alloc::Global;
 
 impl<D: Disk> RepoState<D> {
     /// Makes a change that the seat `who` asks for. The entry that it makes, if it makes one, waits to be sealed. All memory
-    /// is taken before it is entered, and the disk isn't asked.
-    pub fn store(&mut self, alloc: Global, who: u64, ask: &Ask) -> Result<Granted, Refusal>
-        ensures reply { Replies self.old.header self.old.history who (call_seen ask.now) (entered_answer result) self.new.history }
+    /// is taken before it is entered. The disk is asked for contents that are to be joined, and for nothing else: where it
+    /// fails to read them, that is entered as a fault that the seat met.
+    pub fn store(&mut self, alloc: Global, who: u64, ask: &Ask) -> Result<Granted, ChangeFault>
+        ensures reply { Replies self.old.header self.old.history who (call_seen ask.now) (stored_answer result) self.new.history }
         ensures header { self.new.header ≡ self.old.header }
         ensures opening { self.new.opening ≡ self.old.opening }
         ensures table { self.new.table ≡ self.old.table }
         ensures sealed { self.new.sealed ≡ self.old.sealed }
-        ensures disk { self.new.disk ≡ self.old.disk }
         ensures sound { IsSound self.new.opening self.new.history self.new.sealed self.new.disk }
+        ensures left { self.new.left ≡ self.old.left }
+        ensures leaves_now { LeavesNow self.new }
+        ensures looked { Looked self.old.disk self.new.disk }
+        ensures leaves { IsTrue self.old.disk.honest → LeavesOnly (IsImage self.new.disk.state) self.old.disk self.new.disk }
+        ensures kept { Kept self.old.disk self.new.disk }
+
+        // What is stored waits, so nothing fails to be stored. A read fails it only where a call of the disk failed.
+        ensures undone { is_disk_fault result ≡ false }
+        ensures faults { Counts self.old.disk.faults self.new.disk.faults (is_unread result) }
+
+        // Bytes of another id are what the disk gave, which an honest disk never does.
+        ensures honest { IsTrue self.old.disk.honest → is_misread result ≡ false }
+
+        // Once nothing more is stored, nothing is read for it.
+        ensures down { is_down self.old.history ≡ true → self.new.disk ≡ self.old.disk }
+
+        // Only contents that are to be joined are read.
+        ensures disk { is_join (call_seen ask.now) ≡ false → self.new.disk ≡ self.old.disk }
+        ensures read { is_join (call_seen ask.now) ≡ false → (is_unread result ≡ false) × (is_misread result ≡ false) }
 
         // Where a stack lands, the new head's tree has what it sets, and else what the old head's has, in which no path that
         // the stack touches was changed since the root.
         ensures lands { IfOk result (λ granted. LandsAs (call_seen ask.now) (granted_seen granted) self.old.history self.new.history) }
 
         // It is these steps of the repository of many seats.
-        ensures core { StoresCall self.old.header self.old.history self.old.sealed who (call_seen ask.now) (entered_answer result) self.new.history }
+        ensures core { StoresCall self.old.header self.old.history self.old.sealed who (call_seen ask.now) (stored_answer result) self.new.history }
     {
         // It keeps its rules.
         let _ = &self.disk;
         match prepare(alloc, ask) {
             Ok(prepared) => self.store_prepared(alloc, who, prepared),
-            Err(_) => Err(Refusal::Memory),
+            Err(_) => Err(ChangeFault::Refused(Refusal::Memory)),
         }
     }
 
-    /// Makes a change of which this is ready, as `store` does. No upload is hashed, decoded or encoded here, and no policy is read.
+    /// Makes a change of which this is ready, as `store` does. No upload is hashed, decoded or encoded here, and no policy is
+    /// read. Contents that are to be joined are hashed.
     pub fn store_prepared(
         &mut self,
         alloc: Global,
         who: u64,
         prepared: Prepared<'_>,
-    ) -> Result<Granted, Refusal>
+    ) -> Result<Granted, ChangeFault>
         requires prepared { IsPrepared prepared }
-        ensures reply { Replies self.old.header self.old.history who (asked_by prepared.entry) (entered_answer result) self.new.history }
+        ensures reply { Replies self.old.header self.old.history who (asked_by prepared.entry) (stored_answer result) self.new.history }
         ensures header { self.new.header ≡ self.old.header }
         ensures opening { self.new.opening ≡ self.old.opening }
         ensures table { self.new.table ≡ self.old.table }
         ensures sealed { self.new.sealed ≡ self.old.sealed }
-        ensures disk { self.new.disk ≡ self.old.disk }
         ensures sound { IsSound self.new.opening self.new.history self.new.sealed self.new.disk }
+        ensures left { self.new.left ≡ self.old.left }
+        ensures leaves_now { LeavesNow self.new }
+        ensures looked { Looked self.old.disk self.new.disk }
+        ensures leaves { IsTrue self.old.disk.honest → LeavesOnly (IsImage self.new.disk.state) self.old.disk self.new.disk }
+        ensures kept { Kept self.old.disk self.new.disk }
+
+        // What is stored waits, so nothing fails to be stored. A read fails it only where a call of the disk failed.
+        ensures undone { is_disk_fault result ≡ false }
+        ensures faults { Counts self.old.disk.faults self.new.disk.faults (is_unread result) }
+
+        // Bytes of another id are what the disk gave, which an honest disk never does.
+        ensures honest { IsTrue self.old.disk.honest → is_misread result ≡ false }
+
+        // Once nothing more is stored, nothing is read for it.
+        ensures down { is_down self.old.history ≡ true → self.new.disk ≡ self.old.disk }
+
+        // Only contents that are to be joined are read.
+        ensures disk { is_join (asked_by prepared.entry) ≡ false → self.new.disk ≡ self.old.disk }
+        ensures read { is_join (asked_by prepared.entry) ≡ false → (is_unread result ≡ false) × (is_misread result ≡ false) }
 
         // Where a stack lands, the new head's tree has what it sets, and else what the old head's has, in which no path that
         // the stack touches was changed since the root.
         ensures lands { IfOk result (λ granted. LandsAs (asked_by prepared.entry) (granted_seen granted) self.old.history self.new.history) }
 
         // It is these steps of the repository of many seats.
-        ensures core { StoresCall self.old.header self.old.history self.old.sealed who (asked_by prepared.entry) (entered_answer result) self.new.history }
+        ensures core { StoresCall self.old.header self.old.history self.old.sealed who (asked_by prepared.entry) (stored_answer result) self.new.history }
     {
-        let judged = self.machine.judge_prepared(alloc, who, prepared)?;
+        if let Some(body) = prepared.joins() {
+            return self.store_joined(alloc, who, body);
+        }
+        let judged = match self
+            .machine
+            .judge_prepared(alloc, who, prepared, Found::Nothing)
+        {
+            Ok(judged) => judged,
+            Err(refusal) => return Err(ChangeFault::Refused(refusal)),
+        };
+        match self.enter(judged) {
+            Ok(granted) => Ok(granted),
+            Err(refusal) => Err(ChangeFault::Refused(refusal)),
+        }
+    }
+
+    // Enters what was judged. Its record waits, if it makes an entry, for which memory is taken first.
+    pub(crate) fn enter(&mut self, judged: Judged) -> Result<Granted, Refusal>
+        requires judged { (ask : ModelAsk) × Judges self.old.header self.old.history self.old.room judged.who ask judged }
+        requires holds { Holds self.old judged.made }
+        ensures reply { (ask : ModelAsk) → Judges self.old.header self.old.history self.old.room judged.who ask judged → Replies self.old.header self.old.history judged.who (Asks ask) (entered_answer result) self.new.history }
+        ensures header { self.new.header ≡ self.old.header }
+        ensures opening { self.new.opening ≡ self.old.opening }
+        ensures table { self.new.table ≡ self.old.table }
+        ensures sealed { self.new.sealed ≡ self.old.sealed }
+        ensures disk { self.new.disk ≡ self.old.disk }
+        ensures sound { IsSound self.new.opening self.new.history self.new.sealed self.new.disk }
+        ensures left { self.new.left ≡ self.old.left }
+        ensures leaves_now { LeavesNow self.new }
+    {
         let Some(frame) = judged.frame() else {
             return Ok(self.machine.admit(judged));
         };

@@ -1,25 +1,28 @@
 -- From what a turn read to the answer.
-use Rattle.std.proofs.Common.{◌≡◌, ◌≢◌, ℕ, List, length, refl, sym, ap, ◌∙◌}
+use Rattle.std.proofs.Common.{◌≡◌, ◌≢◌, ℕ, List, refl, sym, ap, ◌∙◌}
 use Rattle.std.specs.Prelude.{Some, Vec, Result, Ok, Err, ok_or, IfOk, IfErr}
 use Rattle.sha2.specs.Sha256.{sha256}
 use Rattle.byte_fields.specs.Bytes.{Id}
 use Rattle.changeset_model.specs.Path.{Path}
 use Rattle.changeset_model.specs.Changeset.{Changeset, CopySource, copies_of, spelling}
-use Rattle.history_model.specs.History.{Entry, changeset_of, content_len, known}
+use Rattle.history_model.specs.History.{Entry, changeset_of, known}
 use Rattle.history_model.specs.Journal.{Header}
 use Rattle.reply_model.specs.Reply.{ContentOf, ChangesetOf, CopiesOf, SeenBytes, SeenCopies, AbsentChangeset, ◌>>=◌}
 use Rattle.reply_model.specs.After.{After, Answer, Answers, Looks, Shows, SeesMore, nothing}
 use Rattle.repo_calls.specs.declared.calls.AskFault.{AskFault}
-use Rattle.repo_calls.specs.declared.calls.AskFault.TheVariants.{BadBytes}
 use Rattle.repo_calls.specs.Asking.{IsAnswer, bytes_answer, fault_answer}
+use Rattle.repo_state.specs.Asking.{told_other}
+use Rattle.repo_state.specs.declared.read_content.ReadContent.{ReadContent}
 use Rattle.repo_state.proofs.Answered.{copies_answered, copies_not_seen}
 use Rattle.repo_state.proofs.Looking.{checked_answers}
+use Rattle.shared_repo.specs.Reading.{IsReadOf}
 use Rattle.shared_repo.proofs.Fronts.{after_nothing}
 
-pub after_checked : {A : Type 0} (header : Header) (old new : List Entry) (who : ℕ) (x : Id) (bytes : List ℕ) (result : Result (Vec ℕ A) AskFault) → SeesMore old who new → content_len new x ≡ Some (length bytes)
-    → IfOk result (λ same. (same.items ≡ bytes) × (sha256 bytes ≡ x)) → IfErr result (λ fault. (fault ≡ BadBytes x (sha256 bytes)) × (sha256 bytes ≢ x))
+pub after_checked : {A : Type 0} (header : Header) (old new : List Entry) (who : ℕ) (x : Id) (read : ReadContent) (result : Result (Vec ℕ A) AskFault) → SeesMore old who new → IsReadOf new x read
+    → IfOk result (λ same. (same.items ≡ read.bytes.items) × (sha256 read.bytes.items ≡ x)) → IfErr result (λ fault. (fault ≡ told_other x read.parts.items read.bytes.items) × (sha256 read.bytes.items ≢ x))
     → After header old who (Looks (ContentOf x)) (bytes_answer result) new
-after_checked header old new who x bytes result sees stored ok err = after_nothing header old new who (Looks (ContentOf x)) (bytes_answer result) sees (checked_answers header new x bytes result stored ok err)
+after_checked header old new who x read result sees is ok err =
+    after_nothing header old new who (Looks (ContentOf x)) (bytes_answer result) sees (checked_answers header new x read.bytes.items read.parts.items result is.stored is.parts_are ok err)
 
 pub after_encoded : (header : Header) (old new : List Entry) (who : ℕ) (x : Id) (m : Changeset) (bytes : List ℕ) → SeesMore old who new → changeset_of (known new) x ≡ Some m → bytes ≡ spelling m
     → After header old who (Looks (ChangesetOf x)) (Shows (SeenBytes bytes)) new

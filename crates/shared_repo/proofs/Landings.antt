@@ -10,7 +10,9 @@ use Rattle.history_model.specs.Journal.{Header}
 use Rattle.reply_model.specs.Reply.{Ask, LandDraft, judge}
 use Rattle.reply_model.specs.After.{Answer, Answers, Asks, Call, Replies, nothing}
 use Rattle.repo_calls.specs.declared.ask.Granted.{Granted}
+use Rattle.repo_calls.specs.declared.calls.ChangeFault.{ChangeFault}
 use Rattle.repo_calls.specs.declared.refusal.Refusal.{Refusal}
+use Rattle.repo_calls.specs.Asking.{stored_answer}
 use Rattle.repo_calls.specs.Calls.{refused}
 use Rattle.repo_calls.specs.Refusing.{IsRefusal}
 use Rattle.repo_machine.specs.Landings.{IsLandingRefusal}
@@ -18,23 +20,22 @@ use Rattle.repo_machine.specs.Plans.{PlannedLanding, RebasedLanding, IsPlan}
 use Rattle.repo_state.specs.Exchanging.{Exchanges}
 use Rattle.repo_state.specs.declared.exchanged.Exchanged.{Exchanged}
 use Rattle.repo_state.specs.declared.exchanged.Exchanged.TheVariants.{Landed, HeadMoved, Refused}
-use Rattle.repo_state.specs.State.{entered_answer}
 use Rattle.shared_repo.specs.Landing.{IsMadeBefore, RefusesLanding, outcome_of}
 
 pub outcome_replies : (header : Header) (h new : List Entry) (who : ℕ) (r : RebasedLanding) (x : Exchanged) → Exchanges header h who r x new
-    → MatchOption (outcome_of x) (new ≡ h) (λ entered. Replies header h who (Asks (LandDraft r.caller r.name r.draft r.asked)) (entered_answer entered) new)
+    → MatchOption (outcome_of x) (new ≡ h) (λ entered. Replies header h who (Asks (LandDraft r.caller r.name r.draft r.asked)) (stored_answer entered) new)
 outcome_replies header h new who r (Landed landed) e = e.1
 outcome_replies header h new who r (HeadMoved found) e = e.3
 outcome_replies header h new who r (Refused refusal) e = e.2
 
-pub counted_replies : (header opened : Header) (h before new : List Entry) (who : ℕ) (r : RebasedLanding) (x : Exchanged) (granted : Result Granted Refusal) (answer : Answer) → Exchanges header h who r x new → header ≡ opened → h ≡ before → outcome_of x ≡ Some granted → answer ≡ entered_answer granted
+pub counted_replies : (header opened : Header) (h before new : List Entry) (who : ℕ) (r : RebasedLanding) (x : Exchanged) (granted : Result Granted ChangeFault) (answer : Answer) → Exchanges header h who r x new → header ≡ opened → h ≡ before → outcome_of x ≡ Some granted → answer ≡ stored_answer granted
     → Replies opened before who (Asks (LandDraft r.caller r.name r.draft r.asked)) answer new
 counted_replies header opened h before new who r x granted answer e heads same some is =
     let ask = Asks (LandDraft r.caller r.name r.draft r.asked) in
-    let told : Replies header h who ask (entered_answer granted) new =
-    subst (λ (o : Option (Result Granted Refusal)). MatchOption o (new ≡ h) (λ entered. Replies header h who ask (entered_answer entered) new)) some (outcome_replies header h new who r x e) in
+    let told : Replies header h who ask (stored_answer granted) new =
+    subst (λ (o : Option (Result Granted ChangeFault)). MatchOption o (new ≡ h) (λ entered. Replies header h who ask (stored_answer entered) new)) some (outcome_replies header h new who r x e) in
     subst (λ (a : Answer). Replies opened before who ask a new) (sym is)
-    (subst (λ (b : List Entry). Replies opened b who ask (entered_answer granted) new) same (subst (λ (o : Header). Replies o h who ask (entered_answer granted) new) heads told))
+    (subst (λ (b : List Entry). Replies opened b who ask (stored_answer granted) new) same (subst (λ (o : Header). Replies o h who ask (stored_answer granted) new) heads told))
 
 -- where the head is the planned one, it hasn't moved
 pub outcome_there : (header : Header) (h new : List Entry) (who : ℕ) (r : RebasedLanding) (x : Exchanged) → Exchanges header h who r x new → head h r.name ≡ Some r.old → IsSome (outcome_of x)

@@ -5,6 +5,7 @@ pub mod Fronts
 pub mod Landings
 pub mod Made
 pub mod Sealings
+pub mod LastTurns
 pub mod Sending
 pub mod Stored
 pub mod Turning

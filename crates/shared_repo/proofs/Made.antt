@@ -3,12 +3,16 @@ use Rattle.std.proofs.Common.{◌≡◌, ℕ, ◌+◌, arith, length, length-app
 use Rattle.std.specs.Prelude.{◌⊎◌, ◌≢◌, MatchBool}
 use Rattle.history_model.specs.History.{Entry, Body, Fault}
 use Rattle.history_model.specs.Journal.{Header}
+use Rattle.byte_fields.specs.Bytes.{Id}
 use Rattle.reply_model.specs.Reply as reply
 use Rattle.reply_model.specs.Reply.{LandDraft, Question, HeadOf, ContentOf, ChangesetOf, LogFrom, FsnodeOf, UnodeOf, HistoryOf, CopiesOf, PathLogOf, DeletedOf, PolicyOf}
 use Rattle.reply_model.specs.After as answers
 use Rattle.reply_model.specs.After.{Asks, Joins, Looks, Derives, Call, Answer, Grants, Refuses, Shows, Lacks, Roots, ReadFault, BadBytes, NodeCollision, Memory, Answers, Made, Replies, nothing, only_fault, entries_of}
+use Rattle.repo_calls.specs.declared.calls.ChangeFault.{ChangeFault}
+use Rattle.repo_calls.specs.declared.calls.ChangeFault.TheVariants as faults
 use Rattle.repo_calls.specs.declared.refusal.Refusal.{Refusal}
 use Rattle.repo_calls.specs.declared.refusal.Refusal.TheVariants as refusals
+use Rattle.repo_calls.specs.Asking.{is_disk_fault, stored_answer}
 use Rattle.repo_calls.specs.Calls.{granted_seen, refused}
 use Rattle.repo_machine.specs.Plans.{RebasedLanding}
 use Rattle.repo_state.specs.Exchanging.{Exchanges}
@@ -76,8 +80,14 @@ granted_calm header h (Joins body) granted made a = a.0
 granted_calm header h (Looks question) granted made a = absurd a
 granted_calm header h (Derives id) granted made a = absurd a
 
-pub not_granted : (r : Refusal) (granted : reply.Granted) → refused r ≡ Grants granted → ⊥
-not_granted r granted e = ⊎_elim (λ (t : (x : reply.Refusal) × (refused r ≡ Refuses x)). absurd (cc (t.1, e))) (λ (m : refused r ≡ Memory). absurd (cc (m, e))) (refused_is r)
+refusal_not_granted : (r : Refusal) (granted : reply.Granted) → refused r ≡ Grants granted → ⊥
+refusal_not_granted r granted e = ⊎_elim (λ (t : (x : reply.Refusal) × (refused r ≡ Refuses x)). absurd (cc (t.1, e))) (λ (m : refused r ≡ Memory). absurd (cc (m, e))) (refused_is r)
+
+pub not_granted : (fault : ChangeFault) (granted : reply.Granted) → stored_answer (Err fault) ≡ Grants granted → ⊥
+not_granted (faults.Refused r) granted e = refusal_not_granted r granted e
+not_granted faults.DiskFault granted e = absurd (cc e)
+not_granted faults.ReadFault granted e = absurd (cc e)
+not_granted (faults.BadBytes wanted found) granted e = absurd (cc e)
 
 -- ---- what a turn makes
 
@@ -93,10 +103,6 @@ of_body who made (Some body) e = inr (record { who = who; body = body }, refl, a
 
 granted_few : (who : ℕ) (made : Made) → made.fault ≡ None → IsFew who made
 granted_few who made none = of_body who made made.entry (ap (λ f. record { entry = made.entry; fault = f }) none)
-
-changed : (header : Header) (h : List Entry) (who : ℕ) (call : Call) (entered : Result Placed Refusal) (made : Made) → Answers header h call (placed_answer entered) made → IsFew who made
-changed header h who call (Ok placed) made a = granted_few who made (granted_calm header h call (granted_seen placed.granted) made a)
-changed header h who call (Err refusal) made a = of_nothing who made (refused_made header h call refusal made a)
 
 abbrev pub IsLook : Made → Type 0
 IsLook made = (made ≡ nothing) ⊎ (made ≡ only_fault false)
@@ -137,6 +143,30 @@ look_few : (who : ℕ) (made : Made) → IsLook made → IsFew who made
 look_few who made (inl none) = of_nothing who made none
 look_few who made (inr fault) = inr (record { who = who; body = Fault false }, refl, ap (entries_of who) fault)
 
+-- contents that are to be joined are read as others are
+unread : (header : Header) (h : List Entry) (call : Call) (made : Made) → Answers header h call ReadFault made → IsLook made
+unread header h (Asks ask) made a = absurd a
+unread header h (Joins body) made a = inr a.0
+unread header h (Looks q) made a = looked header h q ReadFault made a
+unread header h (Derives id) made a = absurd a
+
+misread : (header : Header) (h : List Entry) (call : Call) (wanted found : Id) (made : Made) → Answers header h call (BadBytes wanted found) made → IsLook made
+misread header h (Asks ask) wanted found made a = absurd a
+misread header h (Joins body) wanted found made a = inl a.0
+misread header h (Looks q) wanted found made a = looked header h q (BadBytes wanted found) made a
+misread header h (Derives id) wanted found made a = absurd a
+
+-- a change that isn't granted makes no more than a read does, where nothing was sealed
+pub fault_made : (header : Header) (h : List Entry) (call : Call) (fault : ChangeFault) (made : Made) → is_disk_fault {T = Placed} (Err fault) ≡ false → Answers header h call (stored_answer (Err fault)) made → IsLook made
+fault_made header h call (faults.Refused refusal) made up a = inl (refused_made header h call refusal made a)
+fault_made header h call faults.DiskFault made up a = absurd (cc up)
+fault_made header h call faults.ReadFault made up a = unread header h call made a
+fault_made header h call (faults.BadBytes wanted found) made up a = misread header h call wanted found made a
+
+changed : (header : Header) (h : List Entry) (who : ℕ) (call : Call) (entered : Result Placed ChangeFault) (made : Made) → is_disk_fault entered ≡ false → Answers header h call (placed_answer entered) made → IsFew who made
+changed header h who call (Ok placed) made up a = granted_few who made (granted_calm header h call (granted_seen placed.granted) made a)
+changed header h who call (Err fault) made up a = look_few who made (fault_made header h call fault made up a)
+
 -- ---- what was added, by the lengths
 
 adds : (who : ℕ) (h new : List Entry) (made : Made) → IsFew who made → new ≡ h ++ entries_of who made → (n m : ℕ) → n ≡ length new → m ≡ length h → (added : Bool) → MatchBool added (n ≢ m) (n ≡ m)
@@ -150,17 +180,13 @@ adds who h new made (inr some) is n m new_is old_is false equal =
     let longer : length new ≡ length h + 1 = ap length (is ∙ ap (λ es. h ++ es) some.2) ∙ length-append h (some.0 ∷ []) in
     absurd (omega arith)
 
-pub change_adds : (header : Header) (h new : List Entry) (who : ℕ) (call : Call) (entered : Result Placed Refusal) → Replies header h who call (placed_answer entered) new → (n m : ℕ) → n ≡ length new → m ≡ length h → (added : Bool) → MatchBool added (n ≢ m) (n ≡ m)
+pub change_adds : (header : Header) (h new : List Entry) (who : ℕ) (call : Call) (entered : Result Placed ChangeFault) → is_disk_fault entered ≡ false → Replies header h who call (placed_answer entered) new → (n m : ℕ) → n ≡ length new → m ≡ length h → (added : Bool) → MatchBool added (n ≢ m) (n ≡ m)
     → MatchBool added ((e : Entry) × (e.who ≡ who) × (new ≡ h ++ e ∷ [])) (new ≡ h)
-change_adds header h new who call entered r = adds who h new r.made (changed header h who call entered r.made r.answers) r.new_is
+change_adds header h new who call entered up r = adds who h new r.made (changed header h who call entered r.made up r.answers) r.new_is
 
 pub look_adds : (header : Header) (h new : List Entry) (who : ℕ) (q : Question) (answer : Answer) → Replies header h who (Looks q) answer new → (n m : ℕ) → n ≡ length new → m ≡ length h → (added : Bool) → MatchBool added (n ≢ m) (n ≡ m)
     → MatchBool added ((e : Entry) × (e.who ≡ who) × (new ≡ h ++ e ∷ [])) (new ≡ h)
 look_adds header h new who q answer r = adds who h new r.made (look_few who r.made (looked header h q answer r.made r.answers)) r.new_is
-
--- a refusal leaves the history as it was
-pub refused_same : (header : Header) (h new : List Entry) (who : ℕ) (call : Call) (r : Refusal) → Replies header h who call (refused r) new → new ≡ h
-refused_same header h new who call r told = told.new_is ∙ ap (λ made. h ++ entries_of who made) (refused_made header h call r told.made told.answers) ∙ append-nil h
 
 -- ---- landings
 

@@ -13,16 +13,14 @@ use Rattle.repo_calls.specs.declared.calls.ChangeFault.{ChangeFault}
 use Rattle.repo_calls.specs.declared.calls.ChangeFault.TheVariants as faults
 use Rattle.repo_calls.specs.Asking.{stored_answer}
 use Rattle.repo_calls.specs.Calls.{granted_seen, refused}
-use Rattle.bookmark_lock.specs.Opening.{Opening}
 use Rattle.bookmark_lock.specs.Place.{Place}
 use Rattle.bookmark_lock.specs.Turns.{stored_length}
 use Rattle.shared_repo.specs.declared.turns.Placed.{Placed}
-use Rattle.shared_repo.specs.Front.{IsFront}
-use Rattle.shared_repo.specs.Sealed.{IsEntered, IsSealedAfter, IsSeen, IsState, UnlessRefused}
+use Rattle.shared_repo.specs.Sealed.{IsEntered, IsSealedAfter, IsSeen}
 use Rattle.shared_repo.proofs.Fronts.{after_memory, after_more, after_nothing, sees_twice}
 use Rattle.shared_repo.proofs.Made.{granted_calm, not_granted}
 
--- ---- what is refused
+-- ---- what isn't granted
 
 pub memory_sealed : (header : Header) (h : List Entry) (who : ℕ) (call : Call) (sealed : ℕ) → IsSealedAfter header h who call Memory h sealed
 memory_sealed header h who call sealed = record { after = after_memory header h who call; sealed_to = λ granted is. absurd (cc is) }
@@ -31,13 +29,14 @@ memory_sealed header h who call sealed = record { after = after_memory header h 
 pub plan_refused : (header : Header) (old between new : List Entry) (who number : ℕ) (call : Call) (r : Refusal) (sealed : ℕ) → SeesMore old who between → number ≡ who → SeesMore between number new → Answers header new call (refused r) nothing → IsSealedAfter header old who call (refused r) new sealed
 plan_refused header old between new who number call r sealed s n t a = record {
   after = after_nothing header old new who call (refused r) (sees_twice old between new who s (subst (λ (w : ℕ). SeesMore between w new) n t)) a;
-  sealed_to = λ granted is. absurd (not_granted r granted is);
+  sealed_to = λ granted is. absurd (not_granted (faults.Refused r) granted is);
 }
 
-pub refused_sealed : (header : Header) (old : Place) (call : Call) (r : Refusal) (new : List Entry) (sealed : ℕ) → IsEntered header old call (Err r) new → IsSealedAfter header old.front old.number call (refused r) new sealed
-refused_sealed header old call r new sealed e = record {
-  after = replies_after header old.front e.before old.number call (refused r) new e.sees e.replies;
-  sealed_to = λ granted is. absurd (not_granted r granted is);
+-- what isn't granted is answered at once
+pub fault_sealed : (header : Header) (old : Place) (call : Call) (fault : ChangeFault) (new : List Entry) (sealed : ℕ) → IsEntered header old call (Err fault) new → IsSealedAfter header old.front old.number call (stored_answer (Err fault)) new sealed
+fault_sealed header old call fault new sealed e = record {
+  after = replies_after header old.front e.before old.number call (stored_answer (Err fault)) new e.sees e.replies;
+  sealed_to = λ granted is. absurd (not_granted fault granted is);
 }
 
 -- ---- a turn without an entry before
@@ -100,15 +99,3 @@ module _ (header : Header) (old : Place) (call : Call) (placed : Placed) (mid ne
       → IsSealedAfter header old.front old.number call (stored_answer result) new.front new.sealed
   answered_sealed (Ok g) ok err = subst (λ (x : Granted). IsSealedAfter header old.front old.number call (Grants (granted_seen x)) new.front new.sealed) (sym ok.0) (granted_sealed ok.1)
   answered_sealed (Err fault) ok err = subst (λ (x : ChangeFault). IsSealedAfter header old.front old.number call (stored_answer (Err x)) new.front new.sealed) (sym err.0) (failed_sealed err.1)
-
--- what a seat has seen of a state of a repository
-pub state_front : (opening : Opening) (h : List Entry) (sealed : ℕ) → IsState opening h sealed → IsFront opening h
-state_front opening h sealed s = record { legal = s.1.legal; calm = s.1.calm }
-
--- a state that a seat has seen stands also for a change that the disk failed
-pub state_unless : {T : Type 0} (opening : Opening) (h : List Entry) (sealed : ℕ) (result : Result T ChangeFault) → IsState opening h sealed → UnlessRefused result (IsState opening h sealed)
-state_unless opening h sealed (Ok x) s = s
-state_unless opening h sealed (Err faults.DiskFault) s = s
-state_unless opening h sealed (Err faults.ReadFault) s = s
-state_unless opening h sealed (Err (faults.BadBytes wanted found)) s = s
-state_unless opening h sealed (Err (faults.Refused refusal)) s = tt

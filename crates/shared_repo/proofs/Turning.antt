@@ -1,6 +1,6 @@
 -- What a turn tells its seat.
 use Rattle.std.proofs.Common.{◌≡◌, ℕ, ◌<◌, ◌≤◌, List, [], ◌∷◌, ◌++◌, Option, None, Some, Result, Ok, Err, Bool, true, false, cond, not, refl, sym, ap, subst, ◌∙◌, arith, append-nil}
-use Rattle.std.specs.Prelude.{MatchBool, IfSome, OnOk, OnErr, IsTrue, ◌↔◌, is_err, filter, nat_lt, nat_le}
+use Rattle.std.specs.Prelude.{MatchBool, MatchOption, IfSome, OnOk, OnErr, IsTrue, ◌↔◌, is_err, filter, nat_lt, nat_le}
 use Rattle.std.specs.Fn.{Once}
 use denote.Ref.{MutBor}
 use mathlib.Core.List.{IsPrefix}
@@ -15,13 +15,12 @@ use Rattle.bookmark_lock.specs.Turns.{Entered, IsTurn, adds_unsealed, kept_after
 use Rattle.bookmark_lock.proofs.Waitings.{sealed_keeps_none}
 use Rattle.reply_model.specs.After.{After, Answer, Call, Replies, SeesMore, calm_by, entry_by}
 use Rattle.reply_model.proofs.Fronts.{replies_after}
-use Rattle.repo_calls.specs.declared.refusal.Refusal.{Refusal}
+use Rattle.repo_calls.specs.declared.calls.ChangeFault.{ChangeFault}
 use Rattle.repo_state.specs.State.{State, after_seal, breaks}
 use Rattle.shared_repo.specs.declared.turns.Placed.{Placed}
 use Rattle.shared_repo.specs.Front.{IsFront, history_of, opening_of, sealed_of}
-use Rattle.shared_repo.specs.Sealed.{IsAt, IsEntered, IsSeen, IsTold, Tells, placed_answer}
-use Rattle.shared_repo.proofs.Made.{refused_same}
-use Rattle.shared_repo.proofs.Stored.{stored_fault, stored_grows}
+use Rattle.shared_repo.specs.Sealed.{IsAt, IsEntered, IsLastTurn, IsSeal, IsSealOf, IsSeen, IsTold, Tells, placed_answer}
+use Rattle.shared_repo.proofs.Stored.{fault_stores, stored_fault, stored_grows}
 
 -- ---- the entry that a seat keeps
 
@@ -126,7 +125,7 @@ module _ {F X : Type 0} (g : Once F (MutBor State × Unit {0}) ((Bool × X) × (
   pub keeps_none : seat.unsealed ≡ None → stored_length e.after.history ≡ stored_length e.before.history → now.unsealed ≡ None
   keeps_none none same = keeps_of_none none ∙ kept_same None e.before.history e.after.history e.after.sealed same refl
 
-  pub entered_in : (call : Call) (entered : Result Placed Refusal) → Replies e.before.opening.header e.before.history seat.number call (placed_answer entered) e.after.history → IsEntered seat.lock.opening.header seat call entered now.front
+  pub entered_in : (call : Call) (entered : Result Placed ChangeFault) → Replies e.before.opening.header e.before.history seat.number call (placed_answer entered) e.after.history → IsEntered seat.lock.opening.header seat call entered now.front
   entered_in call entered r = record {
     before = e.before.history;
     sees = sees_in;
@@ -135,7 +134,7 @@ module _ {F X : Type 0} (g : Once F (MutBor State × Unit {0}) ((Bool × X) × (
         subst (λ (h : List Entry). Replies seat.lock.opening.header e.before.history seat.number call (placed_answer entered) h) (sym front_is) of_lock;
   }
 
-  pub told_in : seat.unsealed ≡ None → (header : Header) (call : Call) (entered : Result Placed Refusal) → Replies header e.before.history seat.number call (placed_answer entered) e.after.history → Tells entered e.after → IsTold entered now
+  pub told_in : seat.unsealed ≡ None → (header : Header) (call : Call) (entered : Result Placed ChangeFault) → Replies header e.before.history seat.number call (placed_answer entered) e.after.history → Tells entered e.after → IsTold entered now
   told_in none header call (Ok placed) r t =
       let before = e.before.history in
       let after = e.after.history in
@@ -146,8 +145,7 @@ module _ {F X : Type 0} (g : Once F (MutBor State × Unit {0}) ((Bool × X) × (
         keeps = subst (λ (m : ℕ). IfSome now.unsealed (λ i. i < m)) (sym t.0) (subst (λ (u : Option ℕ). IfSome u (λ i. i < stored_length after)) (sym (keeps_of_none none)) (kept_below before after n));
         all = λ le. keeps_of_none none ∙ sealed_keeps_none before after n (let stored = t.0 in let told = t.1 in omega arith);
       }
-  told_in none header call (Err refusal) r t =
-      keeps_none none (ap stored_length (refused_same header e.before.history e.after.history seat.number call refusal r))
+  told_in none header call (Err fault) r t = (keeps_none none (fault_stores header e.before.history e.after.history seat.number call fault t r), t)
 
   -- a seat that has no entry of its own past these sees them sealed, or a breaking fault
   module _ {A E : Type 0} (result : Result A E) (upto : ℕ) (history : e.after.history ≡ after_seal seat.number (is_err result) e.before.history) where
@@ -199,12 +197,29 @@ module _ {F X : Type 0} (g : Once F (MutBor State × Unit {0}) ((Bool × X) × (
         replies_after seat.lock.opening.header seat.front e.before.history seat.number call answer now.front sees_in (subst (λ (h : List Entry). Replies seat.lock.opening.header e.before.history seat.number call answer h) (sym front_is) four)
 
     -- and what was told in it
-    pub told_of : seat.unsealed ≡ None → (call : Call) (entered : Result Placed Refusal) → Replies shown.opening.header shown.history who call (placed_answer entered) left.history → Tells entered left → IsTold entered now
+    pub told_of : seat.unsealed ≡ None → (call : Call) (entered : Result Placed ChangeFault) → Replies shown.opening.header shown.history who call (placed_answer entered) left.history → Tells entered left → IsTold entered now
     told_of none call entered r tells =
         let one = subst (λ (s : State). Replies s.opening.header s.history who call (placed_answer entered) left.history) shows r in
         let two = subst (λ (s : State). Replies e.before.opening.header e.before.history who call (placed_answer entered) s.history) leaves one in
         let three = subst (λ (n : ℕ). Replies e.before.opening.header e.before.history n call (placed_answer entered) e.after.history) who_is two in
         told_in none e.before.opening.header call entered three (subst (Tells entered) leaves tells)
+
+    -- the turn of a seal
+    pub last_turn_in : (failed : Bool) → IsSealOf who failed shown left → IsLastTurn seat.lock.opening seat failed now
+    last_turn_in failed s =
+        let one = subst (λ (b : State). IsSealOf who failed b left) shows s in
+        let two = subst (λ (a : State). IsSealOf who failed e.before a) leaves one in
+        let three = subst (λ (n : ℕ). IsSealOf n failed e.before e.after) who_is two in
+        let four = subst (λ (o : Opening). IsSeal o seat.number failed e.before.history e.before.sealed e.before.disk e.after.history e.after.sealed e.after.disk) e.found.opened three.1 in
+        record {
+          history = e.before.history;
+          sealed = e.before.sealed;
+          began = e.before.disk;
+          ended = e.after.disk;
+          seen = e.found.told;
+          seal = subst (λ (h : List Entry). IsSeal seat.lock.opening seat.number failed e.before.history e.before.sealed e.before.disk h now.sealed e.after.disk) (sym front_is)
+              (subst (λ (n : ℕ). IsSeal seat.lock.opening seat.number failed e.before.history e.before.sealed e.before.disk e.after.history n e.after.disk) (sym sealed_is) four);
+        }
 
     pub front_in : IsFront left.opening left.history → IsFront now.lock.opening now.front
     front_in f =
@@ -214,6 +229,12 @@ module _ {F X : Type 0} (g : Once F (MutBor State × Unit {0}) ((Bool × X) × (
 
     pub stores_none : seat.unsealed ≡ None → stored_length left.history ≡ stored_length shown.history → now.unsealed ≡ None
     stores_none none same = keeps_none none (ap (λ (s : State). stored_length s.history) (sym leaves) ∙ (same ∙ ap (λ (s : State). stored_length s.history) shows))
+
+    -- of a turn in which nothing may have come of the call
+    pub told_maybe : seat.unsealed ≡ None → (call : Call) (found : Option (Result Placed ChangeFault)) → MatchOption found (left.history ≡ shown.history) (λ entered. Replies shown.opening.header shown.history who call (placed_answer entered) left.history)
+        → IfSome found (λ entered. Tells entered left) → MatchOption found (now.unsealed ≡ None) (λ entered. IsTold entered now)
+    told_maybe none call None same tells = stores_none none (ap stored_length same)
+    told_maybe none call (Some entered) r tells = told_of none call entered r tells
 
 -- so many are stored in what the seat finds
 pub stored_in : (upto : ℕ) (g h : List Entry) → IsPrefix g h → upto ≡ stored_length g → upto ≤ stored_length h

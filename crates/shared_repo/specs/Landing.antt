@@ -11,6 +11,8 @@ use Rattle.reply_model.specs.After.{Answers, Asks, nothing}
 use Rattle.repo_calls.specs.Calls.{refused}
 use Rattle.repo_calls.specs.declared.ask.Granted.{Granted}
 use Rattle.repo_calls.specs.declared.ask.Granted.TheVariants.{Landing}
+use Rattle.repo_calls.specs.declared.calls.ChangeFault.{ChangeFault}
+use Rattle.repo_calls.specs.declared.calls.ChangeFault.TheVariants as faults
 use Rattle.repo_machine.specs.Again.{WasPlan}
 use Rattle.repo_machine.specs.Plans.{PlannedLanding}
 use Rattle.repo_state.specs.declared.exchanged.Exchanged.{Exchanged}
@@ -29,7 +31,7 @@ IsEarlier h caller name draft earlier = IfSome earlier (IsMadeBefore h caller na
 abbrev pub RefusesLanding : Header → List Entry → (caller name : List ℕ) → Id → Refusal → Type 0
 RefusesLanding header h caller name draft refusal = (moment : ℕ) → Answers header h (Asks (LandDraft caller name draft moment)) (refused refusal) nothing
 
-abbrev pub outcome_of : Exchanged → Option (Result Granted Refusal)
+abbrev pub outcome_of : Exchanged → Option (Result Granted ChangeFault)
 outcome_of (Landed landed) = Some (Ok (Landing landed))
 outcome_of (HeadMoved found) = None
-outcome_of (Refused refusal) = Some (Err refusal)
+outcome_of (Refused refusal) = Some (Err (faults.Refused refusal))

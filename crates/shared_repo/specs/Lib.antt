@@ -1,4 +1,5 @@
 pub mod Derivation
 pub mod Front
 pub mod Landing
+pub mod Reading
 pub mod Sealed

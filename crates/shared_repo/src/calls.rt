@@ -3,9 +3,9 @@ ghost use Rattle.std.specs.Prelude.{◌≡◌, ◌≤◌, false, IsTrue};
 ghost use Rattle.bookmark_lock.specs.Place.{moved};
 ghost use Rattle.reply_model.specs.Reply.{PutContent, PutChangeset, SetBookmark, LandDraft, SetPolicy, HeadOf, SeenHead, ContentOf, ChangesetOf, LogFrom, FsnodeOf, UnodeOf, HistoryOf, CopiesOf, PathLogOf, DeletedOf, PolicyOf};
 ghost use Rattle.reply_model.specs.After.{After, Answer, Asks, Joins, Looks, Shows};
-ghost use Rattle.repo_calls.specs.Asking.{IsAnswer, is_bad_bytes, place_of, stored_answer};
+ghost use Rattle.repo_calls.specs.Asking.{IsAnswer, is_bad_bytes, is_disk_fault, is_misread, place_of, stored_answer};
 ghost use Rattle.shared_repo.specs.Front.{IsFront};
-ghost use Rattle.shared_repo.specs.Sealed.{IsSealedAfter, IsState, UnlessRefused};
+ghost use Rattle.shared_repo.specs.Sealed.{IsLastTurn, IsSealedAfter, UnlessRefused};
 
 use crate::repo::Repo;
 use crate::seat::RepoSeat;
@@ -31,13 +31,13 @@ impl<D: Disk> Repo<D> {
         ensures after { After self.now.opening.header seat.old.front seat.old.number (Asks (PutContent bytes.now)) (stored_answer result) seat.new.front }
         ensures sealed { IsSealedAfter self.now.opening.header seat.old.front seat.old.number (Asks (PutContent bytes.now)) (stored_answer result) seat.new.front seat.new.sealed }
         ensures seals { seat.old.sealed ≤ seat.new.sealed }
-        ensures stands { UnlessRefused result (IsState self.now.opening seat.new.front seat.new.sealed) }
+        ensures stands { UnlessRefused result (IsLastTurn self.now.opening seat.old (is_disk_fault result) seat.new) }
         ensures front { IsFront self.now.opening seat.new.front }
     {
         self.change(rt, alloc, seat, &Ask::PutContent(bytes), &NoGate)
     }
 
-    /// Joins contents to one. Each such change is refused as yet.
+    /// Joins contents to one: 1 to 64 ids of stored contents, in the order of the contents.
     pub fn put_whole<R: Wait>(
         &self,
         rt: &R,
@@ -50,7 +50,8 @@ impl<D: Disk> Repo<D> {
         ensures after { After self.now.opening.header seat.old.front seat.old.number (Joins body.now) (stored_answer result) seat.new.front }
         ensures sealed { IsSealedAfter self.now.opening.header seat.old.front seat.old.number (Joins body.now) (stored_answer result) seat.new.front seat.new.sealed }
         ensures seals { seat.old.sealed ≤ seat.new.sealed }
-        ensures stands { UnlessRefused result (IsState self.now.opening seat.new.front seat.new.sealed) }
+        ensures stands { UnlessRefused result (IsLastTurn self.now.opening seat.old (is_disk_fault result) seat.new) }
+        ensures honest { IsTrue self.now.opening.honest → is_misread result ≡ false }
         ensures front { IsFront self.now.opening seat.new.front }
     {
         self.change(rt, alloc, seat, &Ask::PutWhole(body), &NoGate)
@@ -69,7 +70,7 @@ impl<D: Disk> Repo<D> {
         ensures after { After self.now.opening.header seat.old.front seat.old.number (Asks (PutChangeset bytes.now)) (stored_answer result) seat.new.front }
         ensures sealed { IsSealedAfter self.now.opening.header seat.old.front seat.old.number (Asks (PutChangeset bytes.now)) (stored_answer result) seat.new.front seat.new.sealed }
         ensures seals { seat.old.sealed ≤ seat.new.sealed }
-        ensures stands { UnlessRefused result (IsState self.now.opening seat.new.front seat.new.sealed) }
+        ensures stands { UnlessRefused result (IsLastTurn self.now.opening seat.old (is_disk_fault result) seat.new) }
         ensures front { IsFront self.now.opening seat.new.front }
     {
         self.change(rt, alloc, seat, &Ask::PutChangeset(bytes), &NoGate)
@@ -91,7 +92,7 @@ impl<D: Disk> Repo<D> {
         ensures after { After self.now.opening.header seat.old.front seat.old.number (Asks (SetBookmark caller.now name.now from to)) (stored_answer result) seat.new.front }
         ensures sealed { IsSealedAfter self.now.opening.header seat.old.front seat.old.number (Asks (SetBookmark caller.now name.now from to)) (stored_answer result) seat.new.front seat.new.sealed }
         ensures seals { seat.old.sealed ≤ seat.new.sealed }
-        ensures stands { UnlessRefused result (IsState self.now.opening seat.new.front seat.new.sealed) }
+        ensures stands { UnlessRefused result (IsLastTurn self.now.opening seat.old (is_disk_fault result) seat.new) }
         ensures front { IsFront self.now.opening seat.new.front }
     {
         let ask = Ask::SetBookmark {
@@ -117,7 +118,7 @@ impl<D: Disk> Repo<D> {
         ensures after { After self.now.opening.header seat.old.front seat.old.number (Asks (SetPolicy caller.now text.now)) (stored_answer result) seat.new.front }
         ensures sealed { IsSealedAfter self.now.opening.header seat.old.front seat.old.number (Asks (SetPolicy caller.now text.now)) (stored_answer result) seat.new.front seat.new.sealed }
         ensures seals { seat.old.sealed ≤ seat.new.sealed }
-        ensures stands { UnlessRefused result (IsState self.now.opening seat.new.front seat.new.sealed) }
+        ensures stands { UnlessRefused result (IsLastTurn self.now.opening seat.old (is_disk_fault result) seat.new) }
         ensures front { IsFront self.now.opening seat.new.front }
     {
         self.change(rt, alloc, seat, &Ask::SetPolicy { caller, text }, &NoGate)
@@ -141,7 +142,7 @@ impl<D: Disk> Repo<D> {
         ensures after { After self.now.opening.header seat.old.front seat.old.number (Asks (LandDraft caller.now name.now draft moment)) (stored_answer result) seat.new.front }
         ensures sealed { IsSealedAfter self.now.opening.header seat.old.front seat.old.number (Asks (LandDraft caller.now name.now draft moment)) (stored_answer result) seat.new.front seat.new.sealed }
         ensures seals { seat.old.sealed ≤ seat.new.sealed }
-        ensures stands { UnlessRefused result (IsState self.now.opening seat.new.front seat.new.sealed) }
+        ensures stands { UnlessRefused result (IsLastTurn self.now.opening seat.old (is_disk_fault result) seat.new) }
         ensures front { IsFront self.now.opening seat.new.front }
     {
         let ask = Ask::Land {

@@ -1,13 +1,16 @@
 //! Changes of a repository that many seats share. An upload is hashed, decoded and put into its record outside of the turn,
 //! which has what needs the repository, and no more. What is granted is sealed in a turn of its own before it is answered.
-ghost use Rattle.std.specs.Prelude.{◌≡◌, ◌≤◌, false, None};
+//! Contents that are to be joined are read in the turn: where the disk fails one of these reads, the turn enters that, and there
+//! is nothing to seal.
+ghost use Rattle.std.specs.Prelude.{◌≡◌, ◌≤◌, false, IsTrue, None};
 ghost use Rattle.bookmark_lock.specs.Place.{moved};
 ghost use Rattle.bookmark_lock.specs.Turns.{IsTurn};
 ghost use Rattle.reply_model.specs.After.{After, Replies};
 ghost use Rattle.repo_calls.specs.Calls.{call_seen};
-ghost use Rattle.repo_calls.specs.Asking.{is_misread, is_unread, stored_answer};
+ghost use Rattle.repo_calls.specs.Asking.{is_disk_fault, is_misread, is_unread, stored_answer};
+ghost use Rattle.repo_state.specs.Asking.{is_join};
 ghost use Rattle.shared_repo.specs.Front.{IsFront, history_of, opening_of, sealed_of};
-ghost use Rattle.shared_repo.specs.Sealed.{IsEntered, IsSealedAfter, IsState, IsTold, Tells, placed_answer, UnlessRefused};
+ghost use Rattle.shared_repo.specs.Sealed.{IsEntered, IsLastTurn, IsSealedAfter, IsState, IsTold, Tells, placed_answer, UnlessRefused};
 
 use crate::repo::Repo;
 use crate::seat::RepoSeat;
@@ -22,7 +25,7 @@ use std::alloc::Global;
 use std::sync::Wait;
 
 impl<D: Disk> Repo<D> {
-    /// Makes a change. The gate is passed by landings alone. No content is read for it.
+    /// Makes a change. The gate is passed by landings alone. Contents are read only to be joined.
     pub fn change<R: Wait, G: Gate>(
         &self,
         rt: &R,
@@ -38,8 +41,11 @@ impl<D: Disk> Repo<D> {
         // Where it is granted, all up to its place is sealed.
         ensures sealed { IsSealedAfter self.now.opening.header seat.old.front seat.old.number (call_seen ask.now) (stored_answer result) seat.new.front seat.new.sealed }
         ensures seals { seat.old.sealed ≤ seat.new.sealed }
-        ensures stands { UnlessRefused result (IsState self.now.opening seat.new.front seat.new.sealed) }
-        ensures read { (is_unread result ≡ false) × (is_misread result ≡ false) }
+
+        // A crash in its last turn left what was sealed before, or the whole history.
+        ensures stands { UnlessRefused result (IsLastTurn self.now.opening seat.old (is_disk_fault result) seat.new) }
+        ensures read { is_join (call_seen ask.now) ≡ false → (is_unread result ≡ false) × (is_misread result ≡ false) }
+        ensures honest { IsTrue self.now.opening.honest → is_misread result ≡ false }
         ensures front { IsFront self.now.opening seat.new.front }
     {
         match *ask {
@@ -58,7 +64,7 @@ impl<D: Disk> Repo<D> {
     }
 
     // A change that is entered in one turn.
-    #[tactic(auto, using(crate::proofs::Sealings::memory_sealed, crate::proofs::Sealings::state_front, crate::proofs::Sealings::state_unless))]
+    #[tactic(auto, using(crate::proofs::Sealings::memory_sealed, crate::proofs::LastTurns::turn_front))]
     fn store<R: Wait>(
         &self,
         rt: &R,
@@ -70,8 +76,8 @@ impl<D: Disk> Repo<D> {
         ensures seat { seat.new ≡ moved seat.old seat.new }
         ensures sealed { IsSealedAfter self.now.opening.header seat.old.front seat.old.number (call_seen ask.now) (stored_answer result) seat.new.front seat.new.sealed }
         ensures seals { seat.old.sealed ≤ seat.new.sealed }
-        ensures stands { UnlessRefused result (IsState self.now.opening seat.new.front seat.new.sealed) }
-        ensures read { (is_unread result ≡ false) × (is_misread result ≡ false) }
+        ensures stands { UnlessRefused result (IsLastTurn self.now.opening seat.old (is_disk_fault result) seat.new) }
+        ensures honest { IsTrue self.now.opening.honest → is_misread result ≡ false }
         ensures front { IsFront self.now.opening seat.new.front }
     {
         // It keeps its rules.
@@ -84,14 +90,14 @@ impl<D: Disk> Repo<D> {
     }
 
     // The turn of a change that is ready.
-    #[tactic(auto, using(crate::proofs::Turning::entered_in, crate::proofs::Turning::told_in))]
+    #[tactic(auto, using(crate::proofs::Turning::entered_in))]
     fn enter_change<R: Wait, C: TurnChange<D>>(
         &self,
         rt: &R,
         alloc: Global,
         seat: &mut Seat,
         change: C,
-    ) -> Result<Placed, Refusal>
+    ) -> Result<Placed, ChangeFault>
         requires place { seat.old.lock ≡ self.now }
         requires none { seat.old.unsealed ≡ None }
         requires ready { C.ready change }
@@ -99,16 +105,18 @@ impl<D: Disk> Repo<D> {
         ensures entered { IsEntered self.now.opening.header seat.old (C.asked change) result seat.new.front }
         ensures told { IsTold result seat.new }
         ensures seals { seat.old.sealed ≤ seat.new.sealed }
+        ensures honest { IsTrue self.now.opening.honest → is_misread result ≡ false }
         ensures stands { IsState self.now.opening seat.new.front seat.new.sealed }
     {
         let who = seat.number();
         self.lock.enter(
             rt,
             seat,
-            |state: &mut RepoState<D>| -> (bool, Result<Placed, Refusal>)
+            |state: &mut RepoState<D>| -> (bool, Result<Placed, ChangeFault>)
                 requires { C.ready change }
                 ensures reply { Replies state.old.opening.header state.old.history who (C.asked change) (placed_answer result.1) state.new.history }
                 ensures told { Tells result.1 state.new }
+                ensures honest { IsTrue state.old.opening.honest → is_misread result.1 ≡ false }
                 ensures turn { IsTurn history_of opening_of sealed_of who None state.old state.new result.0 }
                 ensures stands { IsState state.new.opening state.new.history state.new.sealed }
             { change.store_in(state, alloc, who) },

@@ -5,10 +5,10 @@ ghost use Rattle.bookmark_lock.specs.Turns.{IsTurn};
 ghost use Rattle.reply_model.specs.Reply.{LandDraft};
 ghost use Rattle.reply_model.specs.After.{Asks, Replies, SeesMore};
 ghost use Rattle.repo_machine.specs.Plans.{IsPlan, WasPlanned};
-ghost use Rattle.repo_calls.specs.Asking.{is_misread, is_unread, stored_answer};
+ghost use Rattle.repo_calls.specs.Asking.{is_disk_fault, stored_answer};
 ghost use Rattle.shared_repo.specs.Front.{IsFront, history_of, opening_of, sealed_of};
 ghost use Rattle.shared_repo.specs.Landing.{IsEarlier, RefusesLanding};
-ghost use Rattle.shared_repo.specs.Sealed.{IsEntered, IsSealedAfter, IsState, IsTold, Tells, placed_answer, UnlessRefused};
+ghost use Rattle.shared_repo.specs.Sealed.{IsEntered, IsLastTurn, IsSealedAfter, IsState, IsTold, Tells, placed_answer, UnlessRefused};
 
 use crate::landing_turns::{land_in, plan_from};
 use crate::repo::Repo;
@@ -50,8 +50,7 @@ impl<D: Disk> Repo<D> {
         ensures seat { seat.new ≡ moved seat.old seat.new }
         ensures sealed { IsSealedAfter self.now.opening.header seat.old.front seat.old.number (Asks (LandDraft caller.now name.now draft moment)) (stored_answer result) seat.new.front seat.new.sealed }
         ensures seals { seat.old.sealed ≤ seat.new.sealed }
-        ensures stands { UnlessRefused result (IsState self.now.opening seat.new.front seat.new.sealed) }
-        ensures read { (is_unread result ≡ false) × (is_misread result ≡ false) }
+        ensures stands { UnlessRefused result (IsLastTurn self.now.opening seat.old (is_disk_fault result) seat.new) }
         ensures front { IsFront self.now.opening seat.new.front }
     {
         let mut earlier = None;
@@ -106,7 +105,7 @@ impl<D: Disk> Repo<D> {
     }
 
     // The rest of an attempt: the landing's answer, or none where the head moved since the plan.
-    #[tactic(auto, using(crate::proofs::Sealings::memory_sealed, crate::proofs::Sealings::state_front, crate::proofs::Sealings::state_unless, crate::proofs::Fronts::planned_here))]
+    #[tactic(auto, using(crate::proofs::Sealings::memory_sealed, crate::proofs::LastTurns::turn_front, crate::proofs::Fronts::planned_here))]
     fn attempt<R: Wait, G: Gate>(
         &self,
         rt: &R,
@@ -122,8 +121,7 @@ impl<D: Disk> Repo<D> {
         ensures seat { seat.new ≡ moved seat.old seat.new }
         ensures sealed { MatchOption result (SeesMore seat.old.front seat.old.number seat.new.front) (λ answer. IsSealedAfter self.now.opening.header seat.old.front seat.old.number (Asks (LandDraft plan.now.caller plan.now.name plan.now.draft moment)) (stored_answer answer) seat.new.front seat.new.sealed) }
         ensures seals { seat.old.sealed ≤ seat.new.sealed }
-        ensures stands { IfSome result (λ answer. UnlessRefused answer (IsState self.now.opening seat.new.front seat.new.sealed)) }
-        ensures read { IfSome result (λ answer. (is_unread answer ≡ false) × (is_misread answer ≡ false)) }
+        ensures stands { IfSome result (λ answer. UnlessRefused answer (IsLastTurn self.now.opening seat.old (is_disk_fault answer) seat.new)) }
         ensures front { IsFront self.now.opening seat.new.front }
     {
         let who = seat.inner.number();
@@ -136,14 +134,14 @@ impl<D: Disk> Repo<D> {
     }
 
     // The second turn of an attempt: what came of the landing, or none where the head has moved.
-    #[tactic(auto, using(repo_machine::proofs::Planning::was_planned, crate::proofs::Turning::entered_in, crate::proofs::Turning::told_in))]
+    #[tactic(auto, using(repo_machine::proofs::Planning::was_planned, crate::proofs::Turning::entered_in))]
     fn exchange<R: Wait>(
         &self,
         rt: &R,
         alloc: Global,
         seat: &mut Seat,
         rebased: Rebased,
-    ) -> Option<Result<Placed, Refusal>>
+    ) -> Option<Result<Placed, ChangeFault>>
         requires place { seat.old.lock ≡ self.now }
         requires none { seat.old.unsealed ≡ None }
         requires planned { WasPlanned seat.old.front rebased }
@@ -157,7 +155,7 @@ impl<D: Disk> Repo<D> {
         self.lock.enter(
             rt,
             seat,
-            |state: &mut RepoState<D>| -> (bool, Option<Result<Placed, Refusal>>)
+            |state: &mut RepoState<D>| -> (bool, Option<Result<Placed, ChangeFault>>)
                 requires { WasPlanned state.old.history rebased }
                 ensures reply { MatchOption result.1 (state.new.history ≡ state.old.history) (λ entered. Replies state.old.opening.header state.old.history who (Asks (LandDraft rebased.caller rebased.name rebased.draft rebased.asked)) (placed_answer entered) state.new.history) }
                 ensures told { IfSome result.1 (λ entered. Tells entered state.new) }
@@ -168,7 +166,7 @@ impl<D: Disk> Repo<D> {
     }
 
     // The last attempt: the bookmark can't move from its plan to its entry.
-    #[tactic(auto, using(crate::proofs::Sealings::state_front, crate::proofs::Sealings::state_unless))]
+    #[tactic(auto, using(crate::proofs::LastTurns::turn_front))]
     fn land_in_one_turn<R: Wait>(
         &self,
         rt: &R,
@@ -185,8 +183,7 @@ impl<D: Disk> Repo<D> {
         ensures seat { seat.new ≡ moved seat.old seat.new }
         ensures sealed { IsSealedAfter self.now.opening.header seat.old.front seat.old.number (Asks (LandDraft caller.now name.now draft moment)) (stored_answer result) seat.new.front seat.new.sealed }
         ensures seals { seat.old.sealed ≤ seat.new.sealed }
-        ensures stands { UnlessRefused result (IsState self.now.opening seat.new.front seat.new.sealed) }
-        ensures read { (is_unread result ≡ false) × (is_misread result ≡ false) }
+        ensures stands { UnlessRefused result (IsLastTurn self.now.opening seat.old (is_disk_fault result) seat.new) }
         ensures front { IsFront self.now.opening seat.new.front }
     {
         let entered = self.enter_landing(
@@ -203,7 +200,7 @@ impl<D: Disk> Repo<D> {
     }
 
     // The turn of the last attempt.
-    #[tactic(auto, using(crate::proofs::Fronts::earlier_later, crate::proofs::Turning::entered_in, crate::proofs::Turning::told_in))]
+    #[tactic(auto, using(crate::proofs::Fronts::earlier_later, crate::proofs::Turning::entered_in))]
     fn enter_landing<R: Wait>(
         &self,
         rt: &R,
@@ -214,7 +211,7 @@ impl<D: Disk> Repo<D> {
         draft: Id,
         moment: u64,
         earlier: Option<Plan>,
-    ) -> Result<Placed, Refusal>
+    ) -> Result<Placed, ChangeFault>
         requires place { seat.old.lock ≡ self.now }
         requires none { seat.old.unsealed ≡ None }
         requires earlier { IsEarlier seat.old.front caller.now name.now draft earlier }
@@ -228,7 +225,7 @@ impl<D: Disk> Repo<D> {
         self.lock.enter(
             rt,
             seat,
-            |state: &mut RepoState<D>| -> (bool, Result<Placed, Refusal>)
+            |state: &mut RepoState<D>| -> (bool, Result<Placed, ChangeFault>)
                 requires { IsEarlier state.old.history caller.now name.now draft earlier }
                 ensures reply { Replies state.old.opening.header state.old.history who (Asks (LandDraft caller.entry.now name.entry.now draft moment)) (placed_answer result.1) state.new.history }
                 ensures told { Tells result.1 state.new }

@@ -13,7 +13,7 @@ use crate::turns::{Placed, exchange_in, plan_in};
 use ancestry::Steps;
 use blob_disk::Disk;
 use object_id::Id;
-use repo_calls::Refusal;
+use repo_calls::{ChangeFault, Refusal};
 use repo_machine::Plan;
 use repo_path::BookName;
 use repo_state::RepoState;
@@ -83,7 +83,7 @@ pub(crate) fn land_in<D: Disk>(
     draft: Id,
     moment: u64,
     earlier: Option<Plan>,
-) -> (bool, Result<Placed, Refusal>)
+) -> (bool, Result<Placed, ChangeFault>)
     requires earlier { IsEarlier state.old.history caller.now name.now draft earlier }
     ensures reply { Replies state.old.opening.header state.old.history who (Asks (LandDraft caller.now name.now draft moment)) (placed_answer result.1) state.new.history }
     ensures told { Tells result.1 state.new }
@@ -92,10 +92,10 @@ pub(crate) fn land_in<D: Disk>(
 {
     let plan = match plan_from(state, alloc, caller, name, draft, earlier) {
         Ok(plan) => plan,
-        Err(refusal) => return (false, Err(refusal)),
+        Err(refusal) => return (false, Err(ChangeFault::Refused(refusal))),
     };
     let Ok(rebased) = plan.rebased(alloc, moment) else {
-        return (false, Err(Refusal::Memory));
+        return (false, Err(ChangeFault::Refused(Refusal::Memory)));
     };
     let (added, entered) = exchange_in(state, alloc, who, rebased);
     (added, entered.unwrap())

@@ -1,17 +1,18 @@
 //! Reads of a repository that many seats share. A content's bytes are hashed, a changeset is encoded and its copies
 //! are told outside of the turn, and what a read of manifests lacks is derived before its turn.
-ghost use Rattle.std.specs.Prelude.{◌≡◌, false, length, Some, IfOk, IfErr, IsTrue, None};
+ghost use Rattle.std.specs.Prelude.{◌≡◌, false, Some, IfOk, IfErr, IsTrue, None};
 ghost use Rattle.std.specs.Arc.{arc_value};
 ghost use Rattle.sha2.specs.Sha256.{sha256};
 ghost use Rattle.bookmark_lock.specs.Place.{moved};
 ghost use Rattle.bookmark_lock.specs.Turns.{IsTurn};
 ghost use Rattle.reply_model.specs.Reply.{HeadOf, SeenHead, ContentOf, ChangesetOf, CopiesOf};
 ghost use Rattle.history_model.specs.Bookmark.{head};
-ghost use Rattle.history_model.specs.History.{changeset_of, content_len, known};
+ghost use Rattle.history_model.specs.History.{changeset_of, known};
 ghost use Rattle.reply_model.specs.After.{After, Answer, Answers, Looks, Replies, Shows, nothing, SeesMore};
 ghost use Rattle.repo_calls.specs.Asking.{IsAnswer, bytes_answer, fault_answer, is_bad_bytes, question_seen};
 ghost use Rattle.shared_repo.specs.Derivation.{AsksManifestOf};
 ghost use Rattle.shared_repo.specs.Front.{IsFront, history_of, opening_of, sealed_of};
+ghost use Rattle.shared_repo.specs.Reading.{IsReadOf};
 
 use crate::repo::Repo;
 use crate::seat::RepoSeat;
@@ -22,7 +23,7 @@ use object_id::Id;
 use repo_calls::{AskFault, Question, Seen};
 use repo_machine::copied_paths;
 use repo_path::BookName;
-use repo_state::{RepoState, check_digest};
+use repo_state::{ReadContent, RepoState, check_digest};
 use std::alloc::Global;
 use std::sync::{Arc, Wait};
 
@@ -133,7 +134,7 @@ impl<D: Disk> Repo<D> {
         self.look_in_turn(rt, alloc, seat, question)
     }
 
-    // The bytes of a content, which are hashed outside of the turn.
+    // The bytes of a content. They are hashed outside of the turn, and where they have another id the bytes of its parts, too.
     fn checked_content<R: Wait>(
         &self,
         rt: &R,
@@ -147,11 +148,11 @@ impl<D: Disk> Repo<D> {
         ensures honest { IsTrue self.now.opening.honest → is_bad_bytes result ≡ false }
         ensures front { IsFront self.now.opening seat.new.front }
     {
-        let bytes = match self.content_unchecked(rt, alloc, seat, id) {
-            Ok(bytes) => bytes,
+        let read = match self.content_unchecked(rt, alloc, seat, id) {
+            Ok(read) => read,
             Err(fault) => return Err(fault),
         };
-        seen(check_digest(bytes, id))
+        seen(check_digest(read, id))
     }
 
     // The turn of a content's read.
@@ -161,12 +162,12 @@ impl<D: Disk> Repo<D> {
         alloc: Global,
         seat: &mut RepoSeat,
         id: Id,
-    ) -> Result<Vec<u8>, AskFault>
+    ) -> Result<ReadContent, AskFault>
         requires place { seat.old.lock ≡ self.now }
         ensures seat { seat.new ≡ moved seat.old seat.new }
-        ensures ok { IfOk result (λ bytes. SeesMore seat.old.front seat.old.number seat.new.front × (content_len seat.new.front id ≡ Some (length bytes.items))) }
+        ensures ok { IfOk result (λ read. SeesMore seat.old.front seat.old.number seat.new.front × IsReadOf seat.new.front id read) }
         ensures err { IfErr result (λ fault. After self.now.opening.header seat.old.front seat.old.number (Looks (ContentOf id)) (fault_answer fault) seat.new.front) }
-        ensures honest { IsTrue self.now.opening.honest → IfOk result (λ bytes. sha256 bytes.items ≡ id) }
+        ensures honest { IsTrue self.now.opening.honest → IfOk result (λ read. sha256 read.bytes.items ≡ id) }
         ensures unchecked { is_bad_bytes result ≡ false }
         ensures front { IsFront self.now.opening seat.new.front }
     {
@@ -174,10 +175,10 @@ impl<D: Disk> Repo<D> {
         self.lock.enter(
             rt,
             &mut seat.inner,
-            |state: &mut RepoState<D>| -> (bool, Result<Vec<u8>, AskFault>)
-                ensures ok { IfOk result.1 (λ bytes. (state.new.history ≡ state.old.history) × (content_len state.old.history id ≡ Some (length bytes.items))) }
+            |state: &mut RepoState<D>| -> (bool, Result<ReadContent, AskFault>)
+                ensures ok { IfOk result.1 (λ read. (state.new.history ≡ state.old.history) × IsReadOf state.old.history id read) }
                 ensures err { IfErr result.1 (λ fault. Replies state.old.opening.header state.old.history who (Looks (ContentOf id)) (fault_answer fault) state.new.history) }
-                ensures honest { IsTrue state.old.opening.honest → IfOk result.1 (λ bytes. sha256 bytes.items ≡ id) }
+                ensures honest { IsTrue state.old.opening.honest → IfOk result.1 (λ read. sha256 read.bytes.items ≡ id) }
                 ensures unchecked { is_bad_bytes result.1 ≡ false }
                 ensures turn { IsTurn history_of opening_of sealed_of who None state.old state.new result.0 }
                 ensures front { IsFront state.new.opening state.new.history }

@@ -6,17 +6,17 @@ ghost use Rattle.bookmark_lock.specs.Turns.{IsTurn, stored_length};
 ghost use Rattle.history_model.specs.History.{is_down};
 ghost use Rattle.history_model.specs.Journal.{Header};
 ghost use Rattle.reply_model.specs.After.{Call};
-ghost use Rattle.repo_calls.specs.Asking.{is_misread, is_unread, stored_answer};
+ghost use Rattle.repo_calls.specs.Asking.{is_disk_fault, is_misread, stored_answer};
 ghost use Rattle.repo_calls.specs.declared.calls.ChangeFault.TheVariants as faults;
 ghost use Rattle.repo_state.specs.State.{after_seal};
 ghost use Rattle.shared_repo.specs.Front.{history_of, opening_of, sealed_of};
-ghost use Rattle.shared_repo.specs.Sealed.{IsAt, IsEntered, IsSealedAfter, IsSeen, IsState, IsTold};
+ghost use Rattle.shared_repo.specs.Sealed.{IsAt, IsEntered, IsLastTurn, IsSealOf, IsSealedAfter, IsSeen, IsState, IsTold};
 
 use crate::repo::Repo;
 use crate::turns::Placed;
 use blob_disk::Disk;
 use bookmark_lock::Seat;
-use repo_calls::{ChangeFault, Granted, Refusal};
+use repo_calls::{ChangeFault, Granted};
 use repo_journal::DiskFault;
 use repo_state::RepoState;
 use std::sync::Wait;
@@ -29,8 +29,10 @@ fn seal_in<D: Disk>(state: &mut RepoState<D>, who: u64, upto: u64) -> (bool, Res
     ensures failed { OnErr result.1 (is_down state.new.history ≡ true) }
     ensures history { state.new.history ≡ after_seal who (is_err result.1) state.old.history }
     ensures turn { (unsealed : Option ℕ) → IsTurn history_of opening_of sealed_of who unsealed state.old state.new result.0 }
-    ensures stands { IsState state.new.opening state.new.history state.new.sealed }
+    ensures seals { IsSealOf who (is_err result.1) state.old state.new }
 {
+    // It keeps its rules.
+    let _length = state.history_length();
     let up = !state.down();
     match state.seal(who, upto) {
         Ok(()) => (false, Ok(())),
@@ -40,12 +42,12 @@ fn seal_in<D: Disk>(state: &mut RepoState<D>, who: u64, upto: u64) -> (bool, Res
 
 impl<D: Disk> Repo<D> {
     /// The answer to a change, of which this came in the seat's turn before. What is granted is sealed first, with all that
-    /// was stored before it.
+    /// was stored before it; of any other there is nothing to seal.
     pub(crate) fn answer_sealed<R: Wait>(
         &self,
         rt: &R,
         seat: &mut Seat,
-        entered: Result<Placed, Refusal>,
+        entered: Result<Placed, ChangeFault>,
     ) -> Result<Granted, ChangeFault>
         requires place { seat.old.lock ≡ self.now }
         requires told { IsTold entered seat.old }
@@ -54,12 +56,12 @@ impl<D: Disk> Repo<D> {
         ensures sealed { (header : Header) (old : Place) (call : Call) → old.number ≡ seat.old.number → IsEntered header old call entered seat.old.front → IsSealedAfter header old.front old.number call (stored_answer result) seat.new.front seat.new.sealed }
         ensures seals { seat.old.sealed ≤ seat.new.sealed }
         ensures none { seat.new.unsealed ≡ None }
-        ensures read { (is_unread result ≡ false) × (is_misread result ≡ false) }
-        ensures stands { IsState self.now.opening seat.new.front seat.new.sealed }
+        ensures misread { is_misread result ≡ is_misread entered }
+        ensures stands { IsLastTurn self.now.opening seat.old (is_disk_fault result) seat.new }
     {
         match entered {
             Ok(placed) => self.see_sealed(rt, seat, placed),
-            Err(refusal) => Err(ChangeFault::Refused(refusal)),
+            Err(fault) => Err(fault),
         }
     }
 
@@ -78,8 +80,8 @@ impl<D: Disk> Repo<D> {
         ensures ok { IfOk result (λ granted. (granted ≡ placed.granted) × (stored_length seat.old.front ≤ seat.new.sealed)) }
         ensures err { IfErr result (λ fault. (fault ≡ faults.DiskFault) × (is_down seat.new.front ≡ true)) }
         ensures seen { IsSeen seat.old seat.new }
-        ensures read { (is_unread result ≡ false) × (is_misread result ≡ false) }
-        ensures stands { IsState self.now.opening seat.new.front seat.new.sealed }
+        ensures misread { is_misread result ≡ false }
+        ensures stands { IsLastTurn self.now.opening seat.old (is_disk_fault result) seat.new }
     {
         let Placed {
             granted,
@@ -105,7 +107,7 @@ impl<D: Disk> Repo<D> {
         ensures done { OnOk result (upto ≤ seat.new.sealed) }
         ensures failed { OnErr result (is_down seat.new.front ≡ true) }
         ensures seen { IsSeen seat.old seat.new }
-        ensures stands { IsState self.now.opening seat.new.front seat.new.sealed }
+        ensures stands { IsLastTurn self.now.opening seat.old (is_err result) seat.new }
     {
         let who = seat.number();
         self.lock.enter_behind(
@@ -117,7 +119,7 @@ impl<D: Disk> Repo<D> {
                 ensures failed { OnErr result.1 (is_down state.new.history ≡ true) }
                 ensures history { state.new.history ≡ after_seal who (is_err result.1) state.old.history }
                 ensures turn { (unsealed : Option ℕ) → IsTurn history_of opening_of sealed_of who unsealed state.old state.new result.0 }
-                ensures stands { IsState state.new.opening state.new.history state.new.sealed }
+                ensures seals { IsSealOf who (is_err result.1) state.old state.new }
             { seal_in(state, who, upto) },
         )
     }

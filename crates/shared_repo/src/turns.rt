@@ -4,25 +4,25 @@ ghost use Rattle.std.specs.Arc.{arc_value};
 ghost use Rattle.sha2.specs.Sha256.{sha256};
 ghost use Rattle.bookmark_lock.specs.Turns.{IsTurn};
 ghost use Rattle.history_model.specs.Bookmark.{head};
-ghost use Rattle.history_model.specs.History.{changeset_of, content_len, known};
+ghost use Rattle.history_model.specs.History.{changeset_of, known};
 ghost use Rattle.reply_model.specs.After.{Answer, Answers, Asks, Call, Looks, Replies, nothing};
 ghost use Rattle.reply_model.specs.Reply as reply;
 ghost use Rattle.reply_model.specs.Reply.{ChangesetOf, ContentOf, LandDraft};
 ghost use Rattle.repo_machine.specs.Plans.{IsPlan, WasPlanned};
 ghost use Rattle.repo_machine.specs.Prepared.{IsPrepared, asked_by};
-ghost use Rattle.repo_calls.specs.Asking.{IsAnswer, fault_answer, is_bad_bytes, question_seen};
-ghost use Rattle.repo_state.specs.State.{entered_answer};
+ghost use Rattle.repo_calls.specs.Asking.{IsAnswer, fault_answer, is_bad_bytes, is_disk_fault, is_misread, question_seen, stored_answer};
 ghost use Rattle.shared_repo.specs.Front.{IsFront, history_of, opening_of, sealed_of};
 ghost use Rattle.shared_repo.specs.Landing.{RefusesLanding, outcome_of};
+ghost use Rattle.shared_repo.specs.Reading.{IsReadOf};
 ghost use Rattle.shared_repo.specs.Sealed.{IsState, Tells, placed_answer};
 
 use blob_disk::Disk;
 use bonsai::Commit;
 use object_id::Id;
-use repo_calls::{AskFault, Granted, Question, Refusal, Seen};
+use repo_calls::{AskFault, ChangeFault, Granted, Question, Refusal, Seen};
 use repo_machine::{Plan, Prepared, Rebased};
 use repo_path::BookName;
-use repo_state::{Exchanged, RepoState};
+use repo_state::{Exchanged, ReadContent, RepoState};
 use std::alloc::Global;
 use std::sync::Arc;
 
@@ -41,13 +41,16 @@ pub(crate) struct Placed {
     pub(crate) sealed: u64,
 }
 
-// What was granted, at the end of its turn.
+// What was granted, at the end of its turn, in which nothing was sealed.
 fn with_counts<D: Disk>(
     state: &RepoState<D>,
-    granted: Result<Granted, Refusal>,
-) -> Result<Placed, Refusal>
-    ensures answer { placed_answer result ≡ entered_answer granted }
+    granted: Result<Granted, ChangeFault>,
+) -> Result<Placed, ChangeFault>
+    requires { is_disk_fault granted ≡ false }
+    ensures answer { placed_answer result ≡ stored_answer granted }
     ensures told { Tells result state.now }
+    ensures disk { is_disk_fault result ≡ false }
+    ensures misread { is_misread result ≡ is_misread granted }
 {
     match granted {
         Ok(granted) => Ok(Placed {
@@ -55,7 +58,7 @@ fn with_counts<D: Disk>(
             stored: state.stored_length(),
             sealed: state.sealed(),
         }),
-        Err(refusal) => Err(refusal),
+        Err(fault) => Err(fault),
     }
 }
 
@@ -73,10 +76,11 @@ pub(crate) trait TurnChange<D: Disk>: Drop {
         state: &mut RepoState<D>,
         alloc: Global,
         who: u64,
-    ) -> (bool, Result<Placed, Refusal>)
+    ) -> (bool, Result<Placed, ChangeFault>)
         requires { ready self }
         ensures reply { Replies state.old.opening.header state.old.history who (asked self) (placed_answer result.1) state.new.history }
         ensures told { Tells result.1 state.new }
+        ensures honest { IsTrue state.old.opening.honest → is_misread result.1 ≡ false }
         ensures turn { IsTurn history_of opening_of sealed_of who None state.old state.new result.0 }
         ensures stands { IsState state.new.opening state.new.history state.new.sealed };
 }
@@ -92,7 +96,7 @@ impl<D: Disk> TurnChange<D> for Prepared<'_> {
         state: &mut RepoState<D>,
         alloc: Global,
         who: u64,
-    ) -> (bool, Result<Placed, Refusal>) {
+    ) -> (bool, Result<Placed, ChangeFault>) {
         let before = state.history_length();
         let granted = state.store_prepared(alloc, who, self);
         let added = differ(before, state.history_length());
@@ -133,17 +137,17 @@ impl<D: Disk> TurnRead<D> for Question<'_> {
     }
 }
 
-// The bytes in the file for a content, before their digest is compared.
+// What is read for a content, before digests are compared.
 #[tactic(auto, using(crate::proofs::Made::look_adds))]
 pub(crate) fn content_in<D: Disk>(
     state: &mut RepoState<D>,
     alloc: Global,
     who: u64,
     id: Id,
-) -> (bool, Result<Vec<u8>, AskFault>)
-    ensures ok { IfOk result.1 (λ bytes. (state.new.history ≡ state.old.history) × (content_len state.old.history id ≡ Some (length bytes.items))) }
+) -> (bool, Result<ReadContent, AskFault>)
+    ensures ok { IfOk result.1 (λ read. (state.new.history ≡ state.old.history) × IsReadOf state.old.history id read) }
     ensures err { IfErr result.1 (λ fault. Replies state.old.opening.header state.old.history who (Looks (ContentOf id)) (fault_answer fault) state.new.history) }
-    ensures honest { IsTrue state.old.opening.honest → IfOk result.1 (λ bytes. sha256 bytes.items ≡ id) }
+    ensures honest { IsTrue state.old.opening.honest → IfOk result.1 (λ read. sha256 read.bytes.items ≡ id) }
     ensures unchecked { is_bad_bytes result.1 ≡ false }
     ensures turn { IsTurn history_of opening_of sealed_of who None state.old state.new result.0 }
     ensures front { IsFront state.new.opening state.new.history }
@@ -203,13 +207,14 @@ pub(crate) fn plan_in<D: Disk>(
     state.plan(alloc, caller, name, draft)
 }
 
-fn outcome(exchanged: Exchanged) -> Option<Result<Granted, Refusal>>
-    ensures { result ≡ outcome_of exchanged }
+fn outcome(exchanged: Exchanged) -> Option<Result<Granted, ChangeFault>>
+    ensures same { result ≡ outcome_of exchanged }
+    ensures disk { IfSome result (λ granted. is_disk_fault granted ≡ false) }
 {
     match exchanged {
         Exchanged::Landed(landed) => Some(Ok(Granted::Landing(landed))),
         Exchanged::HeadMoved { found: _ } => None,
-        Exchanged::Refused(refusal) => Some(Err(refusal)),
+        Exchanged::Refused(refusal) => Some(Err(ChangeFault::Refused(refusal))),
     }
 }
 
@@ -220,7 +225,7 @@ pub(crate) fn exchange_in<D: Disk>(
     alloc: Global,
     who: u64,
     rebased: Rebased,
-) -> (bool, Option<Result<Placed, Refusal>>)
+) -> (bool, Option<Result<Placed, ChangeFault>>)
     requires { WasPlanned state.old.history rebased }
     ensures reply { MatchOption result.1 (state.new.history ≡ state.old.history) (λ entered. Replies state.old.opening.header state.old.history who (Asks (LandDraft rebased.caller rebased.name rebased.draft rebased.asked)) (placed_answer entered) state.new.history) }
     ensures told { IfSome result.1 (λ entered. Tells entered state.new) }
@@ -230,7 +235,7 @@ pub(crate) fn exchange_in<D: Disk>(
 {
     let before = state.history_length();
     if state.reserve(alloc, &rebased).is_err() {
-        return (false, Some(Err(Refusal::Memory)));
+        return (false, Some(Err(ChangeFault::Refused(Refusal::Memory))));
     }
     let Some(granted) = outcome(state.exchange(who, rebased)) else {
         return (false, None);

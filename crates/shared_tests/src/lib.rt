@@ -1,5 +1,5 @@
 //! Repositories over memory that seats share: landings between which a gate moves the bookmark, their moments by a clock,
-//! roots that are derived, a disk that fails, and threads that store at once. Helpers have no contract beyond what their
+//! roots that are derived, contents that are joined, a disk that fails, and threads that store at once. Helpers have no contract beyond what their
 //! calls need, so that a test's proof doesn't carry what they call.
 #![tactic(auto)]
 
@@ -7,6 +7,8 @@
 mod derivation;
 #[cfg(test)]
 mod gates;
+#[cfg(test)]
+mod joins;
 #[cfg(test)]
 mod landings;
 #[cfg(test)]
@@ -21,6 +23,8 @@ mod seals;
 mod seats;
 #[cfg(test)]
 mod steps;
+#[cfg(test)]
+mod swapping;
 #[cfg(test)]
 mod threads;
 #[cfg(test)]

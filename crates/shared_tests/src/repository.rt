@@ -51,12 +51,21 @@ fn open_file<D: Disk>(alloc: Global, keys: RandomState, disk: D) -> Result<RepoS
 pub(crate) fn recorded_repository(
     alloc: Global,
     failing: Option<(CallKind, u64)>,
-) -> Result<RepoState<MemDisk>, Fail> {
+) -> Result<RepoState<MemDisk>, Fail>
+    ensures { IfOk result (λ state. IsAllSealed state.history state.sealed) }
+{
     let mut calls = Vec::new(alloc);
     if let Some(call) = failing {
         calls.push(call)?;
     }
-    let mut disk = MemDisk::recording(alloc, 65_536, 64, 4_096, calls)?;
+    repository_on(alloc, MemDisk::recording(alloc, 65_536, 64, 4_096, calls)?)
+}
+
+/// A new repository on this disk, which is empty.
+pub(crate) fn repository_on<D: Disk>(alloc: Global, disk: D) -> Result<RepoState<D>, Fail>
+    ensures { IfOk result (λ state. IsAllSealed state.history state.sealed) }
+{
+    let mut disk = disk;
     make_file(&mut disk)?;
     open_file(alloc, keys()?, disk)
 }
@@ -72,7 +81,5 @@ pub(crate) fn entries_in<D: Disk>(alloc: Global, disk: D) -> Result<u64, Fail> {
 pub(crate) fn new_repository(alloc: Global, failing: &[u64]) -> Result<RepoState<MemDisk>, Fail>
     ensures { IfOk result (λ state. IsAllSealed state.history state.sealed) }
 {
-    let mut disk = new_disk(alloc, failing)?;
-    make_file(&mut disk)?;
-    open_file(alloc, keys()?, disk)
+    repository_on(alloc, new_disk(alloc, failing)?)
 }

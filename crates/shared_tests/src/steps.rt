@@ -1,7 +1,7 @@
 //! What a seat does and is told, one step after another, by scripts. A script's line is a step, and after ` = ` what it
 //! tells. Ids and changesets are hex digits.
 //!
-//! - `content TEXT` and `changeset DIGITS` store what they name;
+//! - `content TEXT` and `changeset DIGITS` store what they name, and `whole DIGITS` joins the contents of these ids;
 //! - `move FROM TO` moves `main` for the caller `main`, where `-` stands for no bookmark;
 //! - `land ID` lands a draft on `main` for that caller, and tells how many new changesets there are, and the last;
 //! - `total` tells how many entries the log has, and `log N` those from this number on, too.
@@ -57,6 +57,7 @@ fn told<S: Seat>(alloc: Global, seat: &mut S, step: &str) -> Result<String, Fail
     match word {
         "content" => put_content(alloc, seat, rest),
         "changeset" => put_changeset(alloc, seat, rest),
+        "whole" => join_contents(alloc, seat, rest),
         "move" => move_main(alloc, seat, rest),
         "land" => land(alloc, seat, rest),
         "total" => tell_total(alloc, seat),
@@ -75,6 +76,11 @@ fn put_changeset<S: Seat>(alloc: Global, seat: &mut S, digits: &str) -> Result<S
         alloc,
         seat.change(alloc, &Ask::PutChangeset(bytes.as_slice())),
     )
+}
+
+fn join_contents<S: Seat>(alloc: Global, seat: &mut S, digits: &str) -> Result<String, Fail> {
+    let ids = hex::decode(alloc, digits)?;
+    tell(alloc, seat.change(alloc, &Ask::PutWhole(ids.as_slice())))
 }
 
 fn move_main<S: Seat>(alloc: Global, seat: &mut S, words: &str) -> Result<String, Fail> {
@@ -141,8 +147,15 @@ fn tell(alloc: Global, answer: Result<Granted, ChangeFault>) -> Result<String, F
     match answer {
         Ok(Granted::Landing(landed)) => tell_landed(alloc, landed.ids.as_slice()),
         Ok(_) => Ok(String::from_str(alloc, "done")?),
-        Err(ChangeFault::Refused(refusal)) => tell_refusal(alloc, &refusal),
-        Err(fault) => Ok(format!(in alloc; "{fault:?}")?),
+        Err(fault) => tell_fault(alloc, &fault),
+    }
+}
+
+fn tell_fault(alloc: Global, fault: &ChangeFault) -> Result<String, Fail> {
+    match fault {
+        ChangeFault::Refused(refusal) => tell_refusal(alloc, refusal),
+        ChangeFault::BadBytes { wanted, found } => tell_other(alloc, *wanted, *found),
+        _ => Ok(format!(in alloc; "{fault:?}")?),
     }
 }
 
@@ -151,6 +164,12 @@ fn tell_refusal(alloc: Global, refusal: &Refusal) -> Result<String, Fail> {
         Refusal::Denied { place, rule } => tell_denied(alloc, place, *rule),
         refusal => Ok(format!(in alloc; "Refused({refusal:?})")?),
     }
+}
+
+// The content that was wanted, and the one whose bytes there are.
+fn tell_other(alloc: Global, wanted: Id, found: Id) -> Result<String, Fail> {
+    let (wanted, found) = (wanted.to_hex(alloc)?, found.to_hex(alloc)?);
+    Ok(format!(in alloc; "{wanted} is {found}")?)
 }
 
 // Where it is denied, and the number of the rule that decides.

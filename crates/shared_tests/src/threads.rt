@@ -1,10 +1,11 @@
-//! Seats in threads of their own, which store at once.
+//! Seats in threads of their own, which store and join at once.
 ghost use Rattle.std.specs.Prelude.{◌≡◌, ◌+◌, ◌≤◌, ◌^◌};
 ghost use Rattle.repo_state.specs.State.{IsAllSealed};
 
 use crate::repository::new_repository;
 use crate::steps::total;
 use blob_disk::Disk;
+use object_id::Id;
 use ports::NoGate;
 use repo_calls::{Ask, Seat};
 use repo_state::RepoState;
@@ -16,7 +17,7 @@ use std::thread::{Threads, for_each_mut};
 
 const TIMES: u8 = 5;
 
-// A seat, the first byte of its contents, and how many of them were stored.
+// A seat, the first byte of its contents, and how many of them were stored, with those that were joined.
 #[derive(Drop)]
 struct Worker<S: Seat + Drop> {
     seat: S,
@@ -25,14 +26,28 @@ struct Worker<S: Seat + Drop> {
 }
 
 impl<S: Seat + Drop> Worker<S> {
+    // Each content is joined with itself, too.
     fn work(&mut self, alloc: Global) {
         for second in 0..TIMES {
             let bytes = [self.first, second];
-            if self.seat.change(alloc, &Ask::PutContent(&bytes)).is_ok() {
-                self.stored = self.stored.saturating_add(1);
-            }
+            self.count(alloc, &Ask::PutContent(&bytes));
+            self.count(alloc, &Ask::PutWhole(&twice(Id::of(&bytes))));
         }
     }
+
+    fn count(&mut self, alloc: Global, ask: &Ask) {
+        if self.seat.change(alloc, ask).is_ok() {
+            self.stored = self.stored.saturating_add(1);
+        }
+    }
+}
+
+// The body that joins a content with itself.
+fn twice(id: Id) -> [u8; 64] {
+    let mut body = [0; 64];
+    body[..32].copy_from_slice(id.as_bytes());
+    body[32..].copy_from_slice(id.as_bytes());
+    body
 }
 
 // So many workers, each at a seat of its own.
@@ -85,7 +100,7 @@ fn stored<S: Seat + Drop>(workers: &[Worker<S>]) -> u64 {
     all
 }
 
-// How many contents so many threads store.
+// How many contents so many threads store and join.
 fn store_at_once<R: Threads + Wait + Sync, D: Disk + Send>(
     rt: &R,
     alloc: Global,
@@ -103,7 +118,7 @@ fn store_at_once<R: Threads + Wait + Sync, D: Disk + Send>(
     Ok(stored(workers.as_slice()))
 }
 
-// How many contents so many threads stored, and how many entries the lead sees then.
+// How many contents so many threads stored and joined, and how many entries the lead sees then.
 fn at_once<R: Threads + Wait + Sync, D: Disk + Send>(
     rt: &R,
     alloc: Global,
@@ -122,8 +137,8 @@ fn at_once<R: Threads + Wait + Sync, D: Disk + Send>(
 fn what_threads_store_at_once_adds_up(rt: HostRuntime) -> Result<(), Fail> {
     let alloc = rt.alloc();
     let two = at_once(&rt, alloc, new_repository(alloc, &[])?, 2)?;
-    assert_eq!(rt; two, (10, 10));
+    assert_eq!(rt; two, (20, 20));
     let eight = at_once(&rt, alloc, new_repository(alloc, &[])?, 8)?;
-    assert_eq!(rt; eight, (40, 40));
+    assert_eq!(rt; eight, (80, 80));
     Ok(())
 }

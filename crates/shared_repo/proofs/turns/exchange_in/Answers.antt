@@ -17,7 +17,7 @@ returns-clause-turn g c =
 pub returns-clause-reply : goal.returns-clause-reply
 returns-clause-reply g c =
     counted_replies c.reserve.new.self.header c.args.state.now.opening.header c.reserve.new.self.history c.args.state.now.history c.exchange.new.self.history c.args.who c.args.rebased c.exchange.result _ _ c.exchange.ensures.exchanged
-    (c.reserve.ensures.header ∙ c.history_length-before.ensures.header) c.reserve.ensures.history (sym c.outcome.ensures ∙ c.in-Some.is) c.with_counts.ensures.answer
+    (c.reserve.ensures.header ∙ c.history_length-before.ensures.header) c.reserve.ensures.history (sym c.outcome.ensures.same ∙ c.in-Some.is) c.with_counts.ensures.answer
 
 pub exchange-requires-clause-room : goal.exchange-requires-clause-room
 exchange-requires-clause-room g c = where_ok c.reserve.result (sym c.is_err.ensures.value ∙ c.if-is_err.false) c.reserve.ensures.room

@@ -19,3 +19,6 @@ invariant_of-self g c =
 
 pub returns-clause-sound : goal.returns-clause-sound
 returns-clause-sound g c = (invariant_of-self g c).0.0.0
+
+pub returns-clause-leaves_now : goal.returns-clause-leaves_now
+returns-clause-leaves_now g c = (invariant_of-self g c).0.0.1.left

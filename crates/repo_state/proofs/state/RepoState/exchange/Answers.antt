@@ -13,6 +13,9 @@ use Rattle.repo_state.proofs.Known.{manifests_grow}
 use Rattle.repo_state.proofs.Landed.{lands_as}
 use Rattle.repo_state.proofs.Stepping.{exchanges, down_exchanges}
 use Rattle.repo_state.proofs.Storing.{making, frame_by, holds_entered, room_entered, granted_replies, refused_replies}
+use Rattle.history_model.specs.History.{bodies}
+use Rattle.repo_journal.specs.Groups.{with_group}
+use Rattle.repo_state.proofs.Wholes.{asks_nothing}
 use Rattle.repo_state.proofs.state.RepoState.exchange.Goals as goal
 
 pub judge_rebased-requires-clause-room : goal.judge_rebased-requires-clause-room
@@ -34,7 +37,9 @@ invariant_of-self g c =
       (
         holds_entered c.self.inside.machine.header c.self.inside.machine.header c.admit.new.self.header c.self.inside.machine.history c.self.inside.machine.history c.admit.new.self.history
             c.self.inside.sealed (LandDraft c.args.rebased.caller c.args.rebased.name c.args.rebased.draft c.args.rebased.asked) judged c.in-Some.frame.now c.self.inside.journal c.hold.new.self (g.D.Disk.meaning c.self.inside.first.value) (g.D.Disk.meaning c.self.inside.disk)
-            refl admitted.header refl admitted.history made c.hold.ensures.same c.hold.ensures.bytes c.self.invariant.0.0,
+            refl admitted.header refl admitted.history made (g.met.D.Disk.sound c.self.inside.disk) c.hold.ensures.same c.hold.ensures.bytes
+            (λ honest. asks_nothing c.self.inside.machine.header c.self.inside.machine.history (LandDraft c.args.rebased.caller c.args.rebased.name c.args.rebased.draft c.args.rebased.asked) judged.granted made.body tt made.granted
+            (with_group c.self.inside.journal.size c.self.inside.journal.pending.bytes (g.D.Disk.meaning c.self.inside.disk).state.reads) (bodies c.self.inside.machine.history)) c.self.invariant.0.0,
         room_entered c.self.inside.machine.header c.self.inside.machine.history c.admit.new.self.history c.self.inside.sealed (LandDraft c.args.rebased.caller c.args.rebased.name c.args.rebased.draft c.args.rebased.asked) judged c.in-Some.frame.now c.admit.new.self.room made admitted.room,
       ),
       manifests_grow _ _ _ _ _ _ admitted.header admitted.history admitted.legal c.self.invariant.1,
@@ -56,6 +61,9 @@ returns-clause-exchanged g c =
 
 pub returns-clause-sound : goal.returns-clause-sound
 returns-clause-sound g c = (invariant_of-self g c).0.0.0
+
+pub returns-clause-leaves_now : goal.returns-clause-leaves_now
+returns-clause-leaves_now g c = (invariant_of-self g c).0.0.1.left
 
 -- ---- the trees after it, and its steps
 

@@ -10,7 +10,7 @@ returns-clause-turn g c =
     let stored = c.store_prepared-granted.ensures in
     let after = c.store_prepared-granted.new.self in
     let call = asked_by c.args.self in
-    let adds = change_adds before.header before.history after.history c.args.who call c.with_counts.result
+    let adds = change_adds before.header before.history after.history c.args.who call c.with_counts.result c.with_counts.ensures.disk
     (subst (λ (answer : Answer). Replies before.header before.history c.args.who call answer after.history) (sym c.with_counts.ensures.answer) stored.reply)
     c.history_length.result c.history_length-before.result c.history_length.ensures.length c.history_length-before.ensures.length c.differ-added.result c.differ-added.ensures in
     let kept = stored.sealed in
