@@ -10,6 +10,7 @@ pub mod reader_source;
 mod silent;
 pub mod system_clock;
 pub mod tcp_accept;
+pub mod tcp_dial;
 pub mod tcp_link;
 pub mod writer_sink;
 
@@ -18,5 +19,6 @@ pub use reader_source::ReaderSource;
 pub use silent::{MOST_SILENT, SILENCE};
 pub use system_clock::SystemClock;
 pub use tcp_accept::TcpAccept;
+pub use tcp_dial::TcpDial;
 pub use tcp_link::{READ_PATIENCE, REQUEST_PATIENCE, TcpLink, WRITE_PATIENCE};
 pub use writer_sink::WriterSink;

@@ -1,5 +1,5 @@
 //! An accept over a TCP listener.
-ghost use Rattle.std.specs.Prelude.{◌≡◌, false, IfOk};
+ghost use Rattle.std.specs.Prelude.{◌≡◌, false, None, IfOk};
 
 use crate::porch::Porch;
 use crate::tcp_link::TcpLink;
@@ -69,6 +69,8 @@ impl<R: Clock + Eprint + Copy> Accept<TcpLink<R>> for TcpAccept<R> {
     ghost given = { λ a. a.given };
 
     ghost over = { λ _. false };
+
+    ghost next_link = { λ _. None };
 
     fn next(&mut self) -> Result<Option<TcpLink<R>>, Failed> {
         let given = self.given;

@@ -31,5 +31,5 @@ pub fn read_back(
     ensures { Finds result (λ page. (lines_seen page.entries.items ≡ lines_seen entries.now) × (page.total ≡ total)) }
 {
     let text = log_body(alloc, from, entries, total)?;
-    read_page(alloc, from, text.as_bytes())
+    read_page(alloc, from, text.as_slice())
 }

@@ -41,7 +41,7 @@ fn page_spelled(alloc: Global, from: u64, text: &[u8]) -> Result<LogPage, PageFa
         return Err(PageFault::BadCount);
     }
     let again = log_body(alloc, from, page.entries.as_slice(), page.total)?;
-    if is_same(again.as_bytes(), text) {
+    if is_same(again.as_slice(), text) {
         Ok(page)
     } else {
         Err(PageFault::OtherText)

@@ -1,5 +1,5 @@
 //! An accept over memory.
-ghost use Rattle.std.specs.Prelude.{◌≡◌, ◌≤◌, ◌-◌, ◌^◌, ◌↔◌, ◌||◌, ◌&&◌, Ok, None, false, not, IsTrue, IsErr, is_err, IfOk, slice_get, drop, if◌then◌else◌};
+ghost use Rattle.std.specs.Prelude.{◌≡◌, ◌≤◌, ◌-◌, ◌^◌, ◌↔◌, ◌||◌, ◌&&◌, Ok, None, Some, false, not, IsTrue, IsErr, is_err, IfOk, slice_get, drop, if◌then◌else◌};
 ghost use Rattle.ports.specs.Accepts.{is_end, is_link};
 ghost use Rattle.ports.specs.Faults.{Counts};
 ghost use Rattle.ports.specs.Memory.{fails_at, raised};
@@ -54,6 +54,8 @@ impl<L: Drop> Accept<L> for MemAccept<L> {
     ghost given = { λ a. a.given };
 
     ghost over = { λ a. a.over };
+
+    ghost next_link = { λ a. Some (slice_get a.links 0) };
 
     fn next(&mut self) -> Result<Option<L>, Failed>
         ensures given { self.new.given ≡ (if is_link result then raised self.old.given else self.old.given) }

@@ -27,5 +27,5 @@ returns-then-is_same-clause-found c = λ lines total page. c.in_ok-page.ensures.
 pub returns-else-is_same-clause-found : goal.returns-else-is_same-clause-found
 returns-else-is_same-clause-found c = λ lines total page.
     let found = c.in_ok-page.ensures.found c.args.from lines total c.ranges.from.fits page in
-    let same = c.as_bytes.ensures.value ∙ c.in_ok-again.ensures ∙ ap (λ es. log_body c.args.from (lines_seen es) c.in_ok-page.page.total) c.as_slice.ensures.value ∙ ap (λ ls. log_body c.args.from ls c.in_ok-page.page.total) found.0 ∙ ap (log_body c.args.from lines) found.1 ∙ sym page.text_is in
+    let same = c.as_slice-2.ensures.value ∙ c.in_ok-again.ensures ∙ ap (λ es. log_body c.args.from (lines_seen es) c.in_ok-page.page.total) c.as_slice.ensures.value ∙ ap (λ ls. log_body c.args.from ls c.in_ok-page.page.total) found.0 ∙ ap (log_body c.args.from lines) found.1 ∙ sym page.text_is in
     absurd (true≢false (sym (c.is_same.ensures.1 same) ∙ c.if-is_same.false))

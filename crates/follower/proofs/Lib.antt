@@ -1,0 +1,16 @@
+pub mod Placed
+pub mod Heard
+pub mod Joined
+pub mod Entries
+pub mod Refused
+pub mod Logged
+pub mod Unmade
+pub mod Room
+pub mod Resealed
+pub mod PagesHeard
+pub mod Walked
+pub mod Stepping
+pub mod Causes
+pub mod Single
+pub mod Granting
+pub mod Leavings

@@ -1,0 +1,15 @@
+pub mod Anew
+pub mod Elsewhere
+pub mod Wholes
+pub mod Answered
+pub mod Stood
+pub mod Kept
+pub mod Told
+pub mod Lengths
+pub mod Pages
+pub mod Replied
+pub mod Unique
+pub mod Steps
+pub mod Walk
+pub mod Files
+pub mod Examples

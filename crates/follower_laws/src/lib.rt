@@ -1,0 +1,6 @@
+//! Laws of following a server: an honest server's log is followed to its end, and what is stored then is a front of what the server has stored.
+#![tactic(auto)]
+
+pub mod again_laws;
+pub mod following_laws;
+pub mod text_laws;
