@@ -5,3 +5,5 @@ pub mod Serving
 pub mod Loading
 pub mod Pieces
 pub mod Refusing
+pub mod Migrating
+pub mod Followed

@@ -9,7 +9,7 @@ use Rattle.command_line.specs.declared.status.Status.{Status}
 use Rattle.command_line.specs.declared.status.Outcome.{Outcome}
 use Rattle.command_line.specs.Making.{Unopened}
 use Rattle.command_line.specs.declared.came.Came.{Came}
-use Rattle.command_line.specs.Outside.{Links, Outside}
+use Rattle.command_line.specs.Outside.{Links, Outside, Peer}
 use Rattle.command_line.specs.Running.{Runs, RunsOn, RunsSession, Writes}
 
 pub by_disk : {D : Type 0} (o : Option D) (U : Type 0) (P : D → Type 0) → (o ≡ None → U) → IfSome o P → MatchOption o U P
@@ -31,7 +31,7 @@ came_as status disk = record { status = status; disk = disk }
 same_came : {D : Type 0} (came ran : Came D) → ran.status ≡ came.status → ran.disk ≡ came.disk → came ≡ ran
 same_came {D} came ran status disk = sym (ap (λ (s : Status). came_as s ran.disk) status ∙ ap (λ (d : Option D). came_as came.status d) disk)
 
-pub runs_session : {D : Type 0} (meaning : D → Meaning) (tells : ℕ → Type 0) (request : Option Request) (file : List ℕ) (old new : Outside D) (links : Links) (came ran : Came D) (load : Option MemDisk) → request ≡ Some (session file)
-    → RunsSession meaning tells file old new came → ran.status ≡ came.status → ran.disk ≡ came.disk → Runs meaning tells request old new links ran load
-runs_session {D} meaning tells request file old new links came ran load is runs status disk = subst (λ (q : Option Request). Runs meaning tells q old new links ran load) (sym is)
+pub runs_session : {D K : Type 0} (meaning : D → Meaning) (tells : ℕ → Type 0) (request : Option Request) (file : List ℕ) (old new : Outside D) (links : Links) (peer : Peer K) (came ran : Came D) (load : Option MemDisk) (other : Option D) → request ≡ Some (session file)
+    → RunsSession meaning tells file old new came → ran.status ≡ came.status → ran.disk ≡ came.disk → Runs meaning tells request old new links peer ran load other
+runs_session {D} {K} meaning tells request file old new links peer came ran load other is runs status disk = subst (λ (q : Option Request). Runs meaning tells q old new links peer ran load other) (sym is)
     (subst (λ (r : Came D). RunsSession meaning tells file old new r) (same_came came ran status disk) runs)

@@ -9,3 +9,5 @@ pub mod Reports
 pub mod Making
 pub mod Opening
 pub mod Counting
+pub mod Migrating
+pub mod Followed

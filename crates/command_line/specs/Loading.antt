@@ -20,7 +20,7 @@ use Rattle.run_gen.specs.Begun.{load_header}
 use Rattle.run_gen.specs.Sums.{SumsUp}
 use Rattle.run_gen.specs.declared.summary.Summary.{Summary}
 use Rattle.command_line.specs.declared.report.Report.{Report}
-use Rattle.command_line.specs.declared.report.Report.TheVariants.{Ready, Counted, Served, Loaded, LoadRefused, Help, Version, Usage, DiskFault, NotARepository, Damaged, NotEmpty, NoMemory, StreamFault}
+use Rattle.command_line.specs.declared.report.Report.TheVariants.{Ready, Counted, Migrated, Served, Loaded, LoadRefused, Followed, BadReply, Differs, Full, OldFormat, Help, Version, Usage, DiskFault, NotARepository, Damaged, NotEmpty, NoMemory, StreamFault}
 
 abbrev pub report_of : Result Summary LoadFault → Report
 report_of (Ok summary) = Loaded summary.landed summary.entries summary.root
@@ -67,8 +67,14 @@ abbrev pub Loads : (seed stacks clients : ℕ) → Report → Option MemDisk →
 Loads seed stacks clients (Loaded landed entries root) load = LeavesLoad (IsSummed seed stacks clients (summary_of landed entries root)) load
 Loads seed stacks clients LoadRefused load = LeavesLoad (λ header h. IsStopped header seed stacks clients h) load
 Loads seed stacks clients NoMemory load = load ≡ None
+Loads seed stacks clients (Followed entries) load = ⊥
+Loads seed stacks clients (BadReply number) load = ⊥
+Loads seed stacks clients (Differs number) load = ⊥
+Loads seed stacks clients (Full number) load = ⊥
+Loads seed stacks clients OldFormat load = ⊥
 Loads seed stacks clients (Ready capacity) load = ⊥
 Loads seed stacks clients (Counted counts) load = ⊥
+Loads seed stacks clients (Migrated entries size) load = ⊥
 Loads seed stacks clients (Served connections entries) load = ⊥
 Loads seed stacks clients Help load = ⊥
 Loads seed stacks clients Version load = ⊥

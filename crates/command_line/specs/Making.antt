@@ -14,7 +14,7 @@ use Rattle.history_model.specs.Journal.{Keeps}
 use Rattle.repo_journal.specs.Sealing.{Makes}
 use Rattle.repo_journal.specs.declared.header.TheConstants.{EMPTY_SIZE}
 use Rattle.command_line.specs.declared.report.Report.{Report}
-use Rattle.command_line.specs.declared.report.Report.TheVariants.{Ready, Counted, Served, Help, Version, Usage, DiskFault, NotARepository, Damaged, NotEmpty, NoMemory, StreamFault, Loaded, LoadRefused}
+use Rattle.command_line.specs.declared.report.Report.TheVariants.{Ready, Counted, Migrated, Served, Help, Version, Usage, DiskFault, NotARepository, Damaged, NotEmpty, NoMemory, StreamFault, Loaded, LoadRefused, Followed, BadReply, Differs, Full, OldFormat}
 
 abbrev pub Unopened : Report → ℕ → ℕ → Type 0
 Unopened report before after = (report ≡ DiskFault) × Rose before after
@@ -37,9 +37,15 @@ Reported capacity old new (Ready made) = IsMade capacity made old new
 Reported capacity old new NotEmpty = IsUsed old new
 Reported capacity old new DiskFault = Rose old.faults new.faults
 Reported capacity old new (Counted counts) = ⊥
+Reported capacity old new (Migrated entries size) = ⊥
 Reported capacity old new (Served connections entries) = ⊥
 Reported capacity old new (Loaded landed entries root) = ⊥
 Reported capacity old new LoadRefused = ⊥
+Reported capacity old new (Followed entries) = ⊥
+Reported capacity old new (BadReply number) = ⊥
+Reported capacity old new (Differs number) = ⊥
+Reported capacity old new (Full number) = ⊥
+Reported capacity old new OldFormat = ⊥
 Reported capacity old new Help = ⊥
 Reported capacity old new Version = ⊥
 Reported capacity old new Usage = ⊥

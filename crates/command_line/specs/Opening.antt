@@ -21,7 +21,7 @@ use Rattle.recovery.specs.Answers.{OpensAs}
 use Rattle.recovery.specs.declared.fault.OpenFault.{OpenFault}
 use Rattle.recovery.specs.declared.fault.OpenFault.TheVariants as faults
 use Rattle.command_line.specs.declared.report.Report.{Report}
-use Rattle.command_line.specs.declared.report.Report.TheVariants.{Ready, Counted, Served, Help, Version, Usage, DiskFault, NotARepository, Damaged, NotEmpty, NoMemory, StreamFault, Loaded, LoadRefused}
+use Rattle.command_line.specs.declared.report.Report.TheVariants.{Ready, Counted, Migrated, Served, Help, Version, Usage, DiskFault, NotARepository, Damaged, NotEmpty, NoMemory, StreamFault, Loaded, LoadRefused, Followed, BadReply, Differs, Full, OldFormat}
 use Rattle.command_line.specs.declared.status.Outcome.{Outcome}
 
 abbrev pub report_of : OpenFault → Report
@@ -65,9 +65,15 @@ Finds old new DiskFault = Rose old.faults new.faults
 Finds old new NoMemory = Unit {0}
 Finds old new (Ready capacity) = ⊥
 Finds old new (Counted counts) = ⊥
+Finds old new (Migrated entries size) = ⊥
 Finds old new (Served connections entries) = ⊥
 Finds old new (Loaded landed entries root) = ⊥
 Finds old new LoadRefused = ⊥
+Finds old new (Followed entries) = ⊥
+Finds old new (BadReply number) = ⊥
+Finds old new (Differs number) = ⊥
+Finds old new (Full number) = ⊥
+Finds old new OldFormat = ⊥
 Finds old new Help = ⊥
 Finds old new Version = ⊥
 Finds old new Usage = ⊥
@@ -81,9 +87,15 @@ is_refusal DiskFault = false
 is_refusal NoMemory = false
 is_refusal (Ready capacity) = false
 is_refusal (Counted counts) = false
+is_refusal (Migrated entries size) = false
 is_refusal (Served connections entries) = false
 is_refusal (Loaded landed entries root) = false
 is_refusal LoadRefused = false
+is_refusal (Followed entries) = false
+is_refusal (BadReply number) = false
+is_refusal (Differs number) = false
+is_refusal (Full number) = false
+is_refusal OldFormat = false
 is_refusal Help = false
 is_refusal Version = false
 is_refusal Usage = false

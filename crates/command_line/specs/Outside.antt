@@ -2,7 +2,9 @@
 --     Told      of a link;  told ..      that of this one
 --     Outside D      of an opener and a link;  outside ..      that of these
 --     Incoming      of what connections come from;  Links      of it before and after, with how many were served;  links ..      that of these;  TakesNone links      none was taken
-use Rattle.std.specs.Prelude.{◌≡◌, ℕ, Bool, List, Option}
+--     Peer K      of a server that is followed: which link the accept tells that it gives next, the link as it was left, and what is told of a link;  peer ..      of these
+--     taken served link      how many links were taken: those that were served, and that to a server which was followed
+use Rattle.std.specs.Prelude.{◌≡◌, ℕ, ◌+◌, Bool, List, Option, None, Some}
 use Rattle.ports.specs.Openers.{Shelf}
 
 pub record Told : Type 0 where
@@ -45,3 +47,15 @@ links given over faults before after served =
 pub record TakesNone (links : Links) : Type 0 where
   pub same : links.after ≡ links.before
   pub none : links.served ≡ 0
+
+pub record Peer (K : Type 0) : Type 0 where
+  pub next : Option (Option K)
+  pub left : Option K
+  pub tells : K → Told
+
+abbrev pub peer : {A K : Type 0} (next : A → Option (Option K)) (rest written : K → Option (List ℕ)) (faults : K → ℕ) → A → Option K → Peer K
+peer next rest written faults accept left = record { next = next accept; left = left; tells = told rest written faults }
+
+abbrev pub taken : {K : Type 0} → ℕ → Option K → ℕ
+taken served None = served
+taken served (Some link) = served + 1

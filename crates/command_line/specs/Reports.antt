@@ -1,8 +1,8 @@
 -- The lines that the program writes.
---     report_text report      the line;  counts_text counts      that of a repository's counts;  served_text connections entries      that of what was served;  loaded_text landed entries root      that of what a load came to
+--     report_text report      the line;  counts_text counts      that of a repository's counts;  migrated_text entries size      that of what was copied;  served_text connections entries      that of what was served;  loaded_text landed entries root      that of what a load came to
 --     status_of report      the status of a run that is reported so
 --     after_fault status      the status where that line can't be written
---     Reports report status written kept before after      the line is written, or a front of it where the count of faults rose, which the status then says where nothing else is wrong or a load was refused
+--     Reports report status written kept before after      the line is written, or a front of it where the count of faults rose, which the status then says where nothing else is wrong, or a load was refused or a server wasn't followed to its end
 use Rattle.std.specs.Prelude.{◌≡◌, ◌⊎◌, ℕ, List, ◌++◌, codes, decimal, Option}
 use Rattle.hex.specs.Hex.{encode_lower}
 use Rattle.ports.specs.Faults.{Rose}
@@ -12,12 +12,15 @@ use Rattle.repo_machine.specs.declared.counts.Counts.{Counts}
 use Rattle.command_line.specs.declared.report.Report.{Report}
 use Rattle.command_line.specs.declared.report.Report.TheVariants as report
 use Rattle.command_line.specs.declared.status.Status.{Status}
-use Rattle.command_line.specs.declared.status.Status.TheVariants.{Done, Usage, DiskFault, BadFile, NoMemory, StreamFault, NotEmpty, Cut, Refused, Spent, LoadRefused}
+use Rattle.command_line.specs.declared.status.Status.TheVariants.{Done, Usage, DiskFault, BadFile, NoMemory, StreamFault, NotEmpty, Cut, Refused, Spent, BadReply, Differs, Full, LoadRefused}
 
 abbrev pub counts_text : Counts → List ℕ
 counts_text counts =
     codes "entries " ++ (decimal counts.entries ++ (codes " contents " ++ (decimal counts.contents ++ (codes " changesets " ++ (decimal counts.changesets
     ++ (codes " bookmarks " ++ (decimal counts.bookmarks ++ (codes " size " ++ (decimal counts.size ++ codes "\n")))))))))
+
+abbrev pub migrated_text : (entries size : ℕ) → List ℕ
+migrated_text entries size = codes "migrated " ++ (decimal entries ++ (codes " size " ++ (decimal size ++ codes "\n")))
 
 abbrev pub served_text : (connections entries : ℕ) → List ℕ
 served_text connections entries = codes "served " ++ (decimal connections ++ (codes " entries " ++ (decimal entries ++ codes "\n")))
@@ -29,14 +32,20 @@ loaded_text landed entries root =
 abbrev pub report_text : Report → List ℕ
 report_text (report.Ready capacity) = codes "ready " ++ (decimal capacity ++ codes "\n")
 report_text (report.Counted counts) = counts_text counts
+report_text (report.Migrated entries size) = migrated_text entries size
 report_text (report.Served connections entries) = served_text connections entries
 report_text (report.Loaded landed entries root) = loaded_text landed entries root
 report_text report.LoadRefused = codes "load refused\n"
+report_text (report.Followed entries) = codes "followed " ++ (decimal entries ++ codes "\n")
+report_text (report.BadReply number) = codes "bad reply at " ++ (decimal number ++ codes "\n")
+report_text (report.Differs number) = codes "differs at " ++ (decimal number ++ codes "\n")
+report_text (report.Full number) = codes "full at " ++ (decimal number ++ codes "\n")
 report_text report.Help = HELP.now
 report_text report.Version = VERSION.now
 report_text report.Usage = USAGE.now
 report_text report.DiskFault = codes "disk fault\n"
 report_text report.NotARepository = codes "not a repository\n"
+report_text report.OldFormat = codes "old format\n"
 report_text (report.Damaged at) = codes "damaged at " ++ (decimal at ++ codes "\n")
 report_text report.NotEmpty = codes "file is not empty\n"
 report_text report.NoMemory = codes "no memory\n"
@@ -45,14 +54,20 @@ report_text report.StreamFault = codes "stream fault\n"
 abbrev pub status_of : Report → Status
 status_of (report.Ready capacity) = Done
 status_of (report.Counted counts) = Done
+status_of (report.Migrated entries size) = Done
 status_of (report.Served connections entries) = Done
 status_of (report.Loaded landed entries root) = Done
 status_of report.LoadRefused = LoadRefused
+status_of (report.Followed entries) = Done
+status_of (report.BadReply number) = BadReply
+status_of (report.Differs number) = Differs
+status_of (report.Full number) = Full
 status_of report.Help = Done
 status_of report.Version = Done
 status_of report.Usage = Usage
 status_of report.DiskFault = DiskFault
 status_of report.NotARepository = BadFile
+status_of report.OldFormat = BadFile
 status_of (report.Damaged at) = BadFile
 status_of report.NotEmpty = NotEmpty
 status_of report.NoMemory = NoMemory
@@ -74,6 +89,9 @@ after_fault NotEmpty = NotEmpty
 after_fault Cut = Cut
 after_fault Refused = Refused
 after_fault Spent = Spent
+after_fault BadReply = StreamFault
+after_fault Differs = StreamFault
+after_fault Full = StreamFault
 after_fault LoadRefused = StreamFault
 
 pub record IsFront (report : Report) (status : Status) (written kept : Option (List ℕ)) (before after : ℕ) : Type 0 where

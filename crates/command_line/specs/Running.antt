@@ -1,11 +1,13 @@
 -- What a run of the program does, by what its words ask for.
 --     RunsLine report ..      the report's line is written, and no file is opened
 --     RunsInit meaning file capacity .., RunsFsck meaning file ..      what is reported of the file of this name
+--     RunsMigrate meaning source target ..      what is reported of the files of these names, of which the target's disk is the run's, and the source's the other one
 --     RunsSession meaning tells file ..      one connection is served on the repository in it, by a clock that tells such moments, or it wasn't opened and nothing is written
 --     RunsServe meaning file lanes connections ..      connections are served on the repository in it
+--     RunsFollow meaning file ..      the server to which the accept gives a link is followed into the repository in it
 --     RunsGen seed stacks clients ..      a load is made in memory, and no file is opened
 --     LacksMemory request ..      there was no memory to read the words;  Runs meaning tells request ..      by what is asked for
---     takes_links request      the command takes links;  makes_load request      it makes a load
+--     takes_links request      the command takes links;  makes_load request      it makes a load;  opens_other request      it opens another file;  follows_server request      it follows a server
 use Rattle.std.specs.Prelude.{◌≡◌, ◌⊎◌, ℕ, Bool, true, false, List, Option, None, Some, MatchOption}
 use Rattle.ports.specs.Faults.{Rose}
 use Rattle.disk_model.specs.Meaning.{Meaning}
@@ -13,19 +15,21 @@ use Rattle.blob_disk.specs.declared.mem_disk.MemDisk.{MemDisk}
 use Rattle.history_model.specs.History.{Entry}
 use Rattle.history_model.specs.Journal.{Header}
 use Rattle.repo_journal.specs.View.{JournalView}
-use Rattle.program_words.specs.Words.{Request, fsck, gen, help, init, serve, session, version}
+use Rattle.program_words.specs.Words.{Request, follow, fsck, gen, help, init, migrate, serve, session, version}
 use Rattle.program_words.specs.Sessions.{is_session}
 use Rattle.command_line.specs.declared.report.Report.{Report}
 use Rattle.command_line.specs.declared.report.Report.TheVariants as report
 use Rattle.command_line.specs.declared.status.Status.{Status}
 use Rattle.command_line.specs.declared.status.Status.TheVariants.{DiskFault, NoMemory}
 use Rattle.command_line.specs.Counting.{ChecksIn}
+use Rattle.command_line.specs.Followed.{FollowsFile, FollowsOpened}
 use Rattle.command_line.specs.Making.{AttemptsIn, Unopened}
+use Rattle.command_line.specs.Migrating.{Migrates}
 use Rattle.command_line.specs.Opening.{RefusesIn}
 use Rattle.command_line.specs.Reports.{Reports, status_of}
 use Rattle.command_line.specs.declared.came.Came.{Came}
 use Rattle.command_line.specs.Loading.{Loads}
-use Rattle.command_line.specs.Outside.{Links, Outside, TakesNone, Told}
+use Rattle.command_line.specs.Outside.{Links, Outside, Peer, TakesNone, Told}
 use Rattle.command_line.specs.Sessions.{ServesFile}
 use Rattle.command_line.specs.Serving.{ServesOpened, ServesRepository}
 
@@ -60,6 +64,11 @@ RunsInit meaning file capacity old new ran = RunsOn (λ disk report. AttemptsIn 
 
 abbrev pub RunsFsck : {D : Type 0} → (D → Meaning) → List ℕ → Outside D → Outside D → Came D → Type 0
 RunsFsck meaning file old new ran = RunsOn (λ disk report. ChecksIn meaning file old.shelf disk report) old new ran
+
+pub record RunsMigrate {D : Type 0} (meaning : D → Meaning) (source target : List ℕ) (old new : Outside D) (ran : Came D) (other : Option D) : Type 0 where
+  pub report : Report
+  pub writes : Writes report ran.status old.link new.link
+  pub migrates : Migrates meaning source target old.shelf old.unopened new.unopened (record { report = report; disk = ran.disk; other = other })
 
 -- ---- a session
 
@@ -107,6 +116,20 @@ abbrev pub RunsServe : {D : Type 0} → (D → Meaning) → List ℕ → (lanes 
 RunsServe meaning file lanes connections old new links ran =
     OpensNone meaning file old new links ran ⊎ LacksLanes old.link new.link links ran ⊎ Ends (ServesRepository meaning file old.shelf lanes connections links) old.link new.link ran
 
+-- ---- a server that is followed
+
+abbrev pub RunsOpenedOn : {D K : Type 0} → (D → Meaning) → Header → List Entry → JournalView → Meaning → Told → Told → Links → Peer K → Came D → Type 0
+RunsOpenedOn meaning header opened journal read old new links peer ran = Ends (FollowsOpened meaning header opened journal read links peer) old new ran
+
+-- what isn't opened is reported as `fsck` reports it, and no link is taken
+pub record OpensUnfollowed {D K : Type 0} (meaning : D → Meaning) (file : List ℕ) (old new : Outside D) (links : Links) (peer : Peer K) (ran : Came D) : Type 0 where
+  pub opens : OpensNone meaning file old new links ran
+  pub unlinked : peer.left ≡ None
+
+abbrev pub RunsFollow : {D K : Type 0} → (D → Meaning) → List ℕ → Outside D → Outside D → Links → Peer K → Came D → Type 0
+RunsFollow meaning file old new links peer ran =
+    OpensUnfollowed meaning file old new links peer ran ⊎ Ends (FollowsFile meaning file old.shelf links peer) old.link new.link ran
+
 -- ---- a load
 
 -- it is reported, and the disk that it left is handed out
@@ -125,7 +148,9 @@ takes_links (Some (init file capacity)) = false
 takes_links (Some (session file)) = false
 takes_links (Some (serve file address lanes derivers connections)) = true
 takes_links (Some (fsck file)) = false
+takes_links (Some (migrate source target)) = false
 takes_links (Some (gen seed stacks clients)) = false
+takes_links (Some (follow file address)) = true
 takes_links (Some help) = false
 takes_links (Some version) = false
 takes_links None = false
@@ -135,22 +160,52 @@ makes_load (Some (init file capacity)) = false
 makes_load (Some (session file)) = false
 makes_load (Some (serve file address lanes derivers connections)) = false
 makes_load (Some (fsck file)) = false
+makes_load (Some (migrate source target)) = false
 makes_load (Some (gen seed stacks clients)) = true
+makes_load (Some (follow file address)) = false
 makes_load (Some help) = false
 makes_load (Some version) = false
 makes_load None = false
 
-pub record LacksMemory {D : Type 0} (request : Option Request) (old new : Outside D) (links : Links) (ran : Came D) (load : Option MemDisk) : Type 0 where
+abbrev pub opens_other : Option Request → Bool
+opens_other (Some (init file capacity)) = false
+opens_other (Some (session file)) = false
+opens_other (Some (serve file address lanes derivers connections)) = false
+opens_other (Some (fsck file)) = false
+opens_other (Some (migrate source target)) = true
+opens_other (Some (gen seed stacks clients)) = false
+opens_other (Some (follow file address)) = false
+opens_other (Some help) = false
+opens_other (Some version) = false
+opens_other None = false
+
+abbrev pub follows_server : Option Request → Bool
+follows_server (Some (init file capacity)) = false
+follows_server (Some (session file)) = false
+follows_server (Some (serve file address lanes derivers connections)) = false
+follows_server (Some (fsck file)) = false
+follows_server (Some (migrate source target)) = false
+follows_server (Some (gen seed stacks clients)) = false
+follows_server (Some (follow file address)) = true
+follows_server (Some help) = false
+follows_server (Some version) = false
+follows_server None = false
+
+pub record LacksMemory {D K : Type 0} (request : Option Request) (old new : Outside D) (links : Links) (peer : Peer K) (ran : Came D) (load : Option MemDisk) (other : Option D) : Type 0 where
   pub line : RunsAlone (LacksLine (is_session request)) old new ran
   pub untaken : TakesNone links
   pub unloaded : load ≡ None
+  pub single : other ≡ None
+  pub unlinked : peer.left ≡ None
 
-abbrev pub Runs : {D : Type 0} → (D → Meaning) → (ℕ → Type 0) → Option Request → Outside D → Outside D → Links → Came D → Option MemDisk → Type 0
-Runs meaning tells (Some (init file capacity)) old new links ran load = RunsInit meaning file capacity old new ran
-Runs meaning tells (Some (session file)) old new links ran load = RunsSession meaning tells file old new ran
-Runs meaning tells (Some (serve file address lanes derivers connections)) old new links ran load = RunsServe meaning file lanes connections old new links ran
-Runs meaning tells (Some (fsck file)) old new links ran load = RunsFsck meaning file old new ran
-Runs meaning tells (Some (gen seed stacks clients)) old new links ran load = RunsGen seed stacks clients old new ran load
-Runs meaning tells (Some help) old new links ran load = RunsLine report.Help old new ran
-Runs meaning tells (Some version) old new links ran load = RunsLine report.Version old new ran
-Runs meaning tells None old new links ran load = RunsLine report.Usage old new ran
+abbrev pub Runs : {D K : Type 0} → (D → Meaning) → (ℕ → Type 0) → Option Request → Outside D → Outside D → Links → Peer K → Came D → Option MemDisk → Option D → Type 0
+Runs meaning tells (Some (init file capacity)) old new links peer ran load other = RunsInit meaning file capacity old new ran
+Runs meaning tells (Some (session file)) old new links peer ran load other = RunsSession meaning tells file old new ran
+Runs meaning tells (Some (serve file address lanes derivers connections)) old new links peer ran load other = RunsServe meaning file lanes connections old new links ran
+Runs meaning tells (Some (fsck file)) old new links peer ran load other = RunsFsck meaning file old new ran
+Runs meaning tells (Some (migrate source target)) old new links peer ran load other = RunsMigrate meaning source target old new ran other
+Runs meaning tells (Some (gen seed stacks clients)) old new links peer ran load other = RunsGen seed stacks clients old new ran load
+Runs meaning tells (Some (follow file address)) old new links peer ran load other = RunsFollow meaning file old new links peer ran
+Runs meaning tells (Some help) old new links peer ran load other = RunsLine report.Help old new ran
+Runs meaning tells (Some version) old new links peer ran load other = RunsLine report.Version old new ran
+Runs meaning tells None old new links peer ran load other = RunsLine report.Usage old new ran

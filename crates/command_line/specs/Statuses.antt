@@ -2,7 +2,7 @@
 --     status_code s      the number of a status
 use Rattle.std.specs.Prelude.{ℕ}
 use Rattle.command_line.specs.declared.status.Status.{Status}
-use Rattle.command_line.specs.declared.status.Status.TheVariants.{Done, Usage, DiskFault, BadFile, NoMemory, StreamFault, NotEmpty, Cut, Refused, Spent, LoadRefused}
+use Rattle.command_line.specs.declared.status.Status.TheVariants.{Done, Usage, DiskFault, BadFile, NoMemory, StreamFault, NotEmpty, Cut, Refused, Spent, BadReply, Differs, Full, LoadRefused}
 
 abbrev pub status_code : Status → ℕ
 status_code Done = 0
@@ -15,4 +15,7 @@ status_code NotEmpty = 6
 status_code Cut = 7
 status_code Refused = 8
 status_code Spent = 9
+status_code BadReply = 10
+status_code Differs = 11
+status_code Full = 12
 status_code LoadRefused = 13

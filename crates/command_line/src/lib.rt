@@ -2,9 +2,11 @@
 #![tactic(auto)]
 
 pub mod came;
+mod follow;
 pub mod fsck;
 pub mod init;
 pub mod load;
+pub mod migrate;
 pub mod opening;
 pub mod program;
 pub mod ran;
@@ -17,6 +19,7 @@ mod watched;
 pub use came::Came;
 pub use fsck::fsck_file;
 pub use init::init_file;
+pub use migrate::{Migration, migrate_file};
 pub use opening::{OpenedFile, open_file};
 pub use program::{refuse_words, run};
 pub use ran::Ran;

@@ -93,7 +93,9 @@ where
     requires clients { clients ≤ 8 }
     ensures loads { ReportsLoad seed stacks clients result.load result.status (told L.rest L.written L.faults link.old) (told L.rest L.written L.faults link.new) }
     ensures disk { result.disk ≡ None }
+    ensures other { result.other ≡ None }
     ensures served { result.served ≡ 0 }
+    ensures link { result.link ≡ None }
     ensures accept { result.accept ≡ accept }
 {
     let left = make_load(rt, alloc, keys, seed, stacks, clients);

@@ -4,12 +4,14 @@ ghost use Rattle.program_words.specs.Said.{IsInRange, said_of};
 ghost use Rattle.program_words.specs.Words.{command_of};
 ghost use Rattle.program_words.specs.Sessions.{is_session};
 ghost use Rattle.command_line.specs.declared.report.Report.TheVariants.{NoMemory as NoMemoryLine, Usage as UsageLine};
-ghost use Rattle.command_line.specs.Outside.{links, outside, told};
-ghost use Rattle.command_line.specs.Running.{LacksLine, LacksMemory, Runs, Writes, makes_load, takes_links};
+ghost use Rattle.command_line.specs.Outside.{links, outside, peer, taken, told};
+ghost use Rattle.command_line.specs.Running.{LacksLine, LacksMemory, Runs, Writes, follows_server, makes_load, opens_other, takes_links};
 ghost use Rattle.command_line.specs.Serving.{IsServed};
 
 use crate::came::Came;
+use crate::follow::run_follow;
 use crate::load::run_load;
+use crate::migrate::run_migrate;
 use crate::ran::{Ran, apart};
 use crate::serve::run_serve;
 use crate::session::run_session;
@@ -80,10 +82,12 @@ where
     G: Gate + Sync,
     C: Clock + Sync,
     requires { IsInRange command }
-    ensures runs { Runs D.meaning (C.tells clock.now) (Some (said_of command.entry)) (outside O.shelf O.faults L.rest L.written L.faults opener.old link.old) (outside O.shelf O.faults L.rest L.written L.faults opener.new link.new) (links A.given A.over A.faults accept result.accept result.served) (record { status = result.status; disk = result.disk }) result.load }
-    ensures served { IsServed (links A.given A.over A.faults accept result.accept result.served) }
+    ensures runs { Runs D.meaning (C.tells clock.now) (Some (said_of command.entry)) (outside O.shelf O.faults L.rest L.written L.faults opener.old link.old) (outside O.shelf O.faults L.rest L.written L.faults opener.new link.new) (links A.given A.over A.faults accept result.accept result.served) (peer A.next_link K.rest K.written K.faults accept result.link) (record { status = result.status; disk = result.disk }) result.load result.other }
+    ensures served { IsServed (links A.given A.over A.faults accept result.accept (taken result.served result.link)) }
     ensures apart { takes_links (Some (said_of command.entry)) ≡ false → (result.served ≡ 0) × (result.accept ≡ accept) }
     ensures unloaded { makes_load (Some (said_of command.entry)) ≡ false → result.load ≡ None }
+    ensures single { opens_other (Some (said_of command.entry)) ≡ false → result.other ≡ None }
+    ensures unlinked { follows_server (Some (said_of command.entry)) ≡ false → result.link ≡ None }
 {
     match command {
         Command::Init { file, capacity } => {
@@ -114,6 +118,7 @@ where
             clock,
         ),
         Command::Fsck { file } => apart(tell(fsck_file(alloc, keys, opener, file), link), accept),
+        Command::Migrate { old, new } => run_migrate(alloc, keys, old, new, link, opener, accept),
         Command::Gen {
             seed,
             stacks,
@@ -122,15 +127,17 @@ where
             let (seed, stacks, clients) = (u64::from(seed), u64::from(stacks), u64::from(clients));
             run_load(rt, alloc, keys, seed, stacks, clients, link, accept)
         }
+        Command::Follow { file, .. } => run_follow(alloc, keys, file, link, opener, accept),
         Command::Help => apart(say(Report::Help, link), accept),
         Command::Version => apart(say(Report::Version, link), accept),
     }
 }
 
 /// Runs the program on its words, of which the first is its name. `init` and `fsck` report in one line what they found
-/// of a file. `session` serves one connection over the link. `serve` serves the connections that the accept gives, in lanes, and
-/// reports how many they were. Landings are made at the moments that the clock tells. `gen` makes a generated load in memory,
-/// and reports what it came to.
+/// of a file, and `migrate` that it copied a repository to a file of the second version. `session` serves one connection over
+/// the link. `serve` serves the connections that the accept gives, in lanes, and reports how many they were. Landings are made
+/// at the moments that the clock tells. `gen` makes a generated load in memory, and reports what it came to. `follow` makes the
+/// entries of a server, to which the accept gives a link, in the repository in a file, and reports how many are there then.
 /// The tables by ids are hashed with these keys, so that whoever doesn't know them can't choose ids which make them slow.
 pub fn run<R, D, O, L, A, K, G, C>(
     rt: &R,
@@ -152,11 +159,13 @@ where
     K: Link + Send,
     G: Gate + Sync,
     C: Clock + Sync,
-    ensures runs { Runs D.meaning (C.tells clock.now) (command_of (map string_bytes words.now)) (outside O.shelf O.faults L.rest L.written L.faults opener.old link.old) (outside O.shelf O.faults L.rest L.written L.faults opener.new link.new) (links A.given A.over A.faults accept result.accept result.served) (record { status = result.status; disk = result.disk }) result.load
-        ⊎ LacksMemory (command_of (map string_bytes words.now)) (outside O.shelf O.faults L.rest L.written L.faults opener.old link.old) (outside O.shelf O.faults L.rest L.written L.faults opener.new link.new) (links A.given A.over A.faults accept result.accept result.served) (record { status = result.status; disk = result.disk }) result.load }
-    ensures served { IsServed (links A.given A.over A.faults accept result.accept result.served) }
+    ensures runs { Runs D.meaning (C.tells clock.now) (command_of (map string_bytes words.now)) (outside O.shelf O.faults L.rest L.written L.faults opener.old link.old) (outside O.shelf O.faults L.rest L.written L.faults opener.new link.new) (links A.given A.over A.faults accept result.accept result.served) (peer A.next_link K.rest K.written K.faults accept result.link) (record { status = result.status; disk = result.disk }) result.load result.other
+        ⊎ LacksMemory (command_of (map string_bytes words.now)) (outside O.shelf O.faults L.rest L.written L.faults opener.old link.old) (outside O.shelf O.faults L.rest L.written L.faults opener.new link.new) (links A.given A.over A.faults accept result.accept result.served) (peer A.next_link K.rest K.written K.faults accept result.link) (record { status = result.status; disk = result.disk }) result.load result.other }
+    ensures served { IsServed (links A.given A.over A.faults accept result.accept (taken result.served result.link)) }
     ensures apart { takes_links (command_of (map string_bytes words.now)) ≡ false → (result.served ≡ 0) × (result.accept ≡ accept) }
     ensures unloaded { makes_load (command_of (map string_bytes words.now)) ≡ false → result.load ≡ None }
+    ensures single { opens_other (command_of (map string_bytes words.now)) ≡ false → result.other ≡ None }
+    ensures unlinked { follows_server (command_of (map string_bytes words.now)) ≡ false → result.link ≡ None }
 {
     match read_words(alloc, words) {
         Ok(command) => run_command(rt, alloc, keys, command, link, opener, accept, gate, clock),

@@ -56,7 +56,9 @@ where
     requires { (1 ≤ lanes) × (lanes ≤ 16) × (derivers ≤ 8) }
     ensures runs { RunsServe D.meaning file.now lanes connections (outside O.shelf O.faults L.rest L.written L.faults opener.old link.old) (outside O.shelf O.faults L.rest L.written L.faults opener.new link.new) (links A.given A.over A.faults accept result.accept result.served) (record { status = result.status; disk = result.disk }) }
     ensures served { IsServed (links A.given A.over A.faults accept result.accept result.served) }
+    ensures other { result.other ≡ None }
     ensures load { result.load ≡ None }
+    ensures link { result.link ≡ None }
 {
     match open_file(alloc, keys, opener, file) {
         Ok(opened) => serve_opened(
@@ -103,7 +105,9 @@ where
     requires derivers { derivers ≤ 8 }
     ensures runs { RunsOpened D.meaning opened.machine.header opened.machine.history opened.journal (D.meaning opened.disk) lanes connections (told L.rest L.written L.faults link.old) (told L.rest L.written L.faults link.new) (links A.given A.over A.faults accept result.accept result.served) (record { status = result.status; disk = result.disk }) }
     ensures served { IsServed (links A.given A.over A.faults accept result.accept result.served) }
+    ensures other { result.other ≡ None }
     ensures load { result.load ≡ None }
+    ensures link { result.link ≡ None }
 {
     let OpenedFile {
         machine,
@@ -132,15 +136,19 @@ where
         Some(state) => Ran {
             status: end_run(served_report(&state, faulted, served.count()), link),
             disk: Some(closed(state)),
+            other: None,
             load: None,
             served,
+            link: None,
             accept,
         },
         None => Ran {
             status: end_run(Report::NoMemory, link),
             disk: None,
+            other: None,
             load: None,
             served,
+            link: None,
             accept,
         },
     }

@@ -26,6 +26,12 @@ pub enum Status {
     Refused,
     /// All was read that a session may read.
     Spent,
+    /// A server that was followed sent what is no reply.
+    BadReply,
+    /// An entry of a server that was followed is another one here.
+    Differs,
+    /// An entry of a server that was followed doesn't fit the file.
+    Full,
     /// A call of a load was refused.
     LoadRefused,
 }
@@ -46,6 +52,9 @@ impl Status {
             Status::Cut => 7,
             Status::Refused => 8,
             Status::Spent => 9,
+            Status::BadReply => 10,
+            Status::Differs => 11,
+            Status::Full => 12,
             Status::LoadRefused => 13,
         }
     }

@@ -70,6 +70,8 @@ impl<A: Accept<K>, K, N: Since> Accept<K> for Watched<A, K, N> {
 
     ghost over = { λ w. A.over w.accept };
 
+    ghost next_link = { λ w. A.next_link w.accept };
+
     fn next(&mut self) -> Result<Option<K>, Failed> {
         let next = self.accept.next();
         if next.is_err() {

@@ -1,18 +1,23 @@
 //! The program: `hg_cli init FILE CAP` makes a repository in a file, `hg_cli session FILE` serves one HTTP connection on
 //! it over standard input and output, `hg_cli serve FILE ADDR LANES DERIVERS CONNECTIONS` serves connections at an address,
-//! `hg_cli fsck FILE` opens it and counts what it holds, and `hg_cli gen SEED STACKS CLIENTS` lands a generated load in memory.
+//! `hg_cli fsck FILE` opens it and counts what it holds, `hg_cli migrate OLD NEW` copies it to a file of the second version,
+//! `hg_cli gen SEED STACKS CLIENTS` lands a generated load in memory, and `hg_cli follow FILE ADDR` brings a repository to what the
+//! server at an address has.
 #![tactic(auto)]
 
 mod streams;
 
+use blob_disk::Disk;
 use command_line::{Status, refuse_words, run};
 use file_disk::FileOpener;
-use net_ports::{ReaderSource, SystemClock, TcpAccept, WriterSink};
-use ports::{NoGate, Pair};
+use net_ports::{ReaderSource, SystemClock, TcpAccept, TcpDial, WriterSink};
+use ports::{Accept, Clock, Link, NoGate, Opener, Pair};
 use program_words::{Command, number_fault, read_words};
 use std::alloc::Global;
 use std::hash::RandomState;
 use std::process::ExitCode;
+use std::sync::Wait;
+use std::thread::Threads;
 use std::{env, io};
 use streams::{HeldStreams, hold_streams};
 
@@ -25,19 +30,8 @@ fn words(rt: &HostRuntime) -> io::Result<Vec<String>> {
     Ok(words)
 }
 
-// The address that the words are to serve at.
-fn serve_address<'a>(alloc: Global, words: &'a [String]) -> Option<&'a str> {
-    match read_words(alloc, words) {
-        Ok(Command::Serve { address, .. }) => Some(address),
-        _ => None,
-    }
-}
-
-// What connections come from. Words that serve none listen nowhere.
-fn accept_for<'a>(rt: &'a HostRuntime, words: &[String]) -> TcpAccept<&'a HostRuntime> {
-    let Some(address) = serve_address(rt.alloc(), words) else {
-        return TcpAccept::absent();
-    };
+// What connections come from where the words serve at this address.
+fn listener_at<'a>(rt: &'a HostRuntime, address: &str) -> TcpAccept<&'a HostRuntime> {
     match TcpAccept::bind(rt, rt.alloc(), address) {
         Ok(accept) => accept,
         Err(error) => {
@@ -46,6 +40,45 @@ fn accept_for<'a>(rt: &'a HostRuntime, words: &[String]) -> TcpAccept<&'a HostRu
             TcpAccept::absent()
         }
     }
+}
+
+// What connections come from where no server is followed. Words that take none listen nowhere.
+fn accept_for<'a>(rt: &'a HostRuntime, words: &[String]) -> TcpAccept<&'a HostRuntime> {
+    match read_words(rt.alloc(), words) {
+        Ok(Command::Serve { address, .. }) => listener_at(rt, address),
+        _ => TcpAccept::absent(),
+    }
+}
+
+// What the connection comes from where the words follow a server.
+fn server_for<'a>(rt: &'a HostRuntime, words: &[String]) -> Option<TcpDial<&'a HostRuntime>> {
+    match read_words(rt.alloc(), words) {
+        Ok(Command::Follow { address, .. }) => TcpDial::new(rt, rt.alloc(), address).ok(),
+        _ => None,
+    }
+}
+
+// The status of a run over the connections of this accept.
+fn run_over<R, D, O, L, A, K, C>(
+    rt: &R,
+    alloc: Global,
+    keys: RandomState,
+    words: &[String],
+    link: &mut L,
+    opener: &mut O,
+    accept: A,
+    clock: &C,
+) -> Status
+where
+    R: Threads + Wait + Sync,
+    D: Disk + Send,
+    O: Opener<D>,
+    L: Link,
+    A: Accept<K> + Send,
+    K: Link + Send,
+    C: Clock + Sync,
+{
+    run(rt, alloc, keys, words, link, opener, accept, &NoGate, clock).status
 }
 
 // Keys for the tables by ids. Where the system has none to give, that is said on standard error.
@@ -88,23 +121,22 @@ fn main(rt: HostRuntime) -> ExitCode {
         Ok(words) => match new_keys(&rt) {
             Some(keys) => {
                 let words = words.as_slice();
-                let accept = accept_for(&rt, words);
                 let mut opener = FileOpener::new(&rt);
-                let ran = run(
-                    &rt,
-                    alloc,
-                    keys,
-                    words,
-                    &mut link,
-                    &mut opener,
-                    accept,
-                    &NoGate,
-                    &SystemClock::new(&rt),
-                );
-                if ran.status == Status::Usage {
+                let clock = SystemClock::new(&rt);
+                let (link, opener) = (&mut link, &mut opener);
+                let status = match server_for(&rt, words) {
+                    Some(server) => {
+                        run_over(&rt, alloc, keys, words, link, opener, server, &clock)
+                    }
+                    None => {
+                        let accept = accept_for(&rt, words);
+                        run_over(&rt, alloc, keys, words, link, opener, accept, &clock)
+                    }
+                };
+                if status == Status::Usage {
                     explain(&rt, words);
                 }
-                ran.status
+                status
             }
             None => Status::StreamFault,
         },

@@ -1,4 +1,5 @@
 pub mod AnswerLemmas
 pub mod Steps
+pub mod Writing
 pub mod Turning
 pub mod Dating

@@ -15,7 +15,7 @@ pub(crate) fn send<L: Link>(buffer: &ResponseBuffer, link: &mut L, close: bool) 
     ensures faults { L.faults link.old ≤ L.faults link.new }
     ensures cause { result ≡ Some Ended.LinkFault → Rose (L.faults link.old) (L.faults link.new) }
 {
-    match link.write(buffer.text()) {
+    match buffer.write_to(link) {
         Err(Failed) => Some(Ended::LinkFault),
         Ok(()) if close => Some(Ended::Closed),
         Ok(()) => None,

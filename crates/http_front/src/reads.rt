@@ -39,7 +39,7 @@ pub(crate) fn look<T: Seat>(
     ensures home { T.home seat.new ≡ T.home seat.old }
 {
     match seat.look(alloc, question) {
-        Ok(seen) => put_seen(alloc, buffer, question, &seen, form),
+        Ok(seen) => put_seen(alloc, buffer, question, seen, form),
         Err(fault) => put_fault(buffer, fault, form),
     }
 }
@@ -49,11 +49,11 @@ fn put_seen(
     alloc: Global,
     buffer: &mut ResponseBuffer,
     question: &Question<'_>,
-    seen: &Seen,
+    seen: Seen,
     form: ResponseForm,
 )
-    requires { Suits question.now seen.now }
-    ensures { (buffer.new ≡ text_of (seen_response question.now seen.now) form.close form.head_only) ⊎ (buffer.new ≡ text_of memory form.close form.head_only) }
+    requires { Suits question.now seen }
+    ensures { (buffer.new ≡ text_of (seen_response question.now seen) form.close form.head_only) ⊎ (buffer.new ≡ text_of memory form.close form.head_only) }
 {
     if try_put_seen(alloc, buffer, question, seen, form).is_err() {
         buffer.put_memory(form);
@@ -64,39 +64,37 @@ fn try_put_seen(
     alloc: Global,
     buffer: &mut ResponseBuffer,
     question: &Question<'_>,
-    seen: &Seen,
+    seen: Seen,
     form: ResponseForm,
 ) -> Result<(), AllocError>
-    requires { Suits question.now seen.now }
-    ensures { OnOk result (buffer.new ≡ text_of (seen_response question.now seen.now) form.close form.head_only) }
+    requires { Suits question.now seen }
+    ensures { OnOk result (buffer.new ≡ text_of (seen_response question.now seen) form.close form.head_only) }
 {
     match seen {
         Seen::Head(head) => {
             let Question::Head(name) = question else {
                 unreachable!()
             };
-            put_head(buffer, name, *head, form);
-            Ok(())
+            put_head(buffer, name, head, form);
         }
-        Seen::Bytes(bytes) => {
-            buffer.put_large(Status::Fine, Media::Octets, bytes.as_slice(), form)
-        }
+        Seen::Bytes(bytes) => buffer.put_any(Status::Fine, Media::Octets, bytes, form),
         Seen::Log(page) => {
             let Question::Log(from) = question else {
                 unreachable!()
             };
             let body = log_body(alloc, *from, page.entries.as_slice(), page.total)?;
-            buffer.put_large(Status::Fine, Media::Json, body.as_bytes(), form)
+            buffer.put_any(Status::Fine, Media::Json, body, form);
         }
         Seen::Ids(ids) => {
             let body = ids_body(alloc, question, ids.as_slice())?;
-            buffer.put_large(Status::Fine, Media::Json, body.as_slice(), form)
+            buffer.put_any(Status::Fine, Media::Json, body, form);
         }
         Seen::Copies(copies) => {
             let body = copies_body(alloc, copies.as_slice())?;
-            buffer.put_large(Status::Fine, Media::Json, body.as_bytes(), form)
+            buffer.put_any(Status::Fine, Media::Json, body.into_bytes(), form);
         }
     }
+    Ok(())
 }
 
 // The body of changesets in a row: a file's history, or where a path changed.

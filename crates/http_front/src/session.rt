@@ -111,7 +111,7 @@ fn send_last<L: Link>(buffer: &ResponseBuffer, link: &mut L, end: Ended) -> Ende
     ensures faults { L.faults link.old ≤ L.faults link.new }
     ensures cause { result ≡ Ended.LinkFault → end ≢ Ended.LinkFault → Rose (L.faults link.old) (L.faults link.new) }
 {
-    match link.write(buffer.text()) {
+    match buffer.write_to(link) {
         Ok(()) => end,
         Err(Failed) => Ended::LinkFault,
     }
@@ -168,7 +168,10 @@ fn turn<T: Seat, L: Link, C: Clock>(
             serve_unread(&mut state.buffer, link, ResponseForm { close, head_only })
         }
         Next::Refused { status: _, code } => Some(refuse(&mut state.buffer, link, code)),
-        Next::NeedMore => read_more(link, &mut state.cutter, &mut state.piece, &mut state.budget),
+        Next::NeedMore => {
+            state.buffer.release(alloc);
+            read_more(link, &mut state.cutter, &mut state.piece, &mut state.budget)
+        }
     }
 }
 

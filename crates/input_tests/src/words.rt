@@ -41,6 +41,8 @@ p session - = Ok(Session { file: "-" }) true
 p session  = Ok(Session { file: "" }) true
 p session -- --help = Ok(Session { file: "--help" }) true
 p -- fsck r = Ok(Fsck { file: "r" }) false
+p migrate r s = Ok(Migrate { old: "r", new: "s" }) false
+p follow r [::1]:80 = Ok(Follow { file: "r", address: "[::1]:80" }) false
 p serve r [::1]:80 16 0 1000000 = Ok(Serve { file: "r", address: "[::1]:80", lanes: 16, derivers: 0, connections: 1000000 }) false
 p gen 4294967295 400 1 = Ok(Gen { seed: 4294967295, stacks: 400, clients: 1 }) false
 p --help = Ok(Help) false
@@ -67,6 +69,10 @@ p session = Err(Usage) false
 p session r r = Err(Usage) false
 p session -r = Err(Usage) false
 p fsck = Err(Usage) false
+p migrate r = Err(Usage) false
+p migrate r s t = Err(Usage) false
+p follow r = Err(Usage) false
+p follow r a 1 = Err(Usage) false
 p serve r a 0 0 1 = Err(Usage) false
 p serve r a 17 0 1 = Err(Usage) false
 p serve r a 1 9 1 = Err(Usage) false
@@ -112,7 +118,9 @@ init FILE CAP
 session FILE
 serve FILE ADDR LANES DERIVERS CONNECTIONS
 fsck FILE
-gen SEED STACKS CLIENTS";
+migrate OLD NEW
+gen SEED STACKS CLIENTS
+follow FILE ADDR";
 
 #[test]
 fn texts_name_each_command(rt: HostRuntime) {

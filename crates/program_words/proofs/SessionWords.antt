@@ -3,7 +3,7 @@ use Rattle.std.proofs.Common.{◌≡◌, ◌≢◌, ◌+◌, ◌≤◌, ℕ, Boo
 use Rattle.std.specs.Prelude.{◌==◌, ◌&&◌, if◌then◌else◌, bytes_eq, option_and_then, option_map, slice_get}
 use Rattle.std.specs.Str.{chars}
 use Rattle.std.proofs.lemmas.Slice.Eq.{bytes_eq-Decides}
-use Rattle.program_words.specs.Words.{Part, Text, a_value, an_escape, asks_help, asks_version, a_wrong_flag, part_of, after_hyphen, after_two_hyphens, short_flag, long_flag, Request, init, session, serve, gen, number_between, Arguments, values, for_help, for_version, wrong, after_part, arguments_of, asked, command_of, init_of, session_of, serve_of, fsck_of, gen_of, request_of}
+use Rattle.program_words.specs.Words.{Part, Text, a_value, an_escape, asks_help, asks_version, a_wrong_flag, part_of, after_hyphen, after_two_hyphens, short_flag, long_flag, Request, init, session, serve, gen, number_between, Arguments, values, for_help, for_version, wrong, after_part, arguments_of, asked, command_of, init_of, session_of, serve_of, fsck_of, migrate_of, gen_of, follow_of, request_of}
 use Rattle.program_words.specs.Sessions.{is_session, is_value}
 
 abbrev is_named : Text → Bool
@@ -41,6 +41,12 @@ fsck_never [] = refl
 fsck_never (a ∷ []) = refl
 fsck_never (a ∷ b ∷ words) = refl
 
+migrate_never : (words : List Text) → is_session (migrate_of words) ≡ false
+migrate_never [] = refl
+migrate_never (a ∷ []) = refl
+migrate_never (a ∷ b ∷ []) = refl
+migrate_never (a ∷ b ∷ c ∷ words) = refl
+
 serve_never : (words : List Text) → is_session (serve_of words) ≡ false
 serve_never [] = refl
 serve_never (a ∷ []) = refl
@@ -63,6 +69,12 @@ gen_never (a ∷ b ∷ c ∷ []) =
     (λ k. mapped (gen s k) (number_between 1 8 c) (λ n. refl)))
 gen_never (a ∷ b ∷ c ∷ d ∷ words) = refl
 
+follow_never : (words : List Text) → is_session (follow_of words) ≡ false
+follow_never [] = refl
+follow_never (a ∷ []) = refl
+follow_never (a ∷ b ∷ []) = refl
+follow_never (a ∷ b ∷ c ∷ words) = refl
+
 -- the name isn't that of a session, or its words are no file alone
 no_session : (name : Text) (rest : List Text) → is_session (if is_named name then session_of rest else None) ≡ false → is_session (request_of (name ∷ rest)) ≡ false
 no_session name rest none =
@@ -70,13 +82,15 @@ no_session name rest none =
     (by (is_named name) none)
   where
     others : Option Request
-    others = if bytes_eq name (codes "serve") then serve_of rest else (if bytes_eq name (codes "fsck") then fsck_of rest else (if bytes_eq name (codes "gen") then gen_of rest else None))
+    others = if bytes_eq name (codes "serve") then serve_of rest else (if bytes_eq name (codes "fsck") then fsck_of rest else (if bytes_eq name (codes "migrate") then migrate_of rest else (if bytes_eq name (codes "gen") then gen_of rest else (if bytes_eq name (codes "follow") then follow_of rest else None))))
 
     others_never : is_session others ≡ false
     others_never =
         pick (bytes_eq name (codes "serve")) (serve_of rest) _ (serve_never rest)
         (pick (bytes_eq name (codes "fsck")) (fsck_of rest) _ (fsck_never rest)
-        (pick (bytes_eq name (codes "gen")) (gen_of rest) None (gen_never rest) refl))
+        (pick (bytes_eq name (codes "migrate")) (migrate_of rest) _ (migrate_never rest)
+        (pick (bytes_eq name (codes "gen")) (gen_of rest) _ (gen_never rest)
+        (pick (bytes_eq name (codes "follow")) (follow_of rest) None (follow_never rest) refl))))
 
     by : (b : Bool) → is_session (if b then session_of rest else None) ≡ false → is_session (if b then session_of rest else others) ≡ false
     by true is = is

@@ -16,7 +16,9 @@ pub data Request : Type 0 where
   session : Text → Request
   serve : Text → Text → ℕ → ℕ → ℕ → Request
   fsck : Text → Request
+  migrate : Text → Text → Request
   gen : ℕ → ℕ → ℕ → Request
+  follow : Text → Text → Request
   help : Request
   version : Request
 
@@ -111,11 +113,19 @@ abbrev pub fsck_of : List Text → Option Request
 fsck_of (file ∷ []) = Some (fsck file)
 fsck_of _ = None
 
+abbrev pub migrate_of : List Text → Option Request
+migrate_of (old ∷ new ∷ []) = Some (migrate old new)
+migrate_of _ = None
+
 abbrev pub gen_of : List Text → Option Request
 gen_of (seed ∷ stacks ∷ clients ∷ []) =
     option_and_then (λ s. option_and_then (λ k. option_map (gen s k)
     (number_between 1 8 clients)) (number_between 1 400 stacks)) (number_between 0 4294967295 seed)
 gen_of _ = None
+
+abbrev pub follow_of : List Text → Option Request
+follow_of (file ∷ address ∷ []) = Some (follow file address)
+follow_of _ = None
 
 abbrev pub request_of : List Text → Option Request
 request_of [] = None
@@ -123,7 +133,9 @@ request_of (name ∷ rest) = if bytes_eq name (codes "init") then init_of rest
     else (if bytes_eq name (codes "session") then session_of rest
     else (if bytes_eq name (codes "serve") then serve_of rest
     else (if bytes_eq name (codes "fsck") then fsck_of rest
-    else (if bytes_eq name (codes "gen") then gen_of rest else None))))
+    else (if bytes_eq name (codes "migrate") then migrate_of rest
+    else (if bytes_eq name (codes "gen") then gen_of rest
+    else (if bytes_eq name (codes "follow") then follow_of rest else None))))))
 
 abbrev pub asked : Arguments → Option Request
 asked (values words) = request_of words

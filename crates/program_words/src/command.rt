@@ -28,6 +28,11 @@ pub enum Command<'a> {
     Fsck {
         file: &'a str,
     },
+    /// Copy a repository to a file of the second version.
+    Migrate {
+        old: &'a str,
+        new: &'a str,
+    },
     /// Land stacks that are drawn from a seed, in a repository in memory.
     Gen {
         /// Where the draws begin, 0 to 4,294,967,295.
@@ -36,6 +41,11 @@ pub enum Command<'a> {
         stacks: u32,
         /// Clients that land at once, 1 to 8.
         clients: u32,
+    },
+    /// Follow the server at an address into a file.
+    Follow {
+        file: &'a str,
+        address: &'a str,
     },
     /// Write the help text.
     Help,

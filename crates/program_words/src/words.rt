@@ -1,6 +1,6 @@
 //! From the words to the command.
 ghost use Rattle.std.specs.Prelude.{◌≡◌, IfErr, IfOk, IfSome, None, Some, map, option_map, string_bytes};
-ghost use Rattle.program_words.specs.Words.{command_of, fsck_of, gen_of, init_of, request_of, serve_of, session_of};
+ghost use Rattle.program_words.specs.Words.{command_of, follow_of, fsck_of, gen_of, init_of, migrate_of, request_of, serve_of, session_of};
 ghost use Rattle.program_words.specs.Said.{IsInRange, said_of};
 ghost use Rattle.program_words.specs.declared.fault.WordsFault.TheVariants.{Usage};
 
@@ -61,6 +61,16 @@ fn fsck<'a>(rest: &[&'a str]) -> Option<Command<'a>>
     Some(Command::Fsck { file })
 }
 
+fn migrate<'a>(rest: &[&'a str]) -> Option<Command<'a>>
+    ensures request { option_map said_of result ≡ migrate_of (map (λ w. w.now) rest.now) }
+    ensures range { IfSome result IsInRange }
+{
+    let [old, new] = rest else {
+        return None;
+    };
+    Some(Command::Migrate { old, new })
+}
+
 fn generate<'a>(rest: &[&'a str]) -> Option<Command<'a>>
     ensures request { option_map said_of result ≡ gen_of (map (λ w. w.now) rest.now) }
     ensures range { IfSome result IsInRange }
@@ -78,6 +88,16 @@ fn generate<'a>(rest: &[&'a str]) -> Option<Command<'a>>
     })
 }
 
+fn follow<'a>(rest: &[&'a str]) -> Option<Command<'a>>
+    ensures request { option_map said_of result ≡ follow_of (map (λ w. w.now) rest.now) }
+    ensures range { IfSome result IsInRange }
+{
+    let [file, address] = rest else {
+        return None;
+    };
+    Some(Command::Follow { file, address })
+}
+
 fn command_from<'a>(values: &[&'a str]) -> Option<Command<'a>>
     ensures request { option_map said_of result ≡ request_of (map (λ w. w.now) values.now) }
     ensures range { IfSome result IsInRange }
@@ -88,7 +108,9 @@ fn command_from<'a>(values: &[&'a str]) -> Option<Command<'a>>
         "session" => session(rest),
         "serve" => serve(rest),
         "fsck" => fsck(rest),
+        "migrate" => migrate(rest),
         "gen" => generate(rest),
+        "follow" => follow(rest),
         _ => None,
     }
 }

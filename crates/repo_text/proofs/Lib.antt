@@ -6,3 +6,5 @@ pub mod Spelled
 pub mod Answered
 pub mod Lines
 pub mod LineTexts
+pub mod LineParts
+pub mod PageParts

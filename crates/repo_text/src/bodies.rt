@@ -39,7 +39,7 @@ pub enum Body<'a> {
     BadBytes { wanted: Id, found: Id },
 }
 
-fn put_id(out: &mut Vec<u8>, id: &Id)
+pub(crate) fn put_id(out: &mut Vec<u8>, id: &Id)
     requires { vec_len out.old + 66 ≤ vec_capacity out.old }
     ensures items { out.new.items ≡ out.old.items ++ id_text id.now }
     ensures short { vec_len out.new ≤ vec_len out.old + 66 }
@@ -52,7 +52,7 @@ fn put_id(out: &mut Vec<u8>, id: &Id)
     put(out, b"\"");
 }
 
-fn put_maybe_id(out: &mut Vec<u8>, id: Option<Id>)
+pub(crate) fn put_maybe_id(out: &mut Vec<u8>, id: Option<Id>)
     requires { vec_len out.old + 66 ≤ vec_capacity out.old }
     ensures items { out.new.items ≡ out.old.items ++ maybe_id_text id }
     ensures short { vec_len out.new ≤ vec_len out.old + 66 }

@@ -62,7 +62,8 @@ GET /policy/x | 400 Bad Request | {"code":"bad-number"}
 PUT /policy | 503 Service Unavailable | {"code":"memory"}
 POST /policy | 405 Method Not Allowed | {"code":"method"} | Allow: GET, PUT
 PUT /policy/7 | 405 Method Not Allowed | {"code":"method"} | Allow: GET
-PUT /whole | 503 Service Unavailable | {"code":"memory"}
+PUT /whole | 500 Internal Server Error | {"code":"read-fault"}
+PUT /whole | 500 Internal Server Error | {"code":"bad-bytes","found":"NIL","wanted":"ABC"}
 GET /whole | 405 Method Not Allowed | {"code":"method"} | Allow: PUT
 GET /copies/ABC | 200 OK | {"code":"copies","copies":[{"from":"p","parent":0,"to":"q"},{"from":"d/p","parent":1,"to":"r\"s"}]}
 GET /copies/%42A7816bf8f01cfea414140de5dae2223b00361a396177a9cb410ff61f20015ad | 200 OK | {"code":"copies","copies":[{"from":"p","parent":0,"to":"q"},{"from":"d/p","parent":1,"to":"r\"s"}]}
@@ -133,6 +134,7 @@ fn rows_are_answered_in_one_session(rt: HostRuntime) -> Result<(), Fail> {
         known: Id::of(b"abc"),
         other: Id::of(b""),
         moments: Vec::new(alloc),
+        unread: true,
     };
     let clock = Ticking::new();
     let mut link = MemLink::new(

@@ -12,13 +12,15 @@ use repo_path::{BookName, RepoPath};
 use std::alloc::Global;
 
 /// A seat that knows one changeset, whose id is that of `abc`, and tells of two landings. Each content has the bytes of
-/// another id. All else wants memory.
+/// another id; the first that is to be joined isn't read at all. All else wants memory.
 #[derive(Drop)]
 pub(crate) struct Told {
     pub(crate) known: Id,
     pub(crate) other: Id,
     /// When it was asked to land.
     pub(crate) moments: Vec<u64>,
+    /// No content was asked to be joined yet.
+    pub(crate) unread: bool,
 }
 
 impl Seat for Told {
@@ -36,7 +38,17 @@ impl Seat for Told {
 
     fn change(&mut self, _alloc: Global, ask: &Ask) -> Result<Granted, ChangeFault> {
         self.note(ask);
-        Err(ChangeFault::Refused(Refusal::Memory))
+        match ask {
+            Ask::PutWhole(_) if self.unread => {
+                self.unread = false;
+                Err(ChangeFault::ReadFault)
+            }
+            Ask::PutWhole(_) => Err(ChangeFault::BadBytes {
+                wanted: self.known,
+                found: self.other,
+            }),
+            _ => Err(ChangeFault::Refused(Refusal::Memory)),
+        }
     }
 
     fn look(&mut self, alloc: Global, question: &Question) -> Result<Seen, AskFault> {

@@ -21,7 +21,7 @@ use std::thread::Threads;
 use std::time::Clock;
 
 /// The file of a new repository of 65,536 bytes: the mark of the second version, the capacity and a closed gate.
-const NEW: &[u8] = b"BONSAI\x00\x02\x00\x00\x00\x00\x00\x01\x00\x00\x00";
+pub(crate) const NEW: &[u8] = b"BONSAI\x00\x02\x00\x00\x00\x00\x00\x01\x00\x00\x00";
 
 /// The same with the content `abc`: an open gate, a length, the payload and a closed gate.
 const WITH_CONTENT: &[u8] =

@@ -3,6 +3,7 @@ use crate::repository::new_repository;
 use crate::serving::{MOST_DERIVERS, serve};
 use crate::watched::Watched;
 use blob_disk::Disk;
+use object_id::Id;
 use ports::{Accept, Failed, MemAccept, MemLink, NoGate};
 use repo_state::Alone;
 use server_lanes::Closing;
@@ -13,11 +14,13 @@ use std::sync::atomic::{AtomicU64, Ordering};
 use std::test::Fail;
 use std::thread::Threads;
 
-const REQUEST: &[u8] = b"PUT /content HTTP/1.1\r\nContent-Length: 3\r\n\r\nabc";
+// A content is stored, and then contents are joined of which the ids come behind this.
+const REQUESTS: &[u8] =
+    b"PUT /content HTTP/1.1\r\nContent-Length: 3\r\n\r\nabcPUT /whole HTTP/1.1\r\nContent-Length: 64\r\n\r\n";
 
-// The id is SHA-256 of `abc` (FIPS 180-4).
+// To the second request. The id is SHA-256 of `abcabc` (FIPS 180-4).
 const RESPONSE: &[u8] =
-    b"HTTP/1.1 200 OK\r\nContent-Type: application/json\r\nContent-Length: 99\r\n\r\n{\"code\":\"content\",\"id\":\"ba7816bf8f01cfea414140de5dae2223b00361a396177a9cb410ff61f20015ad\",\"size\":3}";
+    b"HTTP/1.1 200 OK\r\nContent-Type: application/json\r\nContent-Length: 97\r\n\r\n{\"code\":\"whole\",\"id\":\"bbb59da3af939f7af5f360f2ceb80a496e3bae1cd87dde426db0ae40677e1c2c\",\"size\":6}";
 
 // What an accept gives next.
 #[derive(Clone, Copy, Debug, PartialEq, Eq)]
@@ -37,7 +40,7 @@ struct Left {
     next: Next,
 }
 
-// So many links, each with the same request. Of the first one this write fails, and of the accept this call.
+// So many links, each with the same requests. Of the first one this write fails, and of the accept this call.
 struct Row {
     links: u64,
     write: &'static [u64],
@@ -50,7 +53,7 @@ struct Row {
 const BOTH: Left = Left {
     served: 2,
     answered: 2,
-    entries: 1,
+    entries: 2,
     next: Next::End,
 };
 
@@ -124,7 +127,7 @@ const ROWS: &[Row] = &[
         left: Left {
             served: 1,
             answered: 1,
-            entries: 1,
+            entries: 2,
             next: Next::Link,
         },
     },
@@ -152,6 +155,15 @@ const ROWS: &[Row] = &[
     },
 ];
 
+// The content is joined with itself.
+fn requests(alloc: Global) -> Result<Vec<u8>, AllocError> {
+    let id = Id::of(b"abc");
+    let mut requests = Vec::from_slice(alloc, REQUESTS)?;
+    requests.extend_from_slice(id.as_bytes())?;
+    requests.extend_from_slice(id.as_bytes())?;
+    Ok(requests)
+}
+
 // A link with this input, of which these writes fail.
 fn link_with(alloc: Global, input: Vec<u8>, writes: Vec<u64>) -> Result<MemLink, AllocError> {
     MemLink::new(alloc, input, 65_536, 65_536, Vec::new(alloc), writes)
@@ -163,7 +175,7 @@ fn link_of<'a>(
     answered: &'a AtomicU64,
 ) -> Result<Watched<'a, MemLink>, AllocError> {
     let writes = Vec::from_slice(alloc, writes)?;
-    let link = link_with(alloc, Vec::from_slice(alloc, REQUEST)?, writes)?;
+    let link = link_with(alloc, requests(alloc)?, writes)?;
     Ok(Watched::new(link, RESPONSE, answered))
 }
 

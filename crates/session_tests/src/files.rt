@@ -70,8 +70,8 @@ PUT /bookmark/main/cfb4ab8452d155596bdc9a51610fc7fee812dd9eee25ee8350a9710741f18
 GET /policy |  | 200 OK | 0x616c6c6f7720616e6e202f0a
 GET /log/5 |  | 200 OK | {"code":"log","entries":[{"caller":"root","kind":"policy","number":5,"rules":3},{"id":"b2e281c47486cc950a4bc4037210cedc6161c0789ae355c08ccf7392cde2f1c7","kind":"changeset","number":6},{"id":"d156599c94343a330d6026d62a03b9d0e282104c45824fd5e8291726c279b0d9","kind":"changeset","number":7},{"caller":"ann","draft":"b2e281c47486cc950a4bc4037210cedc6161c0789ae355c08ccf7392cde2f1c7","ids":["b2e281c47486cc950a4bc4037210cedc6161c0789ae355c08ccf7392cde2f1c7"],"kind":"landing","name":"main","number":8,"old":"e8795b6f358309976a85a48b88590a7b77ffcdc1ce55d29a761853d4ff0669f0"},{"caller":"bob","draft":"d156599c94343a330d6026d62a03b9d0e282104c45824fd5e8291726c279b0d9","ids":["cfb4ab8452d155596bdc9a51610fc7fee812dd9eee25ee8350a9710741f186c1"],"kind":"landing","name":"main","number":9,"old":"b2e281c47486cc950a4bc4037210cedc6161c0789ae355c08ccf7392cde2f1c7"},{"caller":"ann","kind":"policy","number":10,"rules":1},{"caller":"ann","from":"cfb4ab8452d155596bdc9a51610fc7fee812dd9eee25ee8350a9710741f186c1","kind":"bookmark","name":"main","number":11,"to":"e8795b6f358309976a85a48b88590a7b77ffcdc1ce55d29a761853d4ff0669f0"}],"total":12}"#;
 
-/// Files that were deleted, and where a path changed: uploads of 62 and 103 bytes, each with five more. Contents aren't
-/// joined yet.
+/// Files that were deleted, and where a path changed: uploads of 62 and 103 bytes, each with five more. And a
+/// content that is joined, of 107 and five.
 const SIXTH: &str =
     r#"PUT /changeset | 0x430101e8795b6f358309976a85a48b88590a7b77ffcdc1ce55d29a761853d4ff0669f0000161000000000000000000000000000000000000000100017000 | 200 OK | {"code":"changeset","id":"b2bed93a6b8be3c2b2330589fda2906eaed9c952f823aaf09d51ccb9f7c43104"}
 PUT /changeset | 0x430101b2bed93a6b8be3c2b2330589fda2906eaed9c952f823aaf09d51ccb9f7c43104000161000000000000000000000000000000000000000100017001000000000000000003ba7816bf8f01cfea414140de5dae2223b00361a396177a9cb410ff61f20015ad | 200 OK | {"code":"changeset","id":"1c7791ec52a83c3c3d4a1c8f4fa36002f4a73548be401868f074eb6d70bb6739"}
@@ -86,10 +86,11 @@ GET /deleted/1c7791ec52a83c3c3d4a1c8f4fa36002f4a73548be401868f074eb6d70bb6739/p 
 GET /deleted/ba7816bf8f01cfea414140de5dae2223b00361a396177a9cb410ff61f20015ad |  | 404 Not Found | {"code":"no-changeset","id":"ba7816bf8f01cfea414140de5dae2223b00361a396177a9cb410ff61f20015ad"}
 PUT /whole | 0xba7816bf8f01cfea414140de5dae2223b00361a396177a9cb410ff61f20015 | 400 Bad Request | {"code":"bad-parts","length":31}
 PUT /whole |  | 400 Bad Request | {"code":"bad-parts","length":0}
-PUT /whole | 0xba7816bf8f01cfea414140de5dae2223b00361a396177a9cb410ff61f20015adba7816bf8f01cfea414140de5dae2223b00361a396177a9cb410ff61f20015ad | 409 Conflict | {"code":"old-format"}
+PUT /whole | 0xba7816bf8f01cfea414140de5dae2223b00361a396177a9cb410ff61f20015adba7816bf8f01cfea414140de5dae2223b00361a396177a9cb410ff61f20015ad | 200 OK | {"code":"whole","id":"bbb59da3af939f7af5f360f2ceb80a496e3bae1cd87dde426db0ae40677e1c2c","size":6}
+GET /content/bbb59da3af939f7af5f360f2ceb80a496e3bae1cd87dde426db0ae40677e1c2c |  | 200 OK | 0x616263616263
 GET /whole |  | 405 Method Not Allowed | {"code":"method"} | Allow: PUT"#;
 
-/// In a file of the first version no policy is set, and all else is as it was.
+/// In a file of the first version no policy is set and nothing is joined, and all else is as it was.
 const OLD: &str =
     r#"PUT /policy | 0x616c6c6f7720616e6e206c69620a64656e79202a206c69620a616c6c6f77202a202f0a | 409 Conflict | {"code":"old-format"}
 PUT /policy | allow ann | 409 Conflict | {"code":"old-format"}
@@ -121,14 +122,14 @@ fn grown<R: Abort + Threads + Wait + Sync>(
     let disk = served(rt, alloc, disk, THIRD, 57)?;
     let disk = served(rt, alloc, disk, FOURTH, 394)?;
     let disk = served(rt, alloc, disk, FIFTH, 1154)?;
-    served(rt, alloc, disk, SIXTH, 1329)
+    served(rt, alloc, disk, SIXTH, 1441)
 }
 
 #[test]
 fn a_file_grows_by_its_records(rt: HostRuntime) -> Result<(), Fail> {
     let disk = made(&rt, rt.alloc(), INIT)?;
     let disk = grown(&rt, rt.alloc(), disk)?;
-    let counted = "entries 14 contents 1 changesets 7 bookmarks 1 size 1329\n";
+    let counted = "entries 15 contents 2 changesets 7 bookmarks 1 size 1441\n";
     check_counted(&rt, rt.alloc(), disk.bytes(), counted)
 }
 

@@ -5,11 +5,15 @@
 #[cfg(test)]
 mod files;
 #[cfg(test)]
+mod followings;
+#[cfg(test)]
 mod heads;
 #[cfg(test)]
 mod landings;
 #[cfg(test)]
 mod links;
+#[cfg(test)]
+mod migrations;
 #[cfg(test)]
 mod program;
 #[cfg(test)]

@@ -85,12 +85,13 @@ pub(crate) fn opener_of_none(alloc: Global, disk: MemDisk) -> Result<Files, Allo
     Ok(MemOpener::new(Vec::new(alloc), empty, Vec::new(alloc)))
 }
 
-// What no connection comes from.
-fn no_links(alloc: Global) -> MemAccept<MemLink> {
+/// What no connection comes from.
+pub(crate) fn no_links(alloc: Global) -> MemAccept<MemLink> {
     MemAccept::new(Vec::new(alloc), Vec::new(alloc))
 }
 
-fn keys() -> Result<RandomState, Fail> {
+/// Keys for the tables by ids.
+pub(crate) fn keys() -> Result<RandomState, Fail> {
     Ok(RandomState::new(&ZeroBytes)?)
 }
 
@@ -228,6 +229,9 @@ pub(crate) fn status_of(word: &str) -> Status {
         "not empty" => Status::NotEmpty,
         "cut" => Status::Cut,
         "refused" => Status::Refused,
+        "bad reply" => Status::BadReply,
+        "differs" => Status::Differs,
+        "full" => Status::Full,
         _ => Status::Done,
     }
 }

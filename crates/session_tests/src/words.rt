@@ -12,15 +12,17 @@ use std::test::Fail;
 use std::thread::Threads;
 
 const USAGE: &str =
-    "usage: hg_cli init FILE CAP | session FILE | serve FILE ADDR LANES DERIVERS CONNECTIONS | fsck FILE | gen SEED STACKS CLIENTS\n";
+    "usage: hg_cli init FILE CAP | session FILE | serve FILE ADDR LANES DERIVERS CONNECTIONS | fsck FILE | migrate OLD NEW | gen SEED STACKS CLIENTS | follow FILE ADDR\n";
 
 // Words, how many bytes can be written, the status, and the text that is written.
 const ROWS: &str = r#" | 4096 | usage | usage
 hg_cli | 4096 | usage | usage
 hg_cli session | 4096 | usage | usage
 hg_cli Session repository | 4096 | usage | usage
-hg_cli session repository more | 126 | usage | usage
-hg_cli init repository 4095 | 125 | usage | none
+hg_cli session repository more | 163 | usage | usage
+hg_cli migrate repository | 163 | usage | usage
+hg_cli follow repository | 163 | usage | usage
+hg_cli init repository 4095 | 162 | usage | none
 hg_cli serve repository 127.0.0.1:0 1 9 1 | 4096 | usage | usage
 hg_cli gen 7 401 1 | 4096 | usage | usage
 hg_cli session --help | 4096 | done | help
@@ -94,6 +96,9 @@ fn statuses_have_their_numbers(rt: HostRuntime) {
         (Status::Cut, 7),
         (Status::Refused, 8),
         (Status::Spent, 9),
+        (Status::BadReply, 10),
+        (Status::Differs, 11),
+        (Status::Full, 12),
         (Status::LoadRefused, 13),
     ] {
         assert_eq!(rt; status.code(), number);
