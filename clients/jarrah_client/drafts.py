@@ -10,8 +10,10 @@ import time
 from argparse import Namespace
 from dataclasses import dataclass
 from datetime import datetime, timedelta
+from pathlib import Path
 
-from .changesets import MOST_CONTENT_BYTES, Changeset, File, Kind, digest, refuse_path
+from .changesets import Changeset, File, Kind, refuse_path
+from .contents import Source, in_file, in_memory, in_stream, store_all
 from .names import resolve
 from .paths import is_bookmark_name, path_key
 from .refusals import Refused
@@ -28,7 +30,7 @@ class Written:
     """Changes that a person names, and the contents that they set, by their ids."""
 
     changes: dict[str, File | None]
-    contents: dict[str, bytes]
+    contents: dict[str, Source]
 
 
 def changes_of(options: Namespace) -> Written:
@@ -39,9 +41,10 @@ def changes_of(options: Namespace) -> Written:
         (Kind.EXECUTABLE, options.exec),
         (Kind.SYMLINK, options.symlink),
     ):
-        for path, source in words:
-            data = source.encode() if kind is Kind.SYMLINK else file_bytes(source)
-            put(written, path, data, kind)
+        for path, word in words:
+            is_link = kind is Kind.SYMLINK
+            source = in_memory(path, word.encode()) if is_link else read(path, word)
+            put(written, path, source, kind)
     for path in options.delete:
         add(written, path, None)
     return written
@@ -74,13 +77,10 @@ def deleted_by(tree: Tree | None, path: str, recursive: bool) -> list[str]:
     return below
 
 
-def put(written: Written, path: str, data: bytes, kind: Kind) -> None:
+def put(written: Written, path: str, source: Source, kind: Kind) -> None:
     """Adds a set of a path."""
-    if len(data) > MOST_CONTENT_BYTES:
-        raise Trouble(f"{path} would have over {MOST_CONTENT_BYTES:,} bytes")
-    id = digest(data)
-    written.contents[id] = data
-    add(written, path, File(id, len(data), kind))
+    written.contents[source.id] = source
+    add(written, path, File(source.id, source.size, kind))
 
 
 def add(written: Written, path: str, file: File | None) -> None:
@@ -90,15 +90,12 @@ def add(written: Written, path: str, file: File | None) -> None:
     written.changes[path] = file
 
 
-def file_bytes(source: str) -> bytes:
-    """A file's bytes, at most one more than a content may have; `-` is the standard input."""
+def read(path: str, place: str) -> Source:
+    """What a path is to be set to: a file's bytes, or with `-` those of the standard input."""
     try:
-        if source == "-":
-            return sys.stdin.buffer.read(MOST_CONTENT_BYTES + 1)
-        with open(source, "rb") as file:
-            return file.read(MOST_CONTENT_BYTES + 1)
+        return in_stream(path, sys.stdin.buffer) if place == "-" else in_file(path, Path(place))
     except OSError as fault:
-        raise Trouble(f"{source}: {fault.strerror}") from None
+        raise Trouble(f"{place}: {fault.strerror}") from None
 
 
 def upload(
@@ -114,8 +111,7 @@ def upload(
     ordered = {path: changes[path] for path in sorted(changes, key=path_key)}
     changeset = Changeset(parents, author, seconds, offset, options.message, ordered)
     refuse_faulty(changeset)
-    for id, data in written.contents.items():
-        server.put_content(id, data)
+    store_all(server, written.contents.values())
     server.put_changeset(changeset)
     return changeset
 

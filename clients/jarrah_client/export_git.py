@@ -5,16 +5,15 @@ from __future__ import annotations
 import subprocess
 import tempfile
 import time
-from collections import deque
 from collections.abc import Iterator
-from concurrent.futures import Future
 from contextlib import closing, contextmanager
 from dataclasses import dataclass, field
-from itertools import islice
 from pathlib import Path
 from typing import IO
 
 from .changesets import Changeset, File
+from .checkout import with_contents
+from .contents import Data
 from .fast_import import Stream, first_fault
 from .marks import EXPORTED, Marks
 from .paths import own_name
@@ -24,8 +23,6 @@ from .repository import chain
 from .server import Server, Trouble
 from .trees import FoldedTree, tree_of
 
-AHEAD = 64
-"""How many contents are asked for ahead of the one that is written."""
 QUIET = ["--quiet", "--date-format=raw-permissive", "--done"]
 
 
@@ -64,29 +61,24 @@ class Export:
         self.report = report
         self.tree = tree
         """The tree before the next changeset: git would take a delete of a directory."""
-        self.coming: deque[tuple[str, Future[bytes]]] = deque()
 
     def write(self, line: list[Changeset]) -> None:
         """Writes the changesets of a line, contents ahead on their way."""
-        ahead = contents_of(line)
+        coming = with_contents(self.pool, contents_of(line))
         with Progress("changesets", len(line)) as progress:
             for changeset in line:
                 for file in files_of(changeset):
                     while file.content not in self.stream.blobs:
-                        self.take_content(ahead)
+                        self.take_content(*next(coming))
                 self.one(changeset)
                 self.report.changesets += 1
                 progress.step()
 
-    def take_content(self, ahead: Iterator[File]) -> None:
-        """Writes the next content, and asks for further ones."""
-        for file in islice(ahead, AHEAD - len(self.coming)):
-            self.coming.append((file.content, self.pool.ask(content_of(file))))
-        id, content = self.coming.popleft()
-        data = content.result()
-        self.stream.blob(id, data)
+    def take_content(self, id: str, file: File, data: Data) -> None:
+        """Writes a content."""
+        self.stream.blob(id, file.size, data)
         self.report.contents += 1
-        self.report.content_bytes += len(data)
+        self.report.content_bytes += file.size
 
     def one(self, changeset: Changeset) -> None:
         """Writes one changeset as a commit."""
@@ -110,23 +102,14 @@ def files_of(changeset: Changeset) -> list[File]:
     return [file for path, file in changeset.changes.items() if file and not own_name(path)]
 
 
-def contents_of(line: list[Changeset]) -> Iterator[File]:
-    """The files of a line in order, each content once."""
+def contents_of(line: list[Changeset]) -> Iterator[tuple[str, File]]:
+    """The contents of a line in order, each once, by their ids and the first file of each."""
     seen: set[str] = set()
     for changeset in line:
         for file in files_of(changeset):
             if file.content not in seen:
                 seen.add(file.content)
-                yield file
-
-
-def content_of(file: File):
-    """The call that reads a file's content."""
-
-    def call(server: Server) -> bytes:
-        return server.content(file.content)
-
-    return call
+                yield file.content, file
 
 
 def export_git(server: Server, id: str, target: Target, connections: int) -> Report:

@@ -6,6 +6,7 @@ import re
 from typing import IO
 
 from .changesets import Changeset, File, Kind
+from .contents import Data, put_into
 from .paths import path_key
 
 MODES = {Kind.REGULAR: "100644", Kind.EXECUTABLE: "100755", Kind.SYMLINK: "120000"}
@@ -31,10 +32,11 @@ class Stream:
     def line(self, text: str) -> None:
         self.out.write(text.encode() + b"\n")
 
-    def data(self, data: bytes) -> None:
+    def data(self, size: int, data: Data) -> None:
         """Some bytes with their length before them."""
-        self.line(f"data {len(data)}")
-        self.out.write(data + b"\n")
+        self.line(f"data {size}")
+        put_into(self.out, data)
+        self.line("")
 
     def mark(self) -> str:
         """A new mark, such as `:7`."""
@@ -42,11 +44,11 @@ class Stream:
         self.line(f"mark :{self.count}")
         return f":{self.count}"
 
-    def blob(self, id: str, data: bytes) -> None:
+    def blob(self, id: str, size: int, data: Data) -> None:
         """A content."""
         self.line("blob")
         self.blobs[id] = self.mark()
-        self.data(data)
+        self.data(size, data)
 
     def commit(self, changeset: Changeset, gone: list[str], put: dict[str, File]) -> bool:
         """A commit that deletes and sets paths; whether it lacks a word or a parent."""
@@ -56,7 +58,8 @@ class Stream:
         self.commits[changeset.id] = self.mark()
         self.line(f"author {person} {date}")
         self.line(f"committer {person} {date}")
-        self.data(changeset.message.encode())
+        message = changeset.message.encode()
+        self.data(len(message), message)
         if self.last:
             self.line(f"from {self.last}")
         for parent in changeset.parents[1:]:

@@ -3,6 +3,10 @@
 from __future__ import annotations
 
 import hashlib
+from typing import IO
+
+READ_BYTES = 1 << 18
+"""What goes through a file is read in pieces of so many bytes."""
 
 
 class BadEncoding(ValueError):
@@ -16,6 +20,14 @@ class BadEncoding(ValueError):
 def digest(data: bytes) -> str:
     """The SHA-256 (FIPS 180-4) of the bytes, in hex."""
     return hashlib.sha256(data).hexdigest()
+
+
+def digest_of(file: IO[bytes]) -> str:
+    """The same of what a file has from where it is."""
+    found = hashlib.sha256()
+    while data := file.read(READ_BYTES):
+        found.update(data)
+    return found.hexdigest()
 
 
 class Fields:

@@ -11,6 +11,7 @@ from pathlib import Path
 from typing import IO
 
 from .changesets import MOST_AUTHOR_BYTES, Kind
+from .contents import PIECE_BYTES
 from .server import Trouble
 
 KINDS = {
@@ -21,7 +22,6 @@ KINDS = {
 }
 SUBMODULE = b"160000"
 PERSON = re.compile(rb"(.*?) ?(-?\d+) ([+-])(\d+)(\d\d)", re.DOTALL)
-PIECE = 1 << 20
 READ_BYTES = 1 << 16
 DIFF = "diff-tree --stdin --root --always -r -z --raw --no-abbrev".split()
 PLAIN = ["--no-renames"]
@@ -120,8 +120,7 @@ class GitRepository:
 
     def commit(self, oid: str, changes: list[GitChange]) -> GitCommit:
         """A commit by its oid and the paths that differ."""
-        _, data = self.read(oid)
-        head, _, message = data.partition(b"\n\n")
+        head, _, message = self.read(oid).partition(b"\n\n")
         headers = dict(line.partition(b" ")[::2] for line in reversed(head.split(b"\n")))
         encoding = headers.get(b"encoding", b"utf-8").decode("ascii", "replace")
         author, seconds, offset = person(headers.get(b"author", b""))
@@ -131,28 +130,40 @@ class GitRepository:
         altered = name_altered or words_altered or fitting != name
         return GitCommit(oid, fitting, seconds, offset, words, altered, changes)
 
-    def read(self, oid: str, most: int | None = None) -> tuple[int, bytes]:
-        """An object's length and bytes; the bytes are left out where they are over `most`."""
+    def read(self, oid: str) -> bytes:
+        """An object's bytes."""
+        return b"".join(self.pieces(oid, self.begin(oid)))
+
+    def size(self, oid: str) -> int:
+        """How many bytes an object has."""
+        length = self.begin(oid)
+        self.skip(oid, length)
+        return length
+
+    def begin(self, oid: str) -> int:
+        """Begins to read an object, and gives its length; then its pieces are read, or skipped."""
         assert self.objects.stdin and self.objects.stdout
         self.objects.stdin.write(oid.encode() + b"\n")
         self.objects.stdin.flush()
         answer = self.objects.stdout.readline().split()
         if len(answer) != 3:
             raise Trouble(f"git has no object {oid}")
-        length = int(answer[2])
-        if most is not None and length > most:
-            skip(self.objects.stdout, length + 1)
-            return length, b""
-        data = self.objects.stdout.read(length + 1)
-        if len(data) <= length:
-            raise Trouble(f"git broke off in the object {oid}")
-        return length, data[:-1]
+        return int(answer[2])
 
+    def pieces(self, oid: str, length: int) -> Iterator[bytes]:
+        """The bytes of an object that was begun, in pieces of which only the last is shorter."""
+        assert self.objects.stdout
+        for at in range(0, max(length, 1), PIECE_BYTES):
+            data = self.objects.stdout.read(min(PIECE_BYTES, length - at))
+            if len(data) < min(PIECE_BYTES, length - at):
+                raise Trouble(f"git broke off in the object {oid}")
+            yield data
+        self.objects.stdout.read(1)
 
-def skip(stream: IO[bytes], count: int) -> None:
-    """Reads on without keeping anything."""
-    while data := stream.read(min(count, PIECE)):
-        count -= len(data)
+    def skip(self, oid: str, length: int) -> None:
+        """Reads over the bytes of an object that was begun."""
+        for _ in self.pieces(oid, length):
+            pass
 
 
 def pieces(process: subprocess.Popen, complaint: IO[bytes]) -> Iterator[bytes]:

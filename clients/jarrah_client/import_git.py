@@ -9,17 +9,20 @@ from collections.abc import Iterator
 from concurrent.futures import Future
 from contextlib import closing, contextmanager
 from dataclasses import dataclass, field
+from functools import cached_property
+from hashlib import sha256
 from pathlib import Path
 
 from .changesets import (
     MOST_CHANGES,
-    MOST_CONTENT_BYTES,
+    MOST_SIZE_BYTES,
     SECOND,
     Changeset,
     CopySource,
     File,
     digest,
 )
+from .contents import PIECE_BYTES, join
 from .git_source import GitChange, GitCommit, GitRepository, GitSource
 from .marks import Marks
 from .paths import own_name, path_fault, path_key
@@ -64,6 +67,8 @@ class Taken:
     changes: dict[str, File | None] = field(default_factory=dict)
     copies: dict[str, CopySource] = field(default_factory=dict)
     uploads: list[Future] = field(default_factory=list)
+    wholes: dict[str, list[str]] = field(default_factory=dict)
+    """Large contents with their pieces, which are joined once those are uploaded."""
 
 
 @dataclass(frozen=True)
@@ -73,6 +78,7 @@ class Step:
     commit: GitCommit
     changesets: list[Changeset]
     uploads: list[Future]
+    wholes: dict[str, list[str]]
 
 
 class Room:
@@ -106,6 +112,8 @@ class Reader:
         self.room = Room(AHEAD_BYTES)
         self.steps: queue.Queue[Step | Exception | None] = queue.Queue(AHEAD_COMMITS)
         self.blobs: dict[str, tuple[str, int]] = {}
+        self.sent: set[str] = set()
+        """The contents and pieces that this run has uploaded."""
 
     def read(self, oids: list[str], before: str | None, parent: str | None) -> None:
         """Puts a step for each commit, then None, or what went wrong."""
@@ -132,7 +140,7 @@ class Reader:
         whole = Changeset(
             (), commit.author, commit.seconds, commit.offset, message, taken.changes, taken.copies
         )
-        return Step(commit, stacked(whole, parent), taken.uploads)
+        return Step(commit, stacked(whole, parent), taken.uploads, taken.wholes)
 
     def take(self, commit: GitCommit, change: GitChange, taken: Taken) -> None:
         """Adds one change of a commit, or names why it is left out."""
@@ -144,7 +152,7 @@ class Reader:
         if own_name(path):
             self.leave_out(commit, change, f"it has the element `{own_name(path)}`")
             return
-        file = self.file(commit, change, taken.uploads)
+        file = self.file(commit, change, taken)
         if file or change.was_file:
             taken.changes[path] = file
         if file and change.source and self.is_imported(change.source):
@@ -157,33 +165,58 @@ class Reader:
             return False
         if source.blob in self.blobs:
             return True
-        size, _ = self.source.read(source.blob, 0)
-        return size <= MOST_CONTENT_BYTES
+        return self.why_too_large(self.source.size(source.blob)) is None
 
-    def file(self, commit: GitCommit, change: GitChange, uploads: list[Future]) -> File | None:
+    @cached_property
+    def server_joins(self) -> bool:
+        """Whether the server takes contents of several pieces."""
+        return self.pool.ask(Server.joins).result()
+
+    def why_too_large(self, size: int) -> str | None:
+        """Why the server can't have a content of so many bytes, or None where it can."""
+        if size > MOST_SIZE_BYTES:
+            return f"it has {size:,} bytes, over {MOST_SIZE_BYTES:,}"
+        if size > PIECE_BYTES and not self.server_joins:
+            takes = "which a server takes whose file has version 2 (`hg_cli migrate OLD NEW`)"
+            return f"it has {size:,} bytes, over {PIECE_BYTES:,}, {takes}"
+        return None
+
+    def file(self, commit: GitCommit, change: GitChange, taken: Taken) -> File | None:
         """The file that a change sets, its content on its way; None where there is none."""
         if change.is_submodule:
             self.leave_out(commit, change, "it is a submodule")
         if change.kind is None:
             return None
         if change.blob not in self.blobs:
-            size, data = self.source.read(change.blob, MOST_CONTENT_BYTES)
-            if size > MOST_CONTENT_BYTES:
-                why = f"it has {size:,} bytes, over {MOST_CONTENT_BYTES:,}"
+            size = self.source.begin(change.blob)
+            why = self.why_too_large(size)
+            if why:
+                self.source.skip(change.blob, size)
                 self.leave_out(commit, change, why)
                 return None
-            id = digest(data)
-            self.blobs[change.blob] = (id, size)
-            uploads.append(self.upload(id, data))
+            self.blobs[change.blob] = (self.upload_blob(change.blob, size, taken), size)
         return File(*self.blobs[change.blob], change.kind)
 
-    def upload(self, id: str, data: bytes) -> Future:
-        """Has a content uploaded by the next connection that is free."""
-        self.room.take(len(data))
+    def upload_blob(self, blob: str, size: int, taken: Taken) -> str:
+        """Has a content uploaded as git gives its pieces, and tells its id."""
+        whole, pieces = sha256(), []
+        for data in self.source.pieces(blob, size):
+            whole.update(data)
+            pieces.append(digest(data))
+            if pieces[-1] not in self.sent:
+                self.sent.add(pieces[-1])
+                taken.uploads.append(self.upload(pieces[-1], data))
+        if len(pieces) > 1:
+            taken.wholes[whole.hexdigest()] = pieces
         self.report.contents += 1
-        self.report.content_bytes += len(data)
-        contents, size = self.report.contents, self.report.content_bytes / (1 << 20)
-        self.progress.detail = f"{contents:,} contents, {size:,.1f} MiB"
+        self.report.content_bytes += size
+        contents, total = self.report.contents, self.report.content_bytes / (1 << 20)
+        self.progress.detail = f"{contents:,} contents, {total:,.1f} MiB"
+        return whole.hexdigest()
+
+    def upload(self, id: str, data: bytes) -> Future:
+        """Has a content, or a piece of one, uploaded by the next connection that is free."""
+        self.room.take(len(data))
 
         def call(server: Server) -> None:
             try:
@@ -333,6 +366,9 @@ def upload(step: Step, pool: Pool, report: Report, progress: Progress) -> None:
     with about(f"stopped at commit {step.commit.oid[:12]} (run again to go on)"):
         for content in step.uploads:
             content.result()
+            progress.tick()
+        for id, pieces in step.wholes.items():
+            pool.ask(lambda server: join(server, id, pieces), urgent=True).result()
             progress.tick()
         for changeset in step.changesets:
             with advised(changeset):

@@ -19,6 +19,8 @@ from .server import Server
 VERSION = 1
 TAIL = 32
 """So many last entries have to be the server's still, or it serves another repository now."""
+CONTENTS = ("content", "whole")
+"""The kinds of entries that are read over: no command asks for them by the log."""
 
 
 class CachedLog(Log):
@@ -54,7 +56,7 @@ class CachedLog(Log):
             for entry in self.entries():
                 self.tail.append(canonical(entry))
                 progress.step()
-                if entry["kind"] != "content":
+                if entry["kind"] not in CONTENTS:
                     found.append(entry)
         return found
 

@@ -11,6 +11,7 @@ from datetime import datetime, timedelta, timezone
 from typing import Any
 
 from .changesets import Changeset, CopySource, File
+from .contents import Data, put_into
 from .nodes import Directory
 from .repository import Landing
 
@@ -44,9 +45,9 @@ class Output:
         paint, text, end = found.groups() if found else ("", line, "")
         print(f"{paint}{clean(text)}{end}", flush=True)
 
-    def bytes(self, data: bytes) -> None:
+    def bytes(self, data: Data) -> None:
         """Writes bytes as they are."""
-        sys.stdout.buffer.write(data)
+        put_into(sys.stdout.buffer, data)
         sys.stdout.buffer.flush()
 
 
@@ -179,6 +180,9 @@ def entry_line(entry: dict[str, Any]) -> str:
     head = f"{entry['number']:>8}  {entry['kind']:<9}  "
     if entry["kind"] == "content":
         return f"{head}{entry['id']}  {entry['size']:,} bytes"
+    if entry["kind"] == "whole":
+        parts = counted(len(entry["parts"]), "content")
+        return f"{head}{entry['id']}  {entry['size']:,} bytes of {parts}"
     if entry["kind"] == "changeset":
         return head + entry["id"]
     by = f"  by {entry['caller']}" if "caller" in entry else ""

@@ -25,8 +25,11 @@ WORDS = {
     "bad-caller": "the server refuses the caller's name (1 to 128 of A-Z a-z 0-9 _ . - are allowed)",
     "denied": "the server's policy doesn't allow this at {path}",
     "bad-policy": "the server refuses the policy: its line {line}, counted from 0, breaks the grammar",
-    "old-format": "the server's file can't have this: it has version 1, or no version has it yet",
+    "old-format": "the server's file has version 1, which can't have this:"
+    " `hg_cli migrate OLD NEW` makes a file of version 2 of it, once the server is stopped",
     "bad-parts": "the body has {length} bytes, and not 1 to 64 ids of 32 bytes each",
+    "no-piece": "the server doesn't have the content {id}, which is to be joined",
+    "not-a-piece": "the content {id} is itself made of others, so no other can be made of it",
     "clash": "{left} in the draft clashes with {right}, which was changed on the bookmark"
     " since the draft began",
     "moved": "the bookmark has moved: it is at {found}",

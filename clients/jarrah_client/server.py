@@ -7,12 +7,14 @@ import json
 import select
 import socket
 import time
+from collections.abc import Iterator, Sequence
+from contextlib import contextmanager
 from dataclasses import dataclass
-from typing import Any
+from typing import IO, Any
 from urllib.parse import quote, urlsplit
 
 from .changesets import Changeset, CopySource, decode
-from .fields import BadEncoding, digest
+from .fields import READ_BYTES, BadEncoding, digest, digest_of
 from .nodes import Fsnode, Unode, decode_fsnode, decode_unode
 from .policies import rule_text
 from .progress import tell_waiting
@@ -33,8 +35,11 @@ PASSING = (502, 503, 504)
 SESSION_BYTES = 1_000_000_000
 """After so many sent bytes a connection is made anew, before the server's bound ends it."""
 NO_BOOKMARK = "none"
+NO_ID = "0" * 64
+"""An id of nothing that is known."""
 MEMBERS = {
     "content": ("id",),
+    "whole": ("id",),
     "changeset": ("id",),
     "bookmark": ("head",),
     "landed": ("head", "ids", "old"),
@@ -114,24 +119,34 @@ class Server:
         self.sent = 0
 
     def ask(
-        self, method: str, target: str, body: bytes | None = None, *, derives: bool = False
+        self,
+        method: str,
+        target: str,
+        body: bytes | None = None,
+        *,
+        derives: bool = False,
+        out: IO[bytes] | None = None,
     ) -> bytes:
-        """The body of a 200, or Refused, NotReached or BadAnswer."""
+        """The body of a 200, or Refused, NotReached or BadAnswer. With `out` it goes there."""
         for seconds in AGAIN_SECONDS if method == "GET" else ():
             try:
-                return self.ask_once(method, target, body, derives)
+                return self.ask_once(method, target, body, derives, out)
             except Fault as fault:
                 if not is_passing(fault):
                     raise
             time.sleep(seconds)
-        return self.ask_once(method, target, body, derives)
+        return self.ask_once(method, target, body, derives, out)
 
-    def ask_once(self, method: str, target: str, body: bytes | None, derives: bool) -> bytes:
+    def ask_once(
+        self, method: str, target: str, body: bytes | None, derives: bool, out: IO[bytes] | None
+    ) -> bytes:
         """The same, without a second try."""
         self.refresh(len(body or b""))
         seconds = self.timeout or (MANIFEST_SECONDS if derives else ANSWER_SECONDS)
         try:
-            response, answer = self.exchange(method, target, body, seconds, derives)
+            response = self.exchange(method, target, body, seconds, derives)
+            is_taken = out is not None and response.status == 200
+            answer = take_body(response, out) if is_taken else response.read()
         except http.client.HTTPException as fault:
             self.close()
             raise NotReached(f"{self.url} broke off its answer ({type(fault).__name__})") from None
@@ -139,6 +154,9 @@ class Server:
             self.close()
             kind = NoAnswer if isinstance(fault, (TimeoutError, socket.gaierror)) else NotReached
             raise kind(f"no answer from {self.url}: {reason(fault, seconds)}") from None
+        except Trouble:
+            self.close()
+            raise
         self.last_used = time.monotonic()
         if response.status != 200:
             raise refused(response.status, answer)
@@ -146,8 +164,8 @@ class Server:
 
     def exchange(
         self, method: str, target: str, body: bytes | None, seconds: float, derives: bool
-    ) -> tuple[http.client.HTTPResponse, bytes]:
-        """Sends a request, and reads what answers it."""
+    ) -> http.client.HTTPResponse:
+        """Sends a request, and reads the head of what answers it."""
         self.connection.timeout = seconds
         if self.connection.sock:
             self.connection.sock.settimeout(seconds)
@@ -155,8 +173,7 @@ class Server:
         self.connection.request(method, target, body=body, headers={"Accept": "*/*", **named})
         if derives:
             wait_for_answer(self.connection.sock, "deriving", seconds)
-        response = self.connection.getresponse()
-        return response, response.read()
+        return self.connection.getresponse()
 
     def refresh(self, length: int) -> None:
         """Ends a connection that the server would end, or has, before a request is on its way."""
@@ -190,6 +207,29 @@ class Server:
         """Stores a content of at most 1,048,576 bytes under its id."""
         self.store("content", id, data)
 
+    def put_whole(self, id: str, pieces: Sequence[str]) -> str | None:
+        """Joins stored contents to the one of this id, or gives the first that isn't stored."""
+        try:
+            found = self.ask_json("PUT", "/whole", "whole", bytes.fromhex("".join(pieces)))["id"]
+        except Refused as refusal:
+            if refusal.code == "no-piece" and "id" in refusal.members:
+                return refusal.members["id"]
+            if refusal.code == "no-route":
+                refusal.advice = "an older server takes no file over 1,048,576 bytes"
+            raise
+        if found != id:
+            raise BadAnswer(f"{self.url} joined the content {id} under another id, {found}")
+        return None
+
+    def joins(self) -> bool:
+        """Whether the server joins contents: not in a repository of version 1."""
+        try:
+            return self.put_whole(NO_ID, [NO_ID]) is not None
+        except Refused as refusal:
+            if refusal.code not in ("old-format", "no-route"):
+                raise
+            return False
+
     def put_changeset(self, changeset: Changeset) -> None:
         """Stores a changeset whose parent and contents are stored."""
         self.store("changeset", changeset.id, changeset.encoded)
@@ -206,6 +246,14 @@ class Server:
         if digest(data) != id:
             raise BadAnswer(f"{self.url} sent other bytes than those of the content {id}")
         return data
+
+    def content_to(self, id: str, out: IO[bytes]) -> None:
+        """The same into a file, piece by piece, which is at its beginning then."""
+        self.ask("GET", f"/content/{id}", out=out)
+        out.seek(0)
+        if digest_of(out) != id:
+            raise BadAnswer(f"{self.url} sent other bytes than those of the content {id}")
+        out.seek(0)
 
     def changeset(self, id: str) -> Changeset:
         """A stored changeset; its bytes are compared with its id."""
@@ -316,6 +364,30 @@ def part(text: str) -> str:
 def long_part(path: str) -> str:
     """A path as the last parameter of a route."""
     return quote(path, safe="/")
+
+
+def take_body(response: http.client.HTTPResponse, out: IO[bytes]) -> bytes:
+    """Writes a body to a file, in place of what an earlier try has left there."""
+    with writing():
+        out.seek(0)
+        out.truncate()
+    while data := response.read(READ_BYTES):
+        with writing():
+            out.write(data)
+    if response.length:
+        raise http.client.IncompleteRead(b"", response.length)
+    with writing():
+        out.flush()
+    return b""
+
+
+@contextmanager
+def writing() -> Iterator[None]:
+    """Tells what goes wrong with a file apart from what goes wrong with a connection."""
+    try:
+        yield
+    except OSError as fault:
+        raise Trouble(f"a file of what the server sent: {fault.strerror}") from None
 
 
 def parsed(body: bytes) -> dict | None:

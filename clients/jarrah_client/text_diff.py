@@ -5,7 +5,7 @@ from __future__ import annotations
 import difflib
 import subprocess
 import tempfile
-from collections.abc import Iterator
+from collections.abc import Callable, Iterator
 from dataclasses import dataclass
 from pathlib import Path
 
@@ -14,6 +14,8 @@ from .paths import is_text
 CONTEXT = 3
 COLOURS = {"-": "31", "+": "32", "@": "36", "head": "1"}
 MARKS = (b"<<<<<<< ", b"=======", b">>>>>>> ")
+Paint = Callable[[str, str], str]
+"""Gives a line the colour of its tag."""
 NO_END = "\\ No newline at end of file"
 
 
@@ -86,12 +88,12 @@ def unified(
 ) -> Iterator[str]:
     """Two states of a file as a unified diff, its lines one by one."""
     paint = painter(colours)
-    yield paint("head", f"--- {'a/' + path if old is not None else '/dev/null'}")
-    yield paint("head", f"+++ {'b/' + path if new is not None else '/dev/null'}")
     left, right = text_of(old or b""), text_of(new or b"")
     if left is None or right is None:
-        yield f"the bytes differ: {len(old or b''):,} before, {len(new or b''):,} after"
+        sizes = [None if data is None else len(data) for data in (old, new)]
+        yield from sizes_alone(path, sizes[0], sizes[1], colours=colours)
         return
+    yield from heads(path, old is not None, new is not None, paint)
     for hunk in hunks(left, right):
         yield paint(
             "@", f"@@ -{span(hunk.old_start, hunk.old_count)}"
@@ -101,12 +103,26 @@ def unified(
             yield paint(tag, NO_END if tag == "\\" else tag + line)
 
 
+def sizes_alone(
+    path: str, old: int | None, new: int | None, *, colours: bool = False
+) -> Iterator[str]:
+    """The same of a file that has no lines, or is too large to have them compared."""
+    yield from heads(path, old is not None, new is not None, painter(colours))
+    yield f"the bytes differ: {old or 0:,} before, {new or 0:,} after"
+
+
+def heads(path: str, was_there: bool, is_there: bool, paint: Paint) -> Iterator[str]:
+    """The lines that name a file on both sides."""
+    yield paint("head", f"--- {'a/' + path if was_there else '/dev/null'}")
+    yield paint("head", f"+++ {'b/' + path if is_there else '/dev/null'}")
+
+
 def span(start: int, count: int) -> str:
     """A stretch of lines in a hunk's head; the count of one line is left out."""
     return str(start) if count == 1 else f"{start},{count}"
 
 
-def painter(colours: bool):
+def painter(colours: bool) -> Paint:
     """What puts the colour of a tag round a line."""
 
     def paint(tag: str, line: str) -> str:

@@ -12,7 +12,7 @@ from collections.abc import Iterator
 from random import Random
 from typing import NamedTuple
 
-from .program_session import copies, deletes, request, sets, spelled
+from .program_session import copies, deletes, digested, request, sets, spelled
 from .stand_in.http import MOST_HEAD, Answer, Head, Service, Session, body
 from .stand_in.policy import NOBODY
 from .stand_in.repository import Repository, rebased
@@ -96,6 +96,7 @@ def valid_requests(source: Random) -> list[bytes]:
     ids = [digest(base)]
     said = [request("PUT /content", content) for content in contents]
     said += [request("PUT /changeset", base), request(f"PUT /bookmark/main/none/{ids[0]}")]
+    said += joins(source, contents)
     for _ in range(source.randrange(1, 6)):
         commit = draft(source, contents, source.choice(ids))
         ids.append(digest(commit))
@@ -110,6 +111,28 @@ def valid_requests(source: Random) -> list[bytes]:
     said += [request("PUT /changeset", copying), request(f"GET /copies/{digest(copying)}")]
     said += source.sample(reads(source, ids, contents), 3)
     return said
+
+
+def joins(source: Random, contents: list[bytes]) -> list[bytes]:
+    """Some joins of contents, and reads and uploads of what comes of them. It may be a part of a
+    further one, as may what isn't stored."""
+    said = []
+    plain = list(contents)
+    for _ in range(source.randrange(4)):
+        is_plain = source.random() < 0.7
+        parts = some_parts(source, plain if is_plain else [*contents, b"not stored"])
+        whole = b"".join(parts)
+        said.append(request("PUT /whole", b"".join(map(digested, parts))))
+        said.append(request(f"GET /content/{digest(whole)}"))
+        if source.random() < 0.3:
+            said.append(request("PUT /content", whole))
+        contents.append(whole)
+    return said
+
+
+def some_parts(source: Random, contents: list[bytes]) -> list[bytes]:
+    """A few of some contents, or as many as are joined at most, or one more."""
+    return source.choices(contents, k=source.choice([1, 2, 2, 2, 3, 5, 64, 65]))
 
 
 def some_callers(source: Random) -> tuple[str, ...]:
@@ -217,6 +240,10 @@ def valid_payloads(source: Random) -> list[bytes]:
     payloads = [b"\x42" + content for content in dict.fromkeys(contents)]
     for content in contents:
         repository.put_content(content)
+    for _ in range(source.randrange(4)):
+        parts = some_parts(source, contents if source.random() < 0.2 else contents[:3])
+        payloads += whole_payload(repository, parts)
+        contents.append(b"".join(parts))
     base = spelled()
     head = repository.put_changeset(base)
     repository.set_bookmark("main", None, head)
@@ -236,6 +263,22 @@ def valid_payloads(source: Random) -> list[bytes]:
             payloads += policy_payload(repository, source.choice(POLICIES))
         payloads += landing_payload(repository, ids[-1], moment, source.choice(CALLERS))
     return payloads
+
+
+def whole_payload(repository: Repository, parts: list[bytes]) -> list[bytes]:
+    """The payload of contents that are joined, if that makes an entry."""
+    before, ids = len(repository.entries), b"".join(map(digested, parts))
+    try:
+        repository.put_whole(ids)
+    except Refusal:
+        return []
+    is_new = len(repository.entries) > before
+    return [spelled_whole(b"".join(parts), ids)] if is_new else []
+
+
+def spelled_whole(whole: bytes, ids: bytes) -> bytes:
+    count = (len(ids) // 32).to_bytes(2, "big")
+    return b"\x57" + digested(whole) + len(whole).to_bytes(8, "big") + count + ids
 
 
 def wrapped(caller: str, payload: bytes) -> bytes:
@@ -290,7 +333,7 @@ def damaged_files(source: Random) -> bytes:
         place = source.randrange(len(payloads))
         payloads[place] = mutated(source, payloads[place], 2)
     capacity = source.choice([LEAST_CAPACITY, 65_536, MOST_CAPACITY])
-    data = source.choice(MARKS) + capacity.to_bytes(8, "big")
+    data = source.choice([*MARKS, MARKS[1]]) + capacity.to_bytes(8, "big")
     data += b"".join(map(record, payloads))
     data += source.choice([b"\x00", b"\x00", b"\x02", b"\xff\x00\x00", b""])
     if source.random() < 0.5:
@@ -342,6 +385,10 @@ def entered(repository: Repository, payload: bytes) -> bool:
     if payload[0] == 0x43:
         repository.put_changeset(payload)
         return True
+    if payload[0] == 0x57:
+        ids = payload[43:]
+        whole = repository.content(repository.put_whole(ids))
+        return payload == spelled_whole(whole, ids)
     if payload[0] != 0x41:
         return repository.rules is None and decided(repository, NOBODY, payload)
     caller, inner = named(payload[1:])

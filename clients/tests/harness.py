@@ -164,6 +164,16 @@ def has_copies(url: str) -> bool:
     return has_route(url, Server.copies)
 
 
+@functools.cache
+def has_wholes(url: str) -> bool:
+    """Whether a server joins contents, as each does whose file has version 2."""
+    server = Server(url)
+    try:
+        return server.joins()
+    finally:
+        server.close()
+
+
 def has_route(url: str, read: Callable[[Server, str], Any]) -> bool:
     """Whether a server has the route by which something of a changeset is read."""
     server = Server(url)
@@ -218,6 +228,10 @@ class Case(unittest.TestCase):
         if not has_copies(self.server):
             self.skipTest("a server with copies")
 
+    def needs_wholes(self) -> None:
+        if not has_wholes(self.server):
+            self.skipTest("a server that joins contents")
+
     def setUp(self) -> None:
         self.folder = Path(tempfile.mkdtemp(prefix="jarrah-test-"))
         self.addCleanup(shutil.rmtree, self.folder)
@@ -243,6 +257,12 @@ class Case(unittest.TestCase):
     def draft(self, parent: str, *words: object, data: bytes = b"") -> str:
         """Uploads a draft and gives its id."""
         return self.ok("draft", "--parent", parent, *words, data=data).out.strip()
+
+    def sparse(self, place: Path, size: int) -> Path:
+        """Makes a file of so many bytes that takes no room."""
+        place.touch()
+        os.truncate(place, size)
+        return place
 
     def write(self, name: str, data: bytes = b"abc") -> Path:
         """Writes a file of the test's folder."""

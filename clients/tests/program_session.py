@@ -124,6 +124,11 @@ class Script:
         self.say(request("PUT /changeset", data))
         return digest(data)
 
+    def join(self, *parts: bytes) -> bytes:
+        """Joins contents, and gives their joined bytes."""
+        self.say(request("PUT /whole", b"".join(map(digested, parts))))
+        return b"".join(parts)
+
     def by(self, *callers: str, line: str, body: bytes = b"") -> None:
         """Asks by these callers, of whom there should be one."""
         self.say(request(line, body, callers))
@@ -150,6 +155,7 @@ def misses(script: Script) -> None:
 def contents(script: Script) -> None:
     script.put(b"abc")
     script.ask("GET /log/0", "GET /log/1", f"GET /content/{ABC}", f"GET /content/{digest(b'')}")
+    script.join(b"abc", b"")
 
 
 def changesets(script: Script) -> tuple[str, str]:
@@ -434,11 +440,30 @@ def only_ann(script: Script, head: str) -> None:
     script.by("ann", line="PUT /policy", body=b"deny * a b\nallow * /\n")
 
 
-def wholes(script: Script) -> None:
-    """Contents aren't joined yet."""
+def wholes(script: Script, root: str) -> None:
+    """Contents that are joined, what of that is refused, and files with them."""
     for length in (0, 31, 32, 64, 2_048, 2_080):
         script.say(request("PUT /whole", bytes(length)))
     script.ask("GET /whole", "PUT /whole/")
+    size, number = script.repository.size, len(script.repository.entries)
+    twice = script.join(b"abc", b"abc")
+    assert script.repository.size == size + 112
+    script.join(b"abc", b"abc")
+    assert script.join(b"abc", b"") == script.join(b"abc") == b"abc"
+    script.join(b"")
+    script.put(twice)
+    assert len(script.repository.entries) == number + 1
+    script.ask(f"GET /content/{digest(twice)}", f"HEAD /content/{digest(twice)}")
+    for parts in [(b"abc", twice, b""), (twice, b"none"), (b"none", twice), (twice,)]:
+        script.join(*parts)
+    script.put(b"xyz")
+    ends = [script.join(b"abc", b"xyz"), script.join(b"xyz", b"abc")]
+    most = script.join(*[b"xyz"] * 63, b"")
+    script.ask(*(f"GET /content/{digest(whole)}" for whole in [*ends, most]))
+    first = script.commit(spelled(sets("w", twice), sets("x", ends[0]), parents=(root,)))
+    script.commit(spelled(sets("w", twice, size=7), parents=(root,)))
+    script.commit(spelled(sets("w", twice), sets("x", b"none"), parents=(root,)))
+    script.ask(f"GET /fsnode/{first}", f"GET /unode/{first}/w", f"GET /log/{number}")
 
 
 def pages(script: Script) -> None:
@@ -449,8 +474,8 @@ def pages(script: Script) -> None:
 
 
 def little_room(script: Script, root: str) -> None:
-    """Landings where a byte too few is left, with a moment and without; then uploads where 34
-    bytes are left, and then none.
+    """Landings where a byte too few is left, with a moment and without, and a join; then uploads
+    where 34 bytes are left, and then none.
     """
     wrapper = 2 + len(NOBODY)
     draft = script.commit(spelled(sets("p"), parents=(root,)))
@@ -460,6 +485,8 @@ def little_room(script: Script, root: str) -> None:
     script.ask(f"POST /land/full/{dated}")
     script.leave(183 + wrapper)
     script.ask(f"POST /land/full/{draft}", "GET /bookmark/full")
+    script.leave(111)
+    script.join(b"xyz", b"xyz")
     script.leave(34)
     other = digest(b"other")
     for refused in [
@@ -479,6 +506,8 @@ def little_room(script: Script, root: str) -> None:
     # what is known makes no entry
     script.put(b"abc")
     script.commit(spelled(message=b"xxx"))
+    script.join(b"abc", b"abc")
+    script.join(b"xyz", b"q")
     script.ask(f"PUT /bookmark/full/{root}/{root}", f"GET /content/{digest(b'q')}")
 
 
@@ -494,7 +523,7 @@ def made() -> Script:
     copied_files(script, root)
     manifests(script, root)
     policies(script, root)
-    wholes(script)
+    wholes(script, root)
     for head in HEADS:
         script.say(head)
     pages(script)

@@ -12,9 +12,11 @@ import time
 import unittest
 from contextlib import nullcontext, redirect_stderr
 from unittest import mock
+from unittest.mock import Mock
 
 from jarrah_client import VERSION, progress, server
 from jarrah_client.commands import reading
+from jarrah_client.fields import digest
 from jarrah_client.pool import Pool
 from jarrah_client.progress import Progress
 from jarrah_client.refusals import Refused
@@ -25,6 +27,7 @@ from jarrah_client.server import (
     NoAnswer,
     NotReached,
     Server,
+    Trouble,
 )
 
 from .canned import Canned
@@ -37,13 +40,17 @@ SERVER_IDLE_SECONDS = 10
 
 
 class Cutting:
-    """A socket that breaks off its first connections, and counts the requests it read."""
+    """A socket that breaks off its first connections, and counts the requests it read.
 
-    def __init__(self, cuts: int, answer: bytes):
+    It breaks off before its answer, or behind some bytes of the answer's body.
+    """
+
+    def __init__(self, cuts: int, answer: bytes, behind: int | None = None):
         self.listener = socket.create_server(("127.0.0.1", 0))
         self.url = f"http://127.0.0.1:{self.listener.getsockname()[1]}"
         self.left = cuts
         self.answer = answer
+        self.behind = behind
         self.requests: list[bytes] = []
         self.thread = threading.Thread(target=self.serve, daemon=True)
         self.thread.start()
@@ -56,11 +63,12 @@ class Cutting:
                 return
             with link:
                 self.requests.append(link.recv(65_536))
-                if self.left:
-                    self.left -= 1
+                is_cut = self.left > 0
+                self.left -= is_cut
+                if is_cut and self.behind is None:
                     continue
                 head = f"HTTP/1.1 200 OK\r\nContent-Length: {len(self.answer)}\r\n\r\n"
-                link.sendall(head.encode() + self.answer)
+                link.sendall(head.encode() + self.answer[: self.behind if is_cut else None])
 
     def close(self) -> None:
         """Ends the thread first: one that still accepts would take another server's connection."""
@@ -75,9 +83,11 @@ class Again(unittest.TestCase):
     def setUp(self) -> None:
         enter(self, mock.patch.object(server, "AGAIN_SECONDS", (0.0, 0.0, 0.0)))
 
-    def cutting(self, cuts: int, answer: object = b"abc") -> Cutting:
+    def cutting(
+        self, cuts: int, answer: object = b"abc", behind: int | None = None
+    ) -> Cutting:
         data = answer if isinstance(answer, bytes) else json.dumps(answer).encode()
-        found = Cutting(cuts, data)
+        found = Cutting(cuts, data, behind)
         self.addCleanup(found.close)
         return found
 
@@ -91,9 +101,31 @@ class Again(unittest.TestCase):
                     Server(one.url).content(ABC)
             self.assertEqual(len(one.requests), min(cuts + 1, 4))
 
+    def test_reads_into_a_file(self):
+        data = bytes(range(256)) * 4_000
+        for behind in (None, 0, 1, 600_000):
+            one = self.cutting(2, data, behind)
+            with self.subTest(behind=behind), io.BytesIO() as out:
+                Server(one.url).content_to(digest(data), out)
+                self.assertEqual((out.tell(), out.getvalue()), (0, data))
+                self.assertEqual(len(one.requests), 3)
+        one = self.cutting(9, data, 600_000)
+        with self.assertRaises(NotReached), io.BytesIO() as out:
+            Server(one.url).content_to(digest(data), out)
+
+    def test_files_that_take_no_more(self):
+        link = Server(self.cutting(0).url)
+        full = Mock(write=Mock(side_effect=OSError(28, "No space left on device")))
+        with self.assertRaises(Trouble) as caught:
+            link.content_to(ABC, full)
+        self.assertIn("No space left", str(caught.exception))
+        self.assertNotIsInstance(caught.exception, NotReached)
+        self.assertIsNone(link.connection.sock)
+
     def test_changes(self):
         for act in (
             lambda one: one.put_content(ABC, b"abc"),
+            lambda one: one.put_whole(ABC, [ABC]),
             lambda one: one.put_changeset(EMPTY),
             lambda one: one.move_bookmark("main", None, B),
             lambda one: one.land("main", B),

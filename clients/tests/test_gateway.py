@@ -5,6 +5,7 @@ from __future__ import annotations
 import base64
 import http.client
 import json
+import random
 import re
 import subprocess
 import sys
@@ -18,7 +19,7 @@ from jarrah_client.changesets import Changeset, CopySource, File
 from jarrah_client.server import Server
 from jarrah_client.web.routes import OPENAPI, READS, WRITES
 
-from .harness import ENVIRONMENT, PROGRAM, Case, fresh
+from .harness import ENVIRONMENT, PROGRAM, Case, fresh, jarrah
 from .test_encoding import ABC
 
 DOCUMENT = json.loads(OPENAPI.read_text())
@@ -169,6 +170,17 @@ class Gateway(GatewayCase):
         self.assertIsNone(self.got(f"/api/file/{head}/run")["text"])
         names = [one["name"] for one in self.got("/api/bookmarks")["bookmarks"]]
         self.assertIn(self.name, names)
+
+    def test_large_files(self):
+        self.needs_wholes()
+        data = random.Random(1).randbytes(1_500_000)
+        on = {"parent": self.name, "land": self.name}
+        status, made = self.upload(sets("big", data), **on)
+        self.assertEqual((status, made["changes"]), (200, 1))
+        told = self.got(f"/api/file/{self.name}/big")
+        self.assertEqual((told["size"], told["text"]), (len(data), None))
+        ran = jarrah("cat", self.name, "big", server=self.server, binary=True)
+        self.assertEqual(ran.data, data)
 
     def test_copied_files(self):
         self.needs_copies()

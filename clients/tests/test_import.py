@@ -7,7 +7,9 @@ import subprocess
 import tempfile
 from pathlib import Path
 from typing import Any
+from unittest import mock
 
+from jarrah_client import import_git
 from jarrah_client.server import Server
 
 from .git_maker import Maker
@@ -16,6 +18,8 @@ from .stand_in.http import StandIn
 from .stand_in.spelling import Refusal
 
 COMMITS = 200
+LOWER_BOUND = mock.patch.object(import_git, "MOST_SIZE_BYTES", 1_048_576)
+"""Has an import leave files out that a quick test can make."""
 RENAMES = "-r -z -M -C --find-copies-harder -l1000 --name-status".split()
 
 
@@ -314,7 +318,8 @@ class Copies(Case):
         self.maker.git("commit", "-q", "-m", "Second", **self.maker.date())
         said = copies_by_git(self.maker, first, "HEAD")
         self.assertEqual({"a", "b", "c"} - set(said), set())
-        ran = jarrah("--json", *self.words, server=self.server)
+        with LOWER_BOUND:
+            ran = jarrah("--json", *self.words, server=self.server)
         self.assertEqual((ran.status, ran.document["copies"]), (3, 0))
         changesets = self.ok("--json", "log", self.name).documents[::-1]
         sets = [one["path"] for one in changesets[1]["changes"] if one["change"] == "set"]
@@ -377,7 +382,8 @@ class LeftOut(Case):
         maker.git("commit", "-q", "-m", "Third", **maker.date())
         name = fresh("import")
         words = ("import-git", top, name, "--marks", self.folder / "marks")
-        ran = jarrah("--json", *words, server=self.server)
+        with LOWER_BOUND:
+            ran = jarrah("--json", *words, server=self.server)
         left_out = {(one["path"], one["why"].split(",")[0]) for one in ran.document["left_out"]}
         wanted = {
             ("grows", "it has 1"),

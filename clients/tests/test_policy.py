@@ -113,8 +113,6 @@ class Policies(Case):
         id = server.head("main")
         for target, data, status, code, members in (
             ("/policy", b"allow ann", 422, "bad-policy", {"line": 0}),
-            ("/whole", b"a" * 31, 400, "bad-parts", {"length": 31}),
-            ("/whole", b"a" * 32, 409, "old-format", {}),
         ):
             with self.subTest(target=target), self.assertRaises(Refused) as caught:
                 server.ask("PUT", target, data)

@@ -18,7 +18,7 @@ class ProgramSession(unittest.TestCase):
 
     def test_worked_ids_are_answered(self) -> None:
         worked = set(re.findall(r"`([0-9a-f]{64})`", FORMATS.split("## Nodes of manifests")[0]))
-        self.assertEqual(len(worked), 4)
+        self.assertEqual(len(worked), 5)
         uploaded = set(re.findall(r"with the id `([0-9a-f]{64})`", FORMATS))
         self.assertEqual(len(uploaded), 2)
         answered = made().written

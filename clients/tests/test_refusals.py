@@ -13,7 +13,8 @@ from .harness import TOP, Case, fresh, jarrah
 from .test_encoding import ABC, EMPTY
 
 API = (TOP / "docs" / "API.md").read_text()
-ANSWERS = {"content", "changeset", "copies", "bookmark", "landed", "log", "history", "path-log", "policy"}
+ANSWERS = {"content", "whole", "changeset", "copies", "bookmark", "landed", "log", "history"}
+ANSWERS |= {"path-log", "policy"}
 LATER = {"no-path", "not-a-dir", "not-a-file", "bad-path", "too-long"}
 """Codes of the routes of manifests that docs/API.md doesn't have yet."""
 ID = "0123456789abcdef" * 4
@@ -54,6 +55,9 @@ NAMED = {
     "denied": ("some/path", "rule 3"),
     "bad-policy": ("7",),
     "bad-parts": ("4,075",),
+    "no-piece": (ID,),
+    "not-a-piece": (ID,),
+    "old-format": ("version 1", "migrate OLD NEW"),
 }
 """What the words have to name."""
 
@@ -169,9 +173,9 @@ class Provoked(Case):
             "twice", self.refused("draft", "--parent", self.name, "--delete", "a", "--delete", "a")
         )
         self.assertIn("refused", self.refused("draft", "--parent", self.name, "--delete", "a/../b"))
-        large = self.write("large", bytes(1_048_577))
+        large = self.sparse(self.folder / "large", 67_108_865)
         words = self.refused("draft", "--parent", self.name, "--set", f"l={large}")
-        self.assertEqual(words, "l would have over 1,048,576 bytes")
+        self.assertEqual(words, "l has 67,108,865 bytes, over 67,108,864")
         words = self.refused("draft", "--parent", self.name, "--set", f"l={self.folder}/absent")
         self.assertIn("No such file", words)
 

@@ -144,7 +144,7 @@ class Status(CopyCase):
         self.assertIn("no working copy", outside.err)
 
     def test_what_no_changeset_can_hold(self):
-        (self.ours / "large").write_bytes(bytes(1_048_577))
+        self.sparse(self.ours / "large", 67_108_865)
         (self.ours / "line\nend").write_bytes(b"x")
         os.mkfifo(self.ours / "pipe")
         Path(os.fsdecode(os.fsencode(self.ours) + b"/no \xff text")).write_bytes(b"x")

@@ -4,12 +4,14 @@ from __future__ import annotations
 
 import sys
 from argparse import Namespace
-from collections.abc import Iterable, Iterator
+from collections.abc import Callable, Iterable, Iterator
+from dataclasses import dataclass
+from functools import partial
 from pathlib import Path
 from typing import Any
 
 from .. import drafts
-from ..changesets import Changeset
+from ..changesets import MOST_CONTENT_BYTES, Changeset
 from ..checkout import check_out, prepare
 from ..names import resolve
 from ..output import Output, changeset_document, counted
@@ -18,12 +20,12 @@ from ..pool import Pool
 from ..reads import ALL, remember
 from ..refusals import Fault
 from ..server import Server, Trouble
-from ..text_diff import unified
+from ..text_diff import sizes_alone, unified
 from ..trees import tree_of
 from ..working import rebase as rebasing
 from ..working import stack
 from ..working.moves import Moved, move
-from ..working.scan import Scan, is_in, read_file, scan, stamp_of
+from ..working.scan import Scan, is_in, look_into, scan, stamp_of
 from ..working.stack import Words
 from ..working.state import Kept, State, WorkingCopy
 from .options import LEFT_OUT, REVISION, Add, add_connections, add_fold, add_words
@@ -146,16 +148,33 @@ def diff_folder(copy: WorkingCopy, under: list[str] | None, server: Server, out:
         found = scanned(copy, under)
     for path, file in found.changes.items():
         kept = copy.state.files.get(path)
-        old = server.content(kept.file.content) if kept else None
-        new = read_file(copy.top, path)[1] if file else None
-        lines = list(unified(path, old, new))
-        document = {"path": path, "change": found.word(copy, path), "diff": lines}
-        out.tell(document, []) if out.as_json else tell_diff(path, old, new, out)
+        old = Side(kept.file.size, partial(server.content, kept.file.content)) if kept else None
+        _, source = look_into(copy.top, path)
+        new = Side(source.size, source.read) if file and source else None
+        tell_diff(path, found.word(copy, path), (old, new), out)
 
 
-def tell_diff(path: str, old: bytes | None, new: bytes | None, out: Output) -> None:
-    """Writes a diff's lines, in colours on a terminal."""
-    for line in unified(path, old, new, colours=out.has_colours):
+@dataclass(frozen=True)
+class Side:
+    """A file on one side of a diff: its size, and what reads it."""
+
+    size: int
+    read: Callable[[], bytes]
+
+
+def tell_diff(path: str, word: str, sides: tuple[Side | None, Side | None], out: Output) -> None:
+    """Tells a diff's lines, in colours on a terminal."""
+    colours = not out.as_json and out.has_colours
+    if any(side and side.size > MOST_CONTENT_BYTES for side in sides):
+        old, new = (side.size if side else None for side in sides)
+        lines = sizes_alone(path, old, new, colours=colours)
+    else:
+        before, after = (side.read() if side else None for side in sides)
+        lines = unified(path, before, after, colours=colours)
+    if out.as_json:
+        out.tell({"path": path, "change": word, "diff": list(lines)}, [])
+        return
+    for line in lines:
         out.painted(line)
 
 

@@ -8,11 +8,13 @@ import sys
 import time
 from argparse import Namespace
 from collections.abc import Iterable, Iterator
+from functools import partial
 from itertools import islice
 from pathlib import Path
 from typing import Any
 
 from ..changesets import Changeset, File
+from ..contents import bytes_of, fetched
 from ..log_cache import CachedLog
 from ..names import resolve
 from ..output import (
@@ -34,11 +36,10 @@ from ..reads import file_at, remember
 from ..refusals import Fault, WrongWords, about
 from ..repository import Landing, Log, by_front, chain
 from ..server import NotReached, Server, Trouble, is_passing
-from ..text_diff import unified
 from ..trees import fate, history_of, last_changes, path_log_of, tree_of
 from ..working.scan import is_in
 from ..working.state import WorkingCopy
-from .copies import diff_folder, tell_diff
+from .copies import Side, diff_folder, tell_diff
 from .options import REVISION, Add, add_fold, natural
 
 FOLLOW_SECONDS = 1.0
@@ -187,13 +188,13 @@ def cat(options: Namespace, server: Server, out: Output) -> None:
     with about(path):
         tree = tree_of(server, id, fold=options.fold)
         file = tree.file(path)
-        data = server.content(file.content)
+        data = fetched(server, file)
     if is_bookmark_name(options.revision) and id != options.revision:
         remember(server, options.revision, path, id)
     if not out.as_json:
         out.bytes(data)
         return
-    encoded = base64.b64encode(data).decode("ascii")
+    encoded = base64.b64encode(bytes_of(data)).decode("ascii")
     out.tell({"path": path, **file_document(file), "base64": encoded}, [])
 
 
@@ -245,12 +246,15 @@ def is_path(copy: WorkingCopy, word: str) -> bool:
 
 def diff_lines(changeset: Changeset, server: Server, out: Output) -> None:
     """Tells the lines that a changeset changes from its first parent."""
-    before = tree_of(server, changeset.parent) if changeset.parent else None
+    tree = tree_of(server, changeset.parent) if changeset.parent else None
     for path, file in changeset.changes.items():
-        old = file_at(before, path) if before else None
+        old = file_at(tree, path) if tree else None
         if old == file:
             continue
-        data = [server.content(one.content) if one else None for one in (old, file)]
-        lines = list(unified(path, *data)) if out.as_json else []
-        document = {"path": path, "change": change_word(old, file), "diff": lines}
-        out.tell(document, []) if out.as_json else tell_diff(path, data[0], data[1], out)
+        before, after = (side_of(server, one) for one in (old, file))
+        tell_diff(path, change_word(old, file), (before, after), out)
+
+
+def side_of(server: Server, file: File | None) -> Side | None:
+    """A file as one side of a diff."""
+    return Side(file.size, partial(server.content, file.content)) if file else None

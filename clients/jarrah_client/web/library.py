@@ -8,7 +8,7 @@ from contextlib import contextmanager
 from dataclasses import dataclass, field
 from typing import Any
 
-from ..changesets import Changeset, File
+from ..changesets import MOST_CONTENT_BYTES, Changeset, File
 from ..log_cache import CachedLog
 from ..names import resolve
 from ..output import changeset_document, file_document
@@ -169,7 +169,8 @@ class Visit:
         with about(path):
             file = self.tree(id).file(path)
             past = history_of(self.server, id, path, fold=self.library.fold)
-        text = text_of(self.server.content(file.content))
+        is_large = file.size > MOST_CONTENT_BYTES
+        text = None if is_large else text_of(self.server.content(file.content))
         history = [brief(self.changeset(one)) for one in past[:HISTORY_LENGTH]]
         document = {"id": id, "path": path, "text": text, **file_document(file)}
         return document | {"history": history, "older": len(past) - len(history)}

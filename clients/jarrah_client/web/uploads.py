@@ -7,7 +7,8 @@ import binascii
 import json
 from typing import Any
 
-from ..changesets import MOST_CONTENT_BYTES, Changeset, File, Kind, digest
+from ..changesets import MOST_SIZE_BYTES, Changeset, File, Kind
+from ..contents import Source, in_memory, store_all
 from ..drafts import deleted, now
 from ..paths import is_text, path_key
 from ..refusals import Refused
@@ -65,20 +66,19 @@ def upload(visit: Visit, body: bytes) -> dict[str, Any]:
     return answer | {"landed": put_on(visit, land, changeset.id)} if land else answer
 
 
-def store(visit: Visit, changeset: Changeset, contents: dict[str, bytes]) -> None:
+def store(visit: Visit, changeset: Changeset, contents: dict[str, Source]) -> None:
     """Uploads contents and a changeset, once it has a spelling."""
     _ = changeset.encoded
-    for id, data in contents.items():
-        visit.server.put_content(id, data)
+    store_all(visit.server, contents.values(), quietly=True)
     visit.server.put_changeset(changeset)
 
 
 def read_changes(
     visit: Visit, rows: list[Any], parent: str | None
-) -> tuple[dict[str, File | None], dict[str, bytes]]:
+) -> tuple[dict[str, File | None], dict[str, Source]]:
     """The changes of an upload by rising paths, and the contents that they set."""
     changes: dict[str, File | None] = {}
-    contents: dict[str, bytes] = {}
+    contents: dict[str, Source] = {}
     for number, row in enumerate(rows):
         where = f"change {number}"
         members = Members(row, where, {"path", "change", "kind", "base64", "text"})
@@ -90,9 +90,9 @@ def read_changes(
             raise BadQuestion(f"{where} is neither a set nor a delete")
         changes[path] = None
         if word == "set":
-            data = bytes_of(members)
-            changes[path] = File(digest(data), len(data), kind_of(members))
-            contents[changes[path].content] = data
+            source = in_memory(path, bytes_of(members))
+            changes[path] = File(source.id, source.size, kind_of(members))
+            contents[source.id] = source
     gone = [path for path, file in changes.items() if file is None]
     deleted(visit.server, parent, gone, False)
     return {path: changes[path] for path in sorted(changes, key=path_key)}, contents
@@ -101,13 +101,14 @@ def read_changes(
 def bytes_of(members: Members) -> bytes:
     """The bytes that a change sets."""
     if "text" in members.document:
-        return members.take("text", str).encode()
-    try:
-        data = base64.b64decode(members.take("base64", str), validate=True)
-    except (binascii.Error, ValueError):
-        raise BadQuestion(f"{members.where} has no base64 in its member 'base64'") from None
-    if len(data) > MOST_CONTENT_BYTES:
-        raise BadQuestion(f"{members.where} sets over {MOST_CONTENT_BYTES:,} bytes")
+        data = members.take("text", str).encode()
+    else:
+        try:
+            data = base64.b64decode(members.take("base64", str), validate=True)
+        except (binascii.Error, ValueError):
+            raise BadQuestion(f"{members.where} has no base64 in its member 'base64'") from None
+    if len(data) > MOST_SIZE_BYTES:
+        raise BadQuestion(f"{members.where} sets over {MOST_SIZE_BYTES:,} bytes")
     return data
 
 

@@ -132,7 +132,7 @@ async function file(id, path, query) {
   if (found.kind === "symlink") {
     card.append(make("p", { class: "note" }, "a link to ", make("span", { class: "mono" }, found.text || "bytes that are no text")));
   } else if (found.text === null) {
-    if (!card.firstChild) card.append(make("p", { class: "note" }, `These ${sized(found.size)} are no text.`));
+    if (!card.firstChild) card.append(make("p", { class: "note" }, `These ${sized(found.size)} are no text, or too many to be shown.`));
   } else if (!found.text) {
     card.append(make("p", { class: "note" }, "The file is empty."));
   } else {

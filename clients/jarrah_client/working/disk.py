@@ -7,20 +7,22 @@ from contextlib import suppress
 from pathlib import Path
 
 from ..changesets import File, Kind
+from ..contents import Data, bytes_of, put_into
 from ..server import Trouble
 from .state import FOLDER, Stamp
 
 
-def put(top: Path, path: str, file: File, data: bytes) -> Stamp:
+def put(top: Path, path: str, file: File, data: Data) -> Stamp:
     """Puts a file at a path, in place of one that is there, and gives its stamp."""
     place, coming = top / path, top / FOLDER / "coming"
     try:
         coming.unlink(missing_ok=True)
         need_folders(top, path)
         if file.kind is Kind.SYMLINK:
-            os.symlink(data, os.fsencode(coming))
+            os.symlink(bytes_of(data), os.fsencode(coming))
         else:
-            coming.write_bytes(data)
+            with coming.open("wb") as out:
+                put_into(out, data)
             if file.kind is Kind.EXECUTABLE:
                 coming.chmod(coming.stat().st_mode | 0o111)
         if place.is_dir() and not place.is_symlink():

@@ -48,6 +48,8 @@ def merge_bytes(
         return Merge(File(ours.content, ours.size, kind))
     if ours.content == old:
         return Merge(File(theirs.content, theirs.size, kind))
+    if max(one.size for one in (before, ours, theirs) if one) > MOST_CONTENT_BYTES:
+        return Merge(ours, conflict=f"changed {HERE} and {THERE}, and too large to be merged")
     base = read(before) if before and before.kind is not Kind.SYMLINK else b""
     data, clean = merged(base, read(ours), read(theirs), (HERE, THERE))
     if len(data) > MOST_CONTENT_BYTES:

@@ -6,6 +6,7 @@ from dataclasses import dataclass, field
 
 from ..changesets import File
 from ..checkout import with_contents
+from ..contents import Data, Source, fetched
 from ..paths import own_name
 from ..pool import Pool
 from ..progress import Progress
@@ -14,7 +15,7 @@ from ..tree_diff import Difference, differences
 from ..trees import tree_of
 from . import disk
 from .merging import Merge, merge_file
-from .scan import Scan, read_file, scan
+from .scan import Scan, look_into, scan
 from .state import NEVER, Kept, WorkingCopy
 
 
@@ -63,25 +64,35 @@ def join(
 ) -> None:
     """Merges a file that is changed in the folder and in the tree that comes."""
     path, before, after = coming
-    ours, data = read_file(copy.top, path)
+    keep(copy, path, after)
     if path in found.faults or path in copy.state.conflicts:
-        merge = Merge(ours, conflict=found.faults.get(path, "it was a conflict before"))
-    else:
-        contents = {ours.content: data} if ours else {}
+        moved.conflicts[path] = found.faults.get(path, "it was a conflict before")
+        return
+    ours, source = look_into(copy.top, path)
 
-        def read(file: File) -> bytes:
-            return contents.get(file.content) or server.content(file.content)
+    def read(file: File) -> bytes:
+        if source and source.id == file.content:
+            return source.read()
+        return server.content(file.content)
 
-        merge = merge_file(read, before, ours, after)
-        if merge.file != ours and merge.file:
-            bytes_of = read(merge.file) if merge.data is None else merge.data
-            disk.put(copy.top, path, merge.file, bytes_of)
-            moved.merged.append(path)
-        elif merge.file != ours:
-            disk.remove(copy.top, path)
+    merge = merge_file(read, before, ours, after)
+    if merge.file != ours and merge.file:
+        disk.put(copy.top, path, merge.file, data_of(server, source, merge))
+        moved.merged.append(path)
+    elif merge.file != ours:
+        disk.remove(copy.top, path)
     if merge.conflict:
         moved.conflicts[path] = merge.conflict
-    keep(copy, path, after)
+
+
+def data_of(server: Server, ours: Source | None, merge: Merge) -> Data:
+    """The bytes of a merged file: new ones, those that were there, or the server's."""
+    assert merge.file
+    if merge.data is not None:
+        return merge.data
+    if ours and ours.id == merge.file.content:
+        return ours.read()
+    return fetched(server, merge.file)
 
 
 def carry_out(

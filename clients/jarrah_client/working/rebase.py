@@ -5,6 +5,7 @@ from __future__ import annotations
 from dataclasses import dataclass, field, replace
 
 from ..changesets import Changeset, File
+from ..contents import fetched, in_memory
 from ..paths import is_above, path_key
 from ..reads import file_at
 from ..refusals import Refused
@@ -15,7 +16,7 @@ from ..trees import Tree, tree_of
 from . import disk
 from .merging import merge_file
 from .moves import move
-from .scan import read_file, scan
+from .scan import look_into, scan
 from .stack import need_bookmark, need_no_conflict, need_settled, take, upload
 from .state import Rebase, WorkingCopy
 
@@ -81,7 +82,7 @@ def go_on(copy: WorkingCopy, server: Server, done: Rebased, left: list[str]) -> 
 
 def store(server: Server, changeset: Changeset, onto: Onto) -> str:
     """Uploads a draft on its new parent."""
-    upload(server, changeset, onto.contents)
+    upload(server, changeset, {id: in_memory(id, data) for id, data in onto.contents.items()})
     return changeset.id
 
 
@@ -93,8 +94,8 @@ def stop(copy: WorkingCopy, server: Server, done: Rebased, onto: Onto, parent: s
             disk.remove(copy.top, path)
     for path, file in onto.changes.items():
         if file and not disk.blocked_by(copy.top, path):
-            data = onto.contents.get(file.content) or server.content(file.content)
-            disk.put(copy.top, path, file, data)
+            data = onto.contents.get(file.content)
+            disk.put(copy.top, path, file, fetched(server, file) if data is None else data)
     copy.state.root, copy.state.drafts = done.head, list(done.drafts)
     copy.state.conflicts = sorted(onto.conflicts, key=path_key)
 
@@ -142,7 +143,8 @@ def proceed(copy: WorkingCopy, server: Server) -> Rebased:
     """Makes a draft of the folder in place of the one that stopped, and goes on."""
     rebase = need_rebase(copy)
     for path in copy.state.conflicts:
-        if has_marks(read_file(copy.top, path)[1]):
+        _, source = look_into(copy.top, path)
+        if source and not source.is_large and has_marks(source.read()):
             raise Trouble(f"{path} has the marks of its conflict still")
     need_no_conflict(copy)
     found = take(copy, None)
@@ -185,7 +187,7 @@ def restore(copy: WorkingCopy, server: Server, paths: list[str]) -> None:
     for path in paths:
         kept = copy.state.files.get(path)
         if kept:
-            stamp = disk.put(copy.top, path, kept.file, server.content(kept.file.content))
+            stamp = disk.put(copy.top, path, kept.file, fetched(server, kept.file))
             copy.state.files[path] = replace(kept, stamp=stamp)
 
 

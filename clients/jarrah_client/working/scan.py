@@ -10,7 +10,8 @@ from dataclasses import dataclass, field
 from fnmatch import fnmatchcase
 from pathlib import Path
 
-from ..changesets import MOST_CONTENT_BYTES, File, Kind, digest
+from ..changesets import MOST_SIZE_BYTES, File, Kind
+from ..contents import Source, in_file, in_memory
 from ..paths import OWN_NAMES, is_above, path_fault, path_key
 from ..server import Trouble
 from .state import NEVER, Kept, Stamp, WorkingCopy
@@ -66,12 +67,12 @@ def look_at(copy: WorkingCopy, path: str, status: os.stat_result, found: Scan) -
     why = path_fault(os.fsencode(path))
     if why is None and kind is None:
         why = "it is no file and no link"
-    if why is None and status.st_size > MOST_CONTENT_BYTES:
-        why = f"it has {status.st_size:,} bytes, over {MOST_CONTENT_BYTES:,}"
+    if why is None and status.st_size > MOST_SIZE_BYTES:
+        why = f"it has {status.st_size:,} bytes, over {MOST_SIZE_BYTES:,}"
     if why:
         found.faults[path] = why
         return
-    file, _ = read_file(copy.top, path)
+    file, _ = look_into(copy.top, path)
     if known and file == known.file:
         files[path] = Kept(file, stamp)
         found.has_new_stamps = True
@@ -140,20 +141,22 @@ def kind_of(status: os.stat_result) -> Kind | None:
     return Kind.EXECUTABLE if status.st_mode & stat.S_IXUSR else Kind.REGULAR
 
 
-def read_file(top: Path, path: str) -> tuple[File | None, bytes]:
-    """A file as it is now, with its bytes; None where it is gone."""
+def look_into(top: Path, path: str) -> tuple[File | None, Source | None]:
+    """A file as it is now, and the source of its bytes; None where it is gone."""
     place = top / path
     try:
-        status = place.lstat()
-        kind = kind_of(status)
+        kind = kind_of(place.lstat())
         if kind is None:
-            return None, b""
-        data = os.fsencode(os.readlink(place)) if kind is Kind.SYMLINK else place.read_bytes()
+            return None, None
+        if kind is Kind.SYMLINK:
+            source = in_memory(path, os.fsencode(os.readlink(place)))
+        else:
+            source = in_file(path, place)
     except (FileNotFoundError, NotADirectoryError):
-        return None, b""
+        return None, None
     except OSError as fault:
         raise Trouble(f"{place}: {fault.strerror}") from None
-    return File(digest(data), len(data), kind), data
+    return File(source.id, source.size, kind), source
 
 
 def stamp_of(top: Path, path: str) -> Stamp:

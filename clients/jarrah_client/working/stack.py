@@ -6,14 +6,13 @@ from collections.abc import Iterable
 from dataclasses import dataclass, field
 
 from ..changesets import Changeset, File
-from ..fields import digest
+from ..contents import Source, store_all
 from ..paths import path_key
-from ..progress import Progress
 from ..refusals import Refused, about
 from ..server import Landed, Server, Trouble
 from ..trees import Tree, tree_of
 from .moves import Moved, move
-from .scan import Scan, is_in, read_file, scan, stamp_of
+from .scan import Scan, is_in, look_into, scan, stamp_of
 from .state import Kept, WorkingCopy
 
 
@@ -29,10 +28,10 @@ class Words:
 
 @dataclass
 class Taken:
-    """Changes of a folder, and the bytes that they set."""
+    """Changes of a folder, and the contents that they set."""
 
     changes: dict[str, File | None] = field(default_factory=dict)
-    contents: dict[str, bytes] = field(default_factory=dict)
+    contents: dict[str, Source] = field(default_factory=dict)
 
 
 def need_settled(copy: WorkingCopy, under: list[str] | None = None) -> None:
@@ -64,21 +63,17 @@ def taken(copy: WorkingCopy, found: Scan) -> Taken:
     """The changes that a scan found, with the bytes as they are now."""
     result = Taken()
     for path in found.changes:
-        file, data = read_file(copy.top, path)
+        file, source = look_into(copy.top, path)
         result.changes[path] = file
-        if file:
-            result.contents[file.content] = data
+        if source:
+            result.contents[source.id] = source
     return result
 
 
-def upload(server: Server, changeset: Changeset, contents: dict[str, bytes]) -> None:
+def upload(server: Server, changeset: Changeset, contents: dict[str, Source]) -> None:
     """Uploads the contents of a changeset, and then the changeset."""
     _ = changeset.encoded
-    with Progress("contents", len(contents)) as progress:
-        for id, data in contents.items():
-            assert digest(data) == id
-            server.put_content(id, data)
-            progress.step()
+    store_all(server, contents.values())
     server.put_changeset(changeset)
 
 

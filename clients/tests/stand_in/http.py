@@ -258,8 +258,8 @@ class Service:
         return body("copies", {"copies": self.repository.copies(id)})
 
     def put_whole(self, data: bytes) -> bytes:
-        self.repository.put_whole(data)
-        raise AssertionError("contents aren't joined")
+        id = self.repository.put_whole(data)
+        return body("whole", {"id": id, "size": len(self.repository.content(id))})
 
     def set_policy(self, caller: str, text: bytes) -> bytes:
         return body("policy", {"number": self.repository.set_policy(caller, text)})

@@ -11,6 +11,8 @@ from .spelling import MOST, Record, Refusal, comparable, digest, key, read_chang
 MOST_RANGE = 10_000
 MOST_STACK = 100
 MOST_PAYLOAD = 16_777_216
+MOST_PARTS = 64
+ID_BYTES = 32
 PAGE = 100
 
 
@@ -22,6 +24,9 @@ class Repository:
         self.version = version
         self.size = 17
         self.contents: dict[str, bytes] = {}
+        """All contents, those among them that are wholes, and so made of others."""
+        self.wholes: dict[str, list[str]] = {}
+        """The parts of those that are."""
         self.changesets: dict[str, Record] = {}
         self.bookmarks: dict[str, str] = {}
         self.entries: list[dict] = []
@@ -100,11 +105,26 @@ class Repository:
             raise Refusal(404, "no-bookmark")
         return self.bookmarks[name]
 
-    def put_whole(self, data: bytes) -> None:
-        """Contents aren't joined yet, in a file of any version."""
-        if len(data) % 32 or not 32 <= len(data) <= 2_048:
+    def put_whole(self, data: bytes) -> str:
+        """Joins contents, whose ids stand one behind another."""
+        if len(data) % ID_BYTES or not 1 <= len(data) // ID_BYTES <= MOST_PARTS:
             raise Refusal(400, "bad-parts", length=len(data))
-        raise Refusal(409, "old-format")
+        if self.version == 1:
+            raise Refusal(409, "old-format")
+        parts = [data[at : at + ID_BYTES].hex() for at in range(0, len(data), ID_BYTES)]
+        for part in parts:
+            if part not in self.contents:
+                raise Refusal(422, "no-piece", id=part)
+        for part in parts:
+            if part in self.wholes:
+                raise Refusal(422, "not-a-piece", id=part)
+        joined = b"".join(self.contents[part] for part in parts)
+        id = digest(joined)
+        if id not in self.contents:
+            entry = {"kind": "whole", "id": id, "size": len(joined), "parts": parts}
+            self.append(1 + ID_BYTES + 8 + 2 + len(data), entry)
+            self.contents[id], self.wholes[id] = joined, parts
+        return id
 
     def set_policy(self, caller: str, text: bytes) -> int:
         if self.version == 1:
