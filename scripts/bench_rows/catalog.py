@@ -2,7 +2,22 @@
 
 from __future__ import annotations
 
-from . import answers, calls, landings, memory, names, opening, paths, policies, ranges, seals, upload
+from . import (
+    answers,
+    calls,
+    following,
+    landings,
+    large,
+    memory,
+    migrating,
+    names,
+    opening,
+    paths,
+    policies,
+    ranges,
+    seals,
+    upload,
+)
 from .row import Row
 
 LISTED = (
@@ -16,6 +31,9 @@ LISTED = (
     Row("pathlog", "a log of a path over 10,000 commits, beside history", paths.logs),
     Row("opening", "opening 100 MiB and 1 GiB, beside openssl's SHA-256", opening.opening),
     Row("contents", "upload of 1 MiB, new and known, beside hashing it", upload.contents),
+    Row("large", "64 MiB in pieces, joined and read, beside hashing it", large.contents),
+    Row("migrate", "migrate of 1 GiB, beside one read and one write of it", migrating.migration),
+    Row("follow", "following a server of 100,000 entries, beside opening them", following.follows),
     Row("changesets", "uploads of changesets, and landings, beside contents", upload.changesets),
     Row("reads", "small reads, 16 at once, beside hello-world servers", answers.small),
     Row("calls", "calls of the system a small read, beside those it needs", calls.calls),

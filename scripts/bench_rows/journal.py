@@ -19,6 +19,8 @@ class Journal:
     def __init__(self, file: Path):
         self.file = file
         self.out = file.open("wb")
+        self.count = 0
+        """How many entries it holds."""
         self.out.write(MARK + CAPACITY.to_bytes(8, "big"))
         self.changeset(ROOT)
 
@@ -31,6 +33,7 @@ class Journal:
 
     def record(self, payload: bytes) -> None:
         self.out.write(b"\x01" + len(payload).to_bytes(4, "big") + payload)
+        self.count += 1
 
     def content(self, data: bytes) -> File:
         """A stored content, as a file of a tree."""
@@ -44,6 +47,11 @@ class Journal:
     def bookmark(self, name: str, to: str) -> None:
         """A bookmark that wasn't there."""
         self.record(b"\x4d" + named(name) + b"\x00\x01" + bytes.fromhex(to))
+
+    def move(self, name: str, old: str, new: str) -> None:
+        """A bookmark that was at one changeset and is at another now."""
+        ids = b"".join(b"\x01" + bytes.fromhex(id) for id in (old, new))
+        self.record(b"\x4d" + named(name) + ids)
 
     def policy(self, caller: str, text: bytes) -> None:
         """A policy, after which a bookmark's move and a landing would tell their callers."""

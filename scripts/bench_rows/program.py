@@ -51,6 +51,15 @@ class Program:
         """What it costs to open a file and count what it holds."""
         return cost_of([self.path, "fsck", file])
 
+    def migrate(self, old: Path, new: Path) -> Cost:
+        """What it costs to make a file of version 2 of another."""
+        return cost_of([self.path, "migrate", old, new])
+
+    def follow(self, file: Path, address: tuple[str, int], entries: int) -> Cost:
+        """What it costs to bring a file to the entries of a server, which are so many."""
+        host, port = address
+        return cost_of([self.path, "follow", file, f"{host}:{port}"], f"followed {entries}\n")
+
     @contextmanager
     def serve(
         self, file: Path, lanes: int = 1, connections: int = MANY, before: tuple = ()
@@ -72,13 +81,13 @@ class Program:
             served.wait()
 
 
-def cost_of(words: list) -> Cost:
-    """What a command costs, from its start to its end."""
+def cost_of(words: list, wanted: str | None = None) -> Cost:
+    """What a command costs, from its start to its end. It has to say what is wanted."""
     begun = time.monotonic()
     ran = subprocess.Popen(words, stdout=subprocess.PIPE, text=True, env=ENVIRONMENT)
     said = ran.stdout.read()
     _, status, used = os.wait4(ran.pid, 0)
     ran.returncode = os.waitstatus_to_exitcode(status)
-    if ran.returncode:
+    if ran.returncode or wanted not in (None, said):
         raise SystemExit(f"scripts/bench: {words[0]} said {said!r}")
     return Cost(1, time.monotonic() - begun, used.ru_utime + used.ru_stime)
