@@ -98,6 +98,11 @@ class Changeset:
         """The first parent."""
         return self.parents[0] if self.parents else None
 
+    @property
+    def is_merge(self) -> bool:
+        """Whether it has two parents."""
+        return len(self.parents) == 2
+
     def changing(self, changes: dict[str, File | None], **fields: Any) -> Changeset:
         """The same with other changes, and what is copied where a path is set still."""
         copies = {path: source for path, source in self.copies.items() if changes.get(path)}

@@ -19,9 +19,11 @@ from .marks import EXPORTED, Marks
 from .paths import own_name
 from .pool import Pool
 from .progress import Progress
-from .repository import chain
+from .repository import parents_first, reached
 from .server import Server, Trouble
-from .trees import FoldedTree, tree_of
+from .folded import Fold, FoldedTree, differing
+from .tree_diff import differences
+from .trees import tree_of
 
 QUIET = ["--quiet", "--date-format=raw-permissive", "--done"]
 
@@ -52,25 +54,36 @@ class Target:
     marks: Path | None
 
 
-class Export:
-    """Writes changesets, the oldest first, with the contents that no earlier one had."""
+@dataclass(frozen=True)
+class Step:
+    """A changeset, the files that it takes away from its first parent, and those that it puts."""
 
-    def __init__(self, pool: Pool, stream: Stream, report: Report, tree: FoldedTree):
+    changeset: Changeset
+    gone: list[str]
+    put: dict[str, File]
+
+
+class Export:
+    """Writes changesets, parents first, with the contents that no earlier one had."""
+
+    def __init__(self, pool: Pool, stream: Stream, report: Report, fold: Fold):
         self.pool = pool
         self.stream = stream
         self.report = report
-        self.tree = tree
-        """The tree before the next changeset: git would take a delete of a directory."""
+        self.fold = fold
+        """The trees so far: git would take a delete of a directory, and has one parent's files."""
 
     def write(self, line: list[Changeset]) -> None:
-        """Writes the changesets of a line, contents ahead on their way."""
-        coming = with_contents(self.pool, contents_of(line))
+        """Writes changesets, contents ahead on their way."""
+        steps = [self.step(changeset) for changeset in line]
+        coming = with_contents(self.pool, contents_of(steps))
         with Progress("changesets", len(line)) as progress:
-            for changeset in line:
-                for file in files_of(changeset):
+            for step in steps:
+                for file in step.put.values():
                     while file.content not in self.stream.blobs:
                         self.take_content(*next(coming))
-                self.one(changeset)
+                if self.stream.commit(step.changeset, step.gone, step.put):
+                    self.report.altered.append(step.changeset.id)
                 self.report.changesets += 1
                 progress.step()
 
@@ -80,8 +93,9 @@ class Export:
         self.report.contents += 1
         self.report.content_bytes += file.size
 
-    def one(self, changeset: Changeset) -> None:
-        """Writes one changeset as a commit."""
+    def step(self, changeset: Changeset) -> Step:
+        """What a changeset takes away from its first parent's tree, and what it puts there."""
+        before = self.fold.before(changeset)
         gone: list[str] = []
         put: dict[str, File] = {}
         for path, file in changeset.changes.items():
@@ -90,23 +104,20 @@ class Export:
                 self.report.left_out.append({"changeset": changeset.id, "path": path, "why": why})
             elif file:
                 put[path] = file
-            elif isinstance(self.tree.at(path), File):
+            elif isinstance(before.at(path), File):
                 gone.append(path)
-        self.tree.apply(changeset)
-        if self.stream.commit(changeset, gone, put):
-            self.report.altered.append(changeset.id)
+        tree = self.fold.add(changeset)
+        if changeset.is_merge:
+            brought = differing(tree.root, before.root)
+            put |= {path: file for path, file in brought if not own_name(path)}
+        return Step(changeset, gone, put)
 
 
-def files_of(changeset: Changeset) -> list[File]:
-    """The files that a changeset sets, but for those that git can't have."""
-    return [file for path, file in changeset.changes.items() if file and not own_name(path)]
-
-
-def contents_of(line: list[Changeset]) -> Iterator[tuple[str, File]]:
-    """The contents of a line in order, each once, by their ids and the first file of each."""
+def contents_of(steps: list[Step]) -> Iterator[tuple[str, File]]:
+    """The contents of some steps in order, each once, by their ids and the first file of each."""
     seen: set[str] = set()
-    for changeset in line:
-        for file in files_of(changeset):
+    for step in steps:
+        for file in step.put.values():
             if file.content not in seen:
                 seen.add(file.content)
                 yield file.content, file
@@ -120,28 +131,33 @@ def export_git(server: Server, id: str, target: Target, connections: int) -> Rep
     place = target.marks or directory / "jarrah" / f"{name.replace('/', '-')}.exported"
     report = Report(name, id)
     with closing(Marks(place, EXPORTED)) as marks:
-        line, last = new_ones(server, id, marks)
-        report.known = len(marks.known) if last else 0
-        need_own(directory, target.branch, last)
+        line = new_ones(server, id, marks)
+        before = {marks.known[it] for it in known_below(line, id, marks)}
+        report.known = len(marks.known) if before else 0
+        need_own(directory, target.branch, before)
         if line:
-            feed(server, directory, target.branch, line, last, marks, report, connections)
+            feed(server, directory, target.branch, line, marks, report, connections)
         report.commit = marks.known.get(id)
     report.seconds = time.monotonic() - begun
     return report
 
 
-def new_ones(server: Server, id: str, marks: Marks) -> tuple[list[Changeset], str | None]:
-    """The changesets that weren't exported yet, the oldest first, and the commit before them."""
+def new_ones(server: Server, id: str, marks: Marks) -> list[Changeset]:
+    """The changesets that weren't exported yet, parents first."""
     line: list[Changeset] = []
     if id in marks.known:
-        return [], marks.known[id]
+        return []
     with Progress("changesets read", None) as progress:
-        for changeset in chain(server, id):
+        for changeset in reached(server, id, marks.known):
             line.append(changeset)
             progress.step()
-            if changeset.parent in marks.known:
-                return line[::-1], marks.known[changeset.parent]
-    return line[::-1], None
+    return parents_first(line)
+
+
+def known_below(line: list[Changeset], id: str, marks: Marks) -> dict[str, None]:
+    """The exported ones that new changesets stand on; where none is new, the one asked for."""
+    parents = (parent for changeset in line for parent in changeset.parents)
+    return dict.fromkeys(it for it in (parents if line else [id]) if it in marks.known)
 
 
 def feed(
@@ -149,17 +165,16 @@ def feed(
     directory: Path,
     branch: str,
     line: list[Changeset],
-    last: str | None,
     marks: Marks,
     report: Report,
     connections: int,
 ) -> None:
-    """Has git take a line, and keeps which commit each changeset became."""
+    """Has git take changesets, and keeps which commit each became."""
     with tempfile.TemporaryDirectory(prefix="jarrah-export-") as folder:
         made, complaint = Path(folder) / "marks", Path(folder) / "complaint"
         words = ["fast-import", *QUIET, f"--export-marks={made}"]
         with complaint.open("w+b") as says, taking(directory, words, says) as out:
-            stream = Stream(out, branch, last, marks.known)
+            stream = Stream(out, branch, marks.known)
             write_line(server, stream, line, report, connections)
         oids = dict(one.split() for one in made.read_text().splitlines())
     for changeset in line:
@@ -169,14 +184,23 @@ def feed(
 def write_line(
     server: Server, stream: Stream, line: list[Changeset], report: Report, connections: int
 ) -> None:
-    """Writes a line to a stream, to its end."""
-    tree = FoldedTree()
-    if stream.last and line[0].parent:
-        for path, file in tree_of(server, line[0].parent).files():
-            tree.set(path.split("/"), file)
+    """Writes changesets to a stream, to its end."""
+    fold, ours = Fold(line), {changeset.id for changeset in line}
+    begin(server, fold, [it for changeset in line for it in changeset.parents if it not in ours])
     with Pool(server, connections) as pool:
-        Export(pool, stream, report, tree).write(line)
+        Export(pool, stream, report, fold).write(line)
     stream.end()
+
+
+def begin(server: Server, fold: Fold, ids: list[str]) -> None:
+    """Begins a fold with the trees of some changesets, each after the first by what differs."""
+    trees = {id: tree_of(server, id) for id in dict.fromkeys(ids)}
+    base = FoldedTree()
+    for first in list(trees.values())[:1]:
+        base.apply_all(dict(first.files()))
+        for id, tree in trees.items():
+            fold.trees[id] = base.copy()
+            fold.trees[id].apply_all({path: new for path, _, new in differences(first, tree)})
 
 
 @contextmanager
@@ -203,9 +227,9 @@ def export_stream(server: Server, id: str, branch: str, out: IO[bytes], connecti
     """Writes a changeset and its ancestors as the stream that `git fast-import` reads."""
     begun = time.monotonic()
     report = Report(branch.removeprefix("refs/heads/"), id)
-    line = list(chain(server, id))[::-1]
+    line = parents_first(reached(server, id))
     out.write(b"feature date-format=raw-permissive\nfeature done\n")
-    write_line(server, Stream(out, branch, None, {}), line, report, connections)
+    write_line(server, Stream(out, branch, {}), line, report, connections)
     report.seconds = time.monotonic() - begun
     return report
 
@@ -231,12 +255,12 @@ def run(words: list[str], *, fails: bool = False) -> str:
     return done.stdout.strip() if not done.returncode else ""
 
 
-def need_own(directory: Path, branch: str, last: str | None) -> None:
+def need_own(directory: Path, branch: str, before: set[str]) -> None:
     """Refuses a branch that an export didn't leave where it is, or that is checked out."""
     at = [f"--git-dir={directory}"]
     run(["git", *at, "check-ref-format", branch])
     found = run(["git", *at, "rev-parse", "--verify", "--quiet", branch], fails=True)
-    if found and found != last:
+    if found and found not in before:
         raise Trouble(f"{branch} is at {found}, where no export left it: name another --branch")
     is_bare = run(["git", *at, "rev-parse", "--is-bare-repository"]) == "true"
     head = run(["git", *at, "symbolic-ref", "--quiet", "HEAD"], fails=True)

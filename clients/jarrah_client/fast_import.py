@@ -18,11 +18,9 @@ MOST_OFFSET_MINUTES = 99 * 60 + 59
 class Stream:
     """Writes blobs and commits of one branch, each with a mark."""
 
-    def __init__(self, out: IO[bytes], branch: str, last: str | None, known: dict[str, str]):
+    def __init__(self, out: IO[bytes], branch: str, known: dict[str, str]):
         self.out = out
         self.branch = branch
-        self.last = last
-        """What the next commit stands on: a commit's oid, or a mark such as `:7`."""
         self.known = known
         """Commits by their changesets that the repository has already."""
         self.count = 0
@@ -51,28 +49,24 @@ class Stream:
         self.data(size, data)
 
     def commit(self, changeset: Changeset, gone: list[str], put: dict[str, File]) -> bool:
-        """A commit that deletes and sets paths; whether it lacks a word or a parent."""
+        """A commit that deletes and sets paths of its first parent's; whether it lacks a word."""
         person = person_of(changeset.author)
         date, altered = date_of(changeset.seconds, changeset.offset)
+        if self.commits and not changeset.parents:
+            self.line(f"reset {self.branch}")
         self.line(f"commit {self.branch}")
         self.commits[changeset.id] = self.mark()
         self.line(f"author {person} {date}")
         self.line(f"committer {person} {date}")
         message = changeset.message.encode()
         self.data(len(message), message)
-        if self.last:
-            self.line(f"from {self.last}")
-        for parent in changeset.parents[1:]:
-            commit = self.commits.get(parent) or self.known.get(parent)
-            altered = altered or commit is None
-            if commit:
-                self.line(f"merge {commit}")
+        for word, parent in zip(("from", "merge"), changeset.parents):
+            self.line(f"{word} {self.commits.get(parent) or self.known[parent]}")
         for path in gone:
             self.line(f"D {quoted(path)}")
         for path in sorted(put, key=path_key):
             file = put[path]
             self.line(f"M {MODES[file.kind]} {self.blobs[file.content]} {quoted(path)}")
-        self.last = self.commits[changeset.id]
         same = person in (changeset.author, f"{changeset.author} <>")
         return altered or not same or "\x00" in changeset.message
 

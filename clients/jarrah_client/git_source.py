@@ -1,4 +1,4 @@
-"""Reading the first-parent line of a git repository through git's own plumbing."""
+"""Reading the commits of a git repository through git's own plumbing."""
 
 from __future__ import annotations
 
@@ -12,6 +12,7 @@ from typing import IO
 
 from .changesets import MOST_AUTHOR_BYTES, Kind
 from .contents import PIECE_BYTES
+from .git_graph import GitGraph
 from .server import Trouble
 
 KINDS = {
@@ -32,7 +33,7 @@ RENAME, COPY = b"R", b"C"
 
 @dataclass(frozen=True)
 class GitSource:
-    """The file of the first parent that git takes another for a copy of."""
+    """The file of a parent that git takes another for a copy of."""
 
     path: bytes
     blob: str
@@ -52,7 +53,7 @@ class GitChange:
 
 @dataclass(frozen=True)
 class GitCommit:
-    """What a commit says, and the paths that differ from its first parent."""
+    """What a commit says, and the paths that differ from its parents, or from nothing."""
 
     oid: str
     author: str
@@ -61,7 +62,8 @@ class GitCommit:
     message: str
     is_altered: bool
     """Whether author or message aren't as git has them, since no changeset can hold those."""
-    changes: list[GitChange]
+    sides: list[list[GitChange]]
+    """The paths that differ from the first parent, and from the second where there is one."""
 
 
 class GitRepository:
@@ -96,29 +98,35 @@ class GitRepository:
             raise Trouble(first_line(done.stderr) or f"git {words[0]} failed")
         return done.stdout.decode(errors="surrogateescape")
 
-    def line(self, branch: str) -> list[str]:
-        """The commits of a branch by first parents, the oldest first."""
+    def graph(self, branch: str) -> GitGraph:
+        """The commits that a branch reaches."""
         commit = self.run("rev-parse", "--verify", "--end-of-options", f"{branch}^{{commit}}")
-        return self.run("rev-list", "--first-parent", "--reverse", commit.strip()).split()
+        words = ("--topo-order", "--reverse", "--parents")
+        rows = map(str.split, self.run("rev-list", *words, commit.strip()).splitlines())
+        return GitGraph(commit.strip(), {oid: tuple(parents) for oid, *parents in rows})
 
-    def commits(self, oids: list[str], before: str | None) -> Iterator[GitCommit]:
-        """The commits with these oids, each the first parent of the next, after `before`."""
-        parents = [before, *oids]
-        asked = "".join(f"{oid} {old or ''}".rstrip() + "\n" for old, oid in zip(parents, oids))
+    def commits(self, graph: GitGraph, oids: list[str]) -> Iterator[GitCommit]:
+        """The commits with these oids, compared with their first two parents."""
         with tempfile.TemporaryFile() as feed, tempfile.TemporaryFile() as complaint:
-            feed.write(asked.encode())
+            for oid in oids:
+                lines = [f"{oid} {parent}\n" for parent in graph.parents[oid][:2]]
+                feed.write("".join(lines or [f"{oid}\n"]).encode())
             feed.seek(0)
             differ = subprocess.Popen(
                 self.command(*self.diff), stdin=feed, stdout=subprocess.PIPE, stderr=complaint
             )
             try:
-                for oid, changes in changes_by_commit(pieces(differ, complaint)):
-                    yield self.commit(oid, changes)
+                found = changes_by_commit(pieces(differ, complaint))
+                for oid, changes in found:
+                    sides = [changes]
+                    if len(graph.parents[oid]) > 1:
+                        sides.append(next(found)[1])
+                    yield self.commit(oid, sides)
             finally:
                 differ.kill()
                 differ.communicate()
 
-    def commit(self, oid: str, changes: list[GitChange]) -> GitCommit:
+    def commit(self, oid: str, sides: list[list[GitChange]]) -> GitCommit:
         """A commit by its oid and the paths that differ."""
         head, _, message = self.read(oid).partition(b"\n\n")
         headers = dict(line.partition(b" ")[::2] for line in reversed(head.split(b"\n")))
@@ -128,7 +136,7 @@ class GitRepository:
         words, words_altered = text(message, encoding)
         fitting = fit_author(name)
         altered = name_altered or words_altered or fitting != name
-        return GitCommit(oid, fitting, seconds, offset, words, altered, changes)
+        return GitCommit(oid, fitting, seconds, offset, words, altered, sides)
 
     def read(self, oid: str) -> bytes:
         """An object's bytes."""

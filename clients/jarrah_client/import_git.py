@@ -1,4 +1,4 @@
-"""Importing the first-parent line of a git branch."""
+"""Importing the history of a git branch."""
 
 from __future__ import annotations
 
@@ -23,6 +23,16 @@ from .changesets import (
     digest,
 )
 from .contents import PIECE_BYTES, join
+from .git_graph import GitGraph
+from .git_merges import (
+    CHANGE_OVERHEAD,
+    MOST_CHANGE_BYTES,
+    SOURCE_OVERHEAD,
+    SidedChange,
+    fit_one,
+    of_one_parent,
+    settled,
+)
 from .git_source import GitChange, GitCommit, GitRepository, GitSource
 from .marks import Marks
 from .paths import own_name, path_fault, path_key
@@ -35,10 +45,17 @@ from .trees import tree_of
 AHEAD_COMMITS = 64
 AHEAD_BYTES = 64 << 20
 MOST_MESSAGE_BYTES = 262_144
-MOST_CHANGE_BYTES = 700_000
-"""What changes of one changeset may take, so that its message has room beside them."""
-CHANGE_OVERHEAD = 44
-SOURCE_OVERHEAD = 4
+
+
+@dataclass(frozen=True)
+class Wanted:
+    """What is imported: a branch of a repository, and how."""
+
+    repository: Path
+    branch: str
+    with_copies: bool = True
+    first_parents: bool = False
+    """Whether each merge becomes its difference from its first parent."""
 
 
 @dataclass
@@ -53,6 +70,14 @@ class Report:
     content_bytes: int = 0
     copies: int = 0
     """Files that are told as copies of others, or as others of new names."""
+    merges: int = 0
+    """Merges that have two parents still."""
+    octopuses: int = 0
+    """Those among them that had more in git."""
+    flattened: int = 0
+    """Merges that became their differences from their first parents."""
+    takes_merges: bool = True
+    """Whether the server stores changesets of two parents, as far as it was asked."""
     known: int = 0
     """Commits that an earlier run had imported."""
     seconds: float = 0.0
@@ -104,8 +129,13 @@ class Room:
 class Reader:
     """Turns commits into changesets, and has their contents uploaded ahead of them."""
 
-    def __init__(self, source: GitRepository, pool: Pool, report: Report, progress: Progress):
+    def __init__(
+        self, source: GitRepository, going: Plan, pool: Pool, report: Report, progress: Progress
+    ):
         self.source = source
+        self.going = going
+        self.made = dict(going.known)
+        """The changesets of the commits so far."""
         self.pool = pool
         self.report = report
         self.progress = progress
@@ -115,22 +145,53 @@ class Reader:
         self.sent: set[str] = set()
         """The contents and pieces that this run has uploaded."""
 
-    def read(self, oids: list[str], before: str | None, parent: str | None) -> None:
+    def read(self) -> None:
         """Puts a step for each commit, then None, or what went wrong."""
         try:
-            for commit in self.source.commits(oids, before):
-                step = self.step(commit, parent)
-                parent = step.changesets[-1].id
+            for commit in self.source.commits(self.going.graph, self.going.oids):
+                step = self.step(commit)
+                self.made[commit.oid] = step.changesets[-1].id
                 self.steps.put(step)
             self.steps.put(None)
         except Exception as fault:
             self.steps.put(fault)
 
-    def step(self, commit: GitCommit, parent: str | None) -> Step:
-        """The changesets of a commit onto a parent."""
+    def parents_of(self, oid: str) -> tuple[str, ...]:
+        """The changesets that a commit's stands on: its first two parents', each once."""
+        gits = self.going.graph.parents[oid]
+        if not gits:
+            return self.going.base if oid == self.going.root else ()
+        return tuple(dict.fromkeys(self.made[parent] for parent in gits[:2]))
+
+    def changes_of(
+        self, commit: GitCommit, parents: tuple[str, ...]
+    ) -> tuple[tuple[str, ...], list[SidedChange]]:
+        """The parents and changes of a commit; one of a merge without room for both is dropped."""
+        if len(parents) == 2:
+            changes = settled(*commit.sides)
+            if fit_one(changes):
+                self.count_merge(commit)
+                return parents, changes
+            self.report.flattened += 1
+            why = f"its {len(changes):,} changes don't fit one changeset with two parents"
+            self.tell(commit, f"made its difference from its first parent: {why}")
+        return parents[:1], of_one_parent(commit.sides[0])
+
+    def count_merge(self, commit: GitCommit) -> None:
+        """Counts a merge, and tells where git has more parents of it."""
+        self.report.merges += 1
+        count = len(self.going.graph.parents[commit.oid])
+        if count > 2:
+            self.report.octopuses += 1
+            kept = f"the first two of its {count} parents are kept"
+            self.tell(commit, f"{kept}; what the others bring is set")
+
+    def step(self, commit: GitCommit) -> Step:
+        """The changesets of a commit onto those of its parents."""
         taken = Taken()
-        for change in commit.changes:
-            self.take(commit, change, taken)
+        parents, changes = self.changes_of(commit, self.parents_of(commit.oid))
+        for one in changes:
+            self.take(commit, one, taken)
         message = commit.message
         if commit.is_altered:
             self.alter(commit, "its author or message isn't text that a changeset can hold")
@@ -140,10 +201,11 @@ class Reader:
         whole = Changeset(
             (), commit.author, commit.seconds, commit.offset, message, taken.changes, taken.copies
         )
-        return Step(commit, stacked(whole, parent), taken.uploads, taken.wholes)
+        return Step(commit, stacked(whole, parents), taken.uploads, taken.wholes)
 
-    def take(self, commit: GitCommit, change: GitChange, taken: Taken) -> None:
+    def take(self, commit: GitCommit, sided: SidedChange, taken: Taken) -> None:
         """Adds one change of a commit, or names why it is left out."""
+        change = sided.change
         fault = path_fault(change.path)
         if fault:
             self.leave_out(commit, change, f"the path is refused: {fault}")
@@ -156,11 +218,11 @@ class Reader:
         if file or change.was_file:
             taken.changes[path] = file
         if file and change.source and self.is_imported(change.source):
-            taken.copies[path] = CopySource(0, change.source.path.decode())
+            taken.copies[path] = CopySource(sided.side, change.source.path.decode())
             self.report.copies += 1
 
     def is_imported(self, source: GitSource) -> bool:
-        """Whether a file of the first parent was imported too."""
+        """Whether a file of a parent was imported too."""
         if path_fault(source.path) or own_name(source.path.decode()):
             return False
         if source.blob in self.blobs:
@@ -237,6 +299,10 @@ class Reader:
         self.report.altered.append(commit.oid)
         self.progress.note(f"altered: commit {commit.oid[:12]}: {why}")
 
+    def tell(self, commit: GitCommit, what: str) -> None:
+        """Tells of a merge that isn't kept as git has it."""
+        self.progress.note(f"merge: commit {commit.oid[:12]}: {what}")
+
 
 def parts_of(whole: Changeset) -> list[dict[str, File | None]]:
     """Changes in as few parts as changesets can hold, by rising paths.
@@ -258,42 +324,60 @@ def parts_of(whole: Changeset) -> list[dict[str, File | None]]:
     return parts
 
 
-def stacked(whole: Changeset, parent: str | None) -> list[Changeset]:
+def stacked(whole: Changeset, parents: tuple[str, ...]) -> list[Changeset]:
     """One changeset for each part, each onto the one before; the last has the whole message."""
     changesets: list[Changeset] = []
     parts = parts_of(whole)
     for number, part in enumerate(parts, 1):
         title = whole.message.partition("\n")[0]
         message = whole.message if number == len(parts) else f"{title} ({number}/{len(parts)})"
-        parents = (parent,) if parent else ()
         changesets.append(whole.changing(part, parents=parents, message=message))
-        parent = changesets[-1].id
+        parents = (changesets[-1].id,)
     return changesets
 
 
 @dataclass(frozen=True)
 class Plan:
-    """Where an import goes on: the bookmark's head, the parent, and the commits to come."""
+    """Where an import goes on: the bookmark's head, what was imported, and the commits to come."""
 
+    graph: GitGraph
+    known: dict[str, str]
     head: str | None
-    parent: str | None
-    before: str | None
+    base: tuple[str, ...]
+    """What the root of the first-parent line stands on, if anything."""
     oids: list[str]
 
+    @cached_property
+    def root(self) -> str:
+        """The root of the first-parent line."""
+        return self.graph.line()[0]
 
-def plan(server: Server, bookmark: str, line: list[str], marks: Marks) -> Plan:
+
+def plan(server: Server, bookmark: str, graph: GitGraph, marks: Marks) -> Plan:
     """Finds where to go on, or says why the import would not fit."""
     head = server.head(bookmark)
-    count = marks.last_of(line)
-    if count:
-        parent = marks.known[line[count - 1]]
-        need_known(server, parent, marks)
-        if head is not None and head not in marks.known.values():
-            need_empty(server, bookmark, head)
-        return Plan(head, parent, line[count - 1], line[count:])
-    if head is not None:
+    last = next((oid for oid in reversed(graph.parents) if oid in marks.known), None)
+    if last:
+        need_known(server, marks.known[last], marks)
+    is_own = head is None or (last and head in marks.known.values())
+    if not is_own:
         need_empty(server, bookmark, head)
-    return Plan(head, head, None, line)
+    base = () if is_own else (head,)
+    return Plan(graph, marks.known, head, base, graph.to_come(marks.known))
+
+
+def taken_graph(
+    whole: GitGraph, first_parents: bool, pool: Pool, marks: Marks, report: Report
+) -> GitGraph:
+    """The commits to import: all that the branch reaches, or its first-parent line alone."""
+    to_come = whole.to_come(marks.known)
+    if not first_parents and any(len(whole.parents[oid]) > 1 for oid in to_come):
+        report.takes_merges = pool.ask(Server.takes_merges).result()
+    if report.takes_merges and not first_parents:
+        return whole
+    line = whole.of_first_parents()
+    report.flattened = sum(len(whole.parents[oid]) > 1 for oid in line.to_come(marks.known))
+    return line
 
 
 def need_known(server: Server, id: str, marks: Marks) -> None:
@@ -319,22 +403,18 @@ def need_empty(server: Server, bookmark: str, head: str) -> None:
 
 
 def import_git(
-    server: Server,
-    repository: Path,
-    branch: str,
-    bookmark: str,
-    marks_file: Path | None,
-    connections: int,
-    with_copies: bool,
+    server: Server, wanted: Wanted, bookmark: str, marks_file: Path | None, connections: int
 ) -> Report:
-    """Imports a branch's first-parent line, and moves the bookmark to its end."""
+    """Imports what a branch reaches, and moves the bookmark to its end."""
     begun = time.monotonic()
-    with GitRepository(repository, with_copies) as source:
-        line = source.line(branch)
+    with GitRepository(wanted.repository, wanted.with_copies) as source:
+        whole = source.graph(wanted.branch)
         place = marks_file or source.directory / "jarrah" / f"{bookmark}.marks"
         with closing(Marks(place)) as marks, Pool(server, connections) as pool:
-            going = pool.ask(lambda server: plan(server, bookmark, line, marks)).result()
-            report = Report(bookmark, going.parent, known=len(line) - len(going.oids))
+            report = Report(bookmark, marks.known.get(whole.tip))
+            graph = taken_graph(whole, wanted.first_parents, pool, marks, report)
+            report.known = sum(oid in marks.known for oid in graph.parents)
+            going = pool.ask(lambda server: plan(server, bookmark, graph, marks)).result()
             upload_all(source, pool, going, marks, report)
             if report.head != going.head:
                 pool.ask(
@@ -347,11 +427,10 @@ def import_git(
 def upload_all(
     source: GitRepository, pool: Pool, going: Plan, marks: Marks, report: Report
 ) -> None:
-    """Uploads the commits to come, each changeset after its contents and its parent."""
+    """Uploads the commits to come, each changeset after its contents and its parents."""
     with Progress("commits", len(going.oids)) as progress:
-        reader = Reader(source, pool, report, progress)
-        words = (going.oids, going.before, going.parent)
-        threading.Thread(target=reader.read, args=words, daemon=True).start()
+        reader = Reader(source, going, pool, report, progress)
+        threading.Thread(target=reader.read, daemon=True).start()
         while step := reader.steps.get():
             if isinstance(step, Exception):
                 raise step

@@ -42,13 +42,6 @@ class Marks:
     def close(self) -> None:
         self.file.close()
 
-    def last_of(self, line: list[str]) -> int:
-        """How many ids of a line, oldest first, are known."""
-        for count in range(len(line), 0, -1):
-            if line[count - 1] in self.known:
-                return count
-        return 0
-
 
 def read(file: TextIO, place: Path, header: str) -> tuple[dict[str, str], int]:
     """The marks of a file, and the length up to a last line that was cut off."""

@@ -46,9 +46,9 @@ class Fsnode:
 
 @dataclass(frozen=True)
 class Unode:
-    """The past of a file or a directory: who made it, and the node before."""
+    """The past of a file or a directory: who made it, and the nodes before."""
 
-    parent: str | None
+    parents: tuple[str, ...]
     linknode: str
     entries: dict[str, str] | None
     """A directory's nodes by name; None for a file."""
@@ -124,29 +124,29 @@ def decode_unode(data: bytes) -> Unode:
         return decode_file_unode(data)
     fields = Fields(data)
     fields.marks(UNODE_MARK, VERSION)
-    parent = decode_parent(fields)
+    parents = decode_parents(fields)
     linknode = fields.id()
     entries: dict[str, str] = {}
     for name in names(fields):
         fields.number_in(1, 0, 1)
         entries[name] = fields.id()
     fields.end()
-    return Unode(parent, linknode, entries)
+    return Unode(parents, linknode, entries)
 
 
 def decode_file_unode(data: bytes) -> Unode:
     """The unode of a file."""
     fields = Fields(data)
     fields.marks(FILE_UNODE_MARK, VERSION)
-    parent = decode_parent(fields)
+    parents = decode_parents(fields)
     fields.id()
     fields.number_in(1, 0, 2)
     fields.id()
     linknode = fields.id()
     fields.end()
-    return Unode(parent, linknode, None)
+    return Unode(parents, linknode, None)
 
 
-def decode_parent(fields: Fields) -> str | None:
-    """A unode's parent, or None."""
-    return fields.id() if fields.number_in(1, 0, 1) else None
+def decode_parents(fields: Fields) -> tuple[str, ...]:
+    """A unode's parents: none, one or two."""
+    return tuple(fields.id() for _ in range(fields.number_in(1, 0, 2)))

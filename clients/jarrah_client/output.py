@@ -155,6 +155,8 @@ def changeset_lines(
     """A changeset of a log for people, with the bookmarks that are at it and where it landed."""
     at = f"  ({', '.join(names)})" if names else ""
     yield f"changeset {changeset.id}{at}"
+    if changeset.is_merge:
+        yield f"parents   {' '.join(changeset.parents)}"
     yield f"author    {changeset.author}"
     yield f"date      {date(changeset.seconds, changeset.offset)}"
     if landing:

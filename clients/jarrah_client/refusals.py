@@ -45,6 +45,11 @@ WORDS = {
     "bad-encoding": "the bytes spell no changeset; the fault is at byte {place}",
     "self-conflict": "{long} lies under {short}, and one changeset can't set both",
     "merge": "the changeset has two parents, which this server doesn't take",
+    "unresolved": "the merge leaves a file of one parent against a file of the other at {path}:"
+    " a merge sets or deletes what its parents don't agree on",
+    "merge-in-stack": "the changeset {id} of the draft is a merge, and no merge can be landed",
+    "merge-in-range": "the bookmark has the merge {id} since the draft began;"
+    " put the draft onto the head (in a working copy: `jarrah rebase`)",
     "no-parent": "the server doesn't have the parent {id}",
     "missing-content": "the server doesn't have the content {id} that is set at {path}",
     "wrong-size": "the content set at {path} has {found} bytes, and the changeset says {wanted}",

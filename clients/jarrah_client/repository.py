@@ -2,8 +2,9 @@
 
 from __future__ import annotations
 
-from collections.abc import Iterator
+from collections.abc import Container, Iterable, Iterator
 from dataclasses import dataclass
+from heapq import heappop, heappush
 from typing import Any
 
 from .changesets import Changeset
@@ -76,6 +77,10 @@ class Log:
             else:
                 self.bookmarks[entry["name"]] = entry["to"]
 
+    def places(self) -> dict[str, int]:
+        """The place of each changeset among those that are known."""
+        return {id: place for place, id in enumerate(self.changesets)}
+
     def names(self) -> dict[str, list[str]]:
         """The names of the bookmarks at each changeset that has one."""
         found: dict[str, list[str]] = {}
@@ -107,8 +112,50 @@ def need_head(server: Server, bookmark: str) -> str:
     return head
 
 
+def reached(server: Server, id: str, but: Container[str] = ()) -> Iterator[Changeset]:
+    """A changeset and all that it reaches through parents, but through those of some ids; each
+    after one that stands on it."""
+    waiting, seen = [id], {id}
+    while waiting:
+        changeset = server.changeset(waiting.pop())
+        yield changeset
+        for parent in changeset.parents[::-1]:
+            if parent not in seen and parent not in but:
+                seen.add(parent)
+                waiting.append(parent)
+
+
+def parents_first(changesets: Iterable[Changeset]) -> list[Changeset]:
+    """The same in an order in which parents come before what stands on them."""
+    by_id = {changeset.id: changeset for changeset in changesets}
+    ordered: dict[str, Changeset] = {}
+    for start in by_id.values():
+        waiting = [start]
+        while waiting:
+            parents = waiting[-1].parents
+            missing = [by_id[it] for it in parents if it in by_id and it not in ordered]
+            if missing:
+                waiting.append(missing[0])
+            else:
+                one = waiting.pop()
+                ordered[one.id] = one
+    return list(ordered.values())
+
+
+def last_known_first(server: Server, id: str, places: dict[str, int]) -> Iterator[Changeset]:
+    """A changeset and all that it reaches through parents, by falling places."""
+    waiting, seen = [(-places[id], id)], {id}
+    while waiting:
+        changeset = server.changeset(heappop(waiting)[1])
+        yield changeset
+        for parent in changeset.parents:
+            if parent not in seen:
+                seen.add(parent)
+                heappush(waiting, (-places[parent], parent))
+
+
 def chain(server: Server, id: str) -> Iterator[Changeset]:
-    """A changeset and its ancestors, the newest first."""
+    """A changeset and its ancestors by first parents, the newest first."""
     following: str | None = id
     while following is not None:
         changeset = server.changeset(following)

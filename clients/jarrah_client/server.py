@@ -230,8 +230,19 @@ class Server:
                 raise
             return False
 
+    def takes_merges(self) -> bool:
+        """Whether the server stores changesets of two parents; it is asked with two of no one's."""
+        asked = Changeset((NO_ID, "1" * 64), "jarrah", 0, 0, "")
+        try:
+            self.put_changeset(asked)
+        except Refused as refusal:
+            if refusal.code not in ("merge", "no-parent"):
+                raise
+            return refusal.code == "no-parent"
+        return True
+
     def put_changeset(self, changeset: Changeset) -> None:
-        """Stores a changeset whose parent and contents are stored."""
+        """Stores a changeset whose parents and contents are stored."""
         self.store("changeset", changeset.id, changeset.encoded)
 
     def store(self, what: str, id: str, data: bytes) -> None:

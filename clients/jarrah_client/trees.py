@@ -1,4 +1,4 @@
-"""Trees of changesets: by the server's fsnodes, or folded from the chain."""
+"""Trees of changesets: by the server's fsnodes, or folded from changesets."""
 
 from __future__ import annotations
 
@@ -6,15 +6,22 @@ from collections.abc import Iterable, Iterator
 from typing import Protocol
 
 from .changesets import Changeset, File
+from .folded import (
+    Listing,
+    folded,
+    folded_history,
+    folded_path_log,
+    no_path,
+    not_a_file,
+    touches,
+)
+from .log_cache import CachedLog
 from .nodes import Fsnode
-from .paths import is_comparable, joined, path_key
+from .paths import joined
 from .progress import Progress
 from .refusals import Refused
-from .repository import chain
-from .server import Server, Trouble
-
-Listing = dict[str, "File | None"]
-"""What a directory has by rising names; None stands for a directory."""
+from .repository import parents_first, reached
+from .server import Server
 
 
 class Tree(Protocol):
@@ -86,122 +93,6 @@ class FsnodeTree:
         return other
 
 
-class FoldedTree:
-    """A tree that was folded from changesets, oldest first."""
-
-    source = "fold"
-
-    def __init__(self) -> None:
-        self.root: dict[str, dict | File] = {}
-        self.total = 0
-
-    def apply(self, changeset: Changeset) -> None:
-        """Applies a changeset: deletes before sets, so that a delete can't undo a set."""
-        for path, file in changeset.changes.items():
-            if file is None:
-                self.delete(path.split("/"))
-        for path, file in changeset.changes.items():
-            if file is not None:
-                self.set(path.split("/"), file)
-
-    def delete(self, elements: list[str]) -> None:
-        """Removes the file at a path where there is one, and directories left empty."""
-        line = [self.root]
-        for element in elements[:-1]:
-            below = line[-1].get(element)
-            if not isinstance(below, dict):
-                return
-            line.append(below)
-        if not isinstance(line[-1].get(elements[-1]), File):
-            return
-        self.total -= 1
-        for directory, element in zip(reversed(line), reversed(elements)):
-            del directory[element]
-            if directory:
-                return
-
-    def set(self, elements: list[str], file: File) -> None:
-        """Puts a file at a path, in place of what lies under it and of a file above it."""
-        directory = self.root
-        for element in elements[:-1]:
-            below = directory.get(element)
-            if not isinstance(below, dict):
-                self.total -= below is not None
-                below = directory[element] = {}
-            directory = below
-        old = directory.get(elements[-1])
-        self.total += 1 - files_in(old)
-        directory[elements[-1]] = file
-
-    def at(self, path: str) -> dict | File | None:
-        """The directory or file at a path."""
-        entry: dict | File | None = self.root
-        for element in path.split("/") if path else []:
-            entry = entry.get(element) if isinstance(entry, dict) else None
-        return entry
-
-    def list(self, path: str) -> Listing:
-        entry = self.at(path)
-        if entry is None:
-            raise no_path()
-        if isinstance(entry, File):
-            raise Refused(404, "not-a-dir", {})
-        rising = sorted(entry, key=str.encode)
-        return {n: entry[n] if isinstance(entry[n], File) else None for n in rising}
-
-    def file(self, path: str) -> File:
-        entry = self.at(path)
-        if entry is None:
-            raise no_path()
-        if not isinstance(entry, File):
-            raise not_a_file()
-        return entry
-
-    def files(self, directory: str = "") -> Iterator[tuple[str, File]]:
-        root = self.at(directory)
-        assert isinstance(root, dict)
-        return iter(sorted(walked(root, directory), key=lambda found: path_key(found[0])))
-
-    def count(self) -> int:
-        return self.total
-
-    def by(self, server: Server) -> Tree:
-        return self
-
-
-def files_in(entry: dict | File | None) -> int:
-    """How many files an entry of a folded tree stands for."""
-    if isinstance(entry, dict):
-        return sum(files_in(below) for below in entry.values())
-    return int(entry is not None)
-
-
-def walked(directory: dict[str, dict | File], above: str) -> Iterator[tuple[str, File]]:
-    """All files under a folded directory, in no order."""
-    for name, entry in directory.items():
-        path = joined(above, name)
-        if isinstance(entry, File):
-            yield path, entry
-        else:
-            yield from walked(entry, path)
-
-
-def no_path() -> Refused:
-    return Refused(404, "no-path", {})
-
-
-def not_a_file() -> Refused:
-    return Refused(404, "not-a-file", {})
-
-
-def folded(changesets: Iterable[Changeset]) -> FoldedTree:
-    """The tree of a chain, oldest first."""
-    tree = FoldedTree()
-    for changeset in changesets:
-        tree.apply(changeset)
-    return tree
-
-
 def tree_of(server: Server, id: str, *, fold: bool = False) -> Tree:
     """The tree of a changeset: by fsnodes where the server has that route, else folded."""
     if not fold:
@@ -210,7 +101,7 @@ def tree_of(server: Server, id: str, *, fold: bool = False) -> Tree:
         except Refused as refusal:
             if refusal.code != "no-route":
                 raise
-    return folded(whole_chain(server, id))
+    return folded(whole_past(server, id))
 
 
 def last_changes(server: Server, id: str, base: str, names: Iterable[str]) -> dict[str, str]:
@@ -226,7 +117,7 @@ def history_of(server: Server, id: str, path: str, *, fold: bool = False) -> lis
         except Refused as refusal:
             if refusal.code != "no-route":
                 raise
-    return folded_history(whole_chain(server, id), path)
+    return folded_history(whole_past(server, id), path)
 
 
 def path_log_of(server: Server, id: str, path: str, *, fold: bool = False) -> list[str]:
@@ -237,52 +128,27 @@ def path_log_of(server: Server, id: str, path: str, *, fold: bool = False) -> li
         except Refused as refusal:
             if refusal.code != "no-route":
                 raise
-    return folded_path_log(whole_chain(server, id), path)
-
-
-def folded_path_log(changesets: list[Changeset], path: str) -> list[str]:
-    """The same from a chain, oldest first."""
-    line: list[str] = []
-    is_there = False
-    for changeset in changesets:
-        is_set = bool(changeset.changes.get(path))
-        is_touched = path in changeset.changes or sets_comparable(changeset, path)
-        if is_set or (is_there and is_touched):
-            line.append(changeset.id)
-            is_there = is_set
-    if not line:
-        raise Trouble("there is nothing at this path, and never was")
-    return line[::-1]
+    return folded_path_log(whole_past(server, id), path)
 
 
 def fate(changeset: Changeset, path: str) -> str:
-    """What a changeset of a path's log did there: it set the file, or took it away."""
-    return "set" if changeset.changes.get(path) else "deleted"
+    """What a changeset of a path's log did there: it set the file, took it away, or has it from the
+    second of its parents."""
+    if changeset.changes.get(path):
+        return "set"
+    return "merged" if changeset.is_merge and not touches(changeset, path) else "deleted"
 
 
-def whole_chain(server: Server, id: str) -> list[Changeset]:
-    """A changeset and its ancestors, the oldest first."""
+def whole_past(server: Server, id: str) -> list[Changeset]:
+    """A changeset and all that it reaches through parents, as they came to be known."""
     found: list[Changeset] = []
     with Progress("changesets", None) as progress:
-        for changeset in chain(server, id):
+        for changeset in reached(server, id):
             found.append(changeset)
             progress.step()
-    return found[::-1]
-
-
-def folded_history(changesets: list[Changeset], path: str) -> list[str]:
-    """The same from a chain, oldest first."""
-    line: list[str] = []
-    for changeset in changesets:
-        if changeset.changes.get(path):
-            line.append(changeset.id)
-        elif path in changeset.changes or sets_comparable(changeset, path):
-            line.clear()
-    if not line:
-        folded(changesets).file(path)
-    return line[::-1]
-
-
-def sets_comparable(changeset: Changeset, path: str) -> bool:
-    """Whether a changeset sets a path above or under this one."""
-    return any(file and is_comparable(path, other) for other, file in changeset.changes.items())
+    if not any(changeset.is_merge for changeset in found):
+        return parents_first(found)
+    log = CachedLog(server)
+    log.read_on()
+    places = log.places()
+    return sorted(found, key=lambda changeset: places[changeset.id])

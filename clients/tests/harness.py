@@ -174,6 +174,16 @@ def has_wholes(url: str) -> bool:
         server.close()
 
 
+@functools.cache
+def has_merges(url: str) -> bool:
+    """Whether a server stores changesets of two parents."""
+    server = Server(url)
+    try:
+        return server.takes_merges()
+    finally:
+        server.close()
+
+
 def has_route(url: str, read: Callable[[Server, str], Any]) -> bool:
     """Whether a server has the route by which something of a changeset is read."""
     server = Server(url)
@@ -231,6 +241,14 @@ class Case(unittest.TestCase):
     def needs_wholes(self) -> None:
         if not has_wholes(self.server):
             self.skipTest("a server that joins contents")
+
+    def merging(self) -> str:
+        """A server that takes merges: the one that is given, the program's, or a stand-in."""
+        if not GIVEN and not SERVES:
+            return self.started(merges=True).url
+        if not has_merges(self.server):
+            self.skipTest("a server that takes merges")
+        return self.server
 
     def setUp(self) -> None:
         self.folder = Path(tempfile.mkdtemp(prefix="jarrah-test-"))

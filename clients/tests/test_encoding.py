@@ -193,13 +193,13 @@ class WorkedBytes(unittest.TestCase):
         self.assertEqual(caught.exception.place, 91)
 
     def test_unodes(self):
-        first = past_after(None, read_changeset(SETS_P.encoded))
+        first = past_after([], read_changeset(SETS_P.encoded))
         again = replace(SETS_P, parents=(SETS_P.id,))
-        second = past_after(first, read_changeset(again.encoded))
+        second = past_after([first], read_changeset(again.encoded))
         old, new = first.nodes["p"], second.nodes["p"]
         self.assertEqual((len(old[1]), len(new[1])), (100, 132))
-        self.assertEqual(decode_unode(old[1]).parent, None)
-        self.assertEqual(decode_unode(new[1]).parent, old[0])
+        self.assertEqual(decode_unode(old[1]).parents, ())
+        self.assertEqual(decode_unode(new[1]).parents, (old[0],))
         root = decode_unode(second.nodes[""][1])
         self.assertEqual((root.linknode, root.entries), (again.id, {"p": new[0]}))
 

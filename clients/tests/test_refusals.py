@@ -16,7 +16,8 @@ API = (TOP / "docs" / "API.md").read_text()
 ANSWERS = {"content", "whole", "changeset", "copies", "bookmark", "landed", "log", "history"}
 ANSWERS |= {"path-log", "policy"}
 LATER = {"no-path", "not-a-dir", "not-a-file", "bad-path", "too-long"}
-"""Codes of the routes of manifests that docs/API.md doesn't have yet."""
+LATER |= {"unresolved", "merge-in-stack", "merge-in-range"}
+"""Codes that docs/API.md doesn't have yet, of manifests and of merges."""
 ID = "0123456789abcdef" * 4
 MEMBERS = {
     "id": ID,

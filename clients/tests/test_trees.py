@@ -5,9 +5,9 @@ import unittest
 from dataclasses import replace
 
 from jarrah_client.changesets import Changeset, File, Kind, SelfConflict, digest
+from jarrah_client.folded import FoldedTree, folded_history
 from jarrah_client.nodes import Directory, decode_fsnode
 from jarrah_client.refusals import Refused
-from jarrah_client.trees import FoldedTree, folded_history
 
 from .stand_in.manifests import fsnodes
 from .stand_in.repository import Repository

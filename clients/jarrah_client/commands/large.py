@@ -11,7 +11,7 @@ from pathlib import Path
 from ..drafts import need_name
 from ..export_git import Report as ExportReport
 from ..export_git import Target, export_git, export_stream
-from ..import_git import Report, import_git
+from ..import_git import Report, Wanted, import_git
 from ..names import resolve
 from ..output import Output, counted
 from ..paths import is_bookmark_name
@@ -22,9 +22,19 @@ from .options import LEFT_OUT, REVISION, Add, add_connections, add_fold, natural
 
 def add(add: Add) -> None:
     """Adds the subcommands."""
-    one = add("import-git", import_from_git, "import the first-parent line of a git branch")
+    add_import(add)
+    add_export(add)
+    one = add("browse", browse, "serve a page to look round in, on this machine alone")
+    add_serving(one)
+    one = add("gateway", gateway, "serve JSON routes for other tools, and the page")
+    add_serving(one)
+
+
+def add_import(add: Add) -> None:
+    """Adds the subcommand that imports."""
+    one = add("import-git", import_from_git, "import the history of a git branch")
     one.add_argument("repository", help="a git repository, with or without a work tree")
-    one.add_argument("bookmark", help="made, or moved on to the end of the line")
+    one.add_argument("bookmark", help="made, or moved on to the branch")
     one.add_argument("--branch", default="HEAD", help="a branch or a commit; default: HEAD")
     one.add_argument(
         "--marks",
@@ -37,7 +47,17 @@ def add(add: Add) -> None:
         action="store_false",
         help="don't ask git for renames and copies, and tell none",
     )
+    one.add_argument(
+        "--first-parent",
+        action="store_true",
+        help="the first-parent line alone, each merge as its difference from its first parent,"
+        " as where the server takes no merges",
+    )
     add_connections(one)
+
+
+def add_export(add: Add) -> None:
+    """Adds the subcommand that exports."""
     one = add("export-git", export_to_git, "write a changeset and its ancestors as git commits")
     one.add_argument("revision", metavar="id", help=REVISION)
     one.add_argument(
@@ -50,10 +70,6 @@ def add(add: Add) -> None:
         help="what was exported; default: jarrah/BRANCH.exported in git's folder",
     )
     add_connections(one)
-    one = add("browse", browse, "serve a page to look round in, on this machine alone")
-    add_serving(one)
-    one = add("gateway", gateway, "serve JSON routes for other tools, and the page")
-    add_serving(one)
 
 
 def add_serving(one: argparse.ArgumentParser) -> None:
@@ -70,17 +86,12 @@ def add_serving(one: argparse.ArgumentParser) -> None:
 
 
 def import_from_git(options: Namespace, server: Server, out: Output) -> int:
-    """Imports the first-parent line of a git branch."""
+    """Imports the history of a git branch."""
     need_name(options.bookmark)
-    report = import_git(
-        server,
-        Path(options.repository),
-        options.branch,
-        options.bookmark,
-        Path(options.marks) if options.marks else None,
-        options.connections,
-        options.copies,
-    )
+    repository, marks = Path(options.repository), options.marks
+    wanted = Wanted(repository, options.branch, options.copies, options.first_parent)
+    place = Path(marks) if marks else None
+    report = import_git(server, wanted, options.bookmark, place, options.connections)
     out.tell(vars(report), import_lines(report))
     return LEFT_OUT if report.left_out else 0
 
@@ -102,11 +113,22 @@ def import_lines(report: Report) -> Iterator[str]:
         yield "there is nothing new to import"
     if report.copies:
         yield f"told where {counted(report.copies, 'file')} came from by renames and copies"
+    yield from merge_lines(report)
     if report.left_out:
         yield f"left out {counted(len(report.left_out), 'change')}, each named above"
     if report.altered:
         yield f"altered the words of {counted(len(report.altered), 'commit')}, each named above"
     yield f"{report.bookmark} is at {report.head}"
+
+
+def merge_lines(report: Report) -> Iterator[str]:
+    """What became of merges, for people."""
+    if report.merges:
+        cut = f", {report.octopuses:,} of them with the first two parents alone"
+        yield f"kept {counted(report.merges, 'merge')}{cut if report.octopuses else ''}"
+    if report.flattened:
+        why = "" if report.takes_merges else "; this server takes no merges"
+        yield f"made {counted(report.flattened, 'merge')} the difference from the first parent{why}"
 
 
 def export_to_git(options: Namespace, server: Server, out: Output) -> int:

@@ -15,6 +15,7 @@ from typing import Any
 
 from ..changesets import Changeset, File
 from ..contents import bytes_of, fetched
+from ..graph import Graph
 from ..log_cache import CachedLog
 from ..names import resolve
 from ..output import (
@@ -34,7 +35,7 @@ from ..output import (
 from ..paths import is_bookmark_name
 from ..reads import file_at, remember
 from ..refusals import Fault, WrongWords, about
-from ..repository import Landing, Log, by_front, chain
+from ..repository import Landing, Log, by_front, chain, last_known_first
 from ..server import NotReached, Server, Trouble, is_passing
 from ..trees import fate, history_of, last_changes, path_log_of, tree_of
 from ..working.scan import is_in
@@ -47,20 +48,7 @@ FOLLOW_SECONDS = 1.0
 
 def add(add: Add) -> None:
     """Adds the subcommands."""
-    one = add("log", log, "tell a changeset and its ancestors, the newest first")
-    one.add_argument("revision", metavar="id", help=REVISION)
-    one.add_argument("-n", dest="count", type=natural, help="so many at most")
-    one.add_argument("--oneline", action="store_true", help="one line for each")
-    one.add_argument("--patch-names", action="store_true", help="with the paths of each")
-    one.add_argument(
-        "--path", help="those alone that set this file or took it away, also before it was deleted"
-    )
-    add_fold(one)
-    one = add("entries", entries, "tell the server's update log")
-    one.add_argument("--from", dest="start", metavar="N", type=natural, default=0)
-    one.add_argument(
-        "--follow", action="store_true", help="go on with what comes, also after a restart"
-    )
+    add_logs(add)
     one = add("ls", ls, "list a directory of a changeset's tree")
     one.add_argument("revision", metavar="id", help=REVISION)
     one.add_argument("path", nargs="?", default="", help="a directory; default: the root")
@@ -91,24 +79,51 @@ def add(add: Add) -> None:
     )
 
 
+def add_logs(add: Add) -> None:
+    """Adds the subcommands that tell logs."""
+    one = add("log", log, "tell a changeset and its ancestors by first parents, the newest first")
+    one.add_argument("revision", metavar="id", help=REVISION)
+    one.add_argument("-n", dest="count", type=natural, help="so many at most")
+    one.add_argument("--oneline", action="store_true", help="one line for each")
+    one.add_argument("--patch-names", action="store_true", help="with the paths of each")
+    one.add_argument(
+        "--graph", action="store_true", help="all ancestors, with lines that lead to their parents"
+    )
+    one.add_argument(
+        "--path", help="those alone that set this file or took it away, also before it was deleted"
+    )
+    add_fold(one)
+    one = add("entries", entries, "tell the server's update log")
+    one.add_argument("--from", dest="start", metavar="N", type=natural, default=0)
+    one.add_argument(
+        "--follow", action="store_true", help="go on with what comes, also after a restart"
+    )
+
+
 def log(options: Namespace, server: Server, out: Output) -> None:
     """Tells a changeset and its ancestors, the newest first."""
+    if options.graph and options.path is not None:
+        raise WrongWords("`--graph` is of all paths: leave out `--path`")
     known = CachedLog(server)
     start = resolve(server, options.revision, lambda front: by_front(known, front))
     known.read_on()
-    names = known.names()
-    for changeset in islice(logged(options, server, start), options.count):
+    names, graph = known.names(), Graph() if options.graph else None
+    for changeset in islice(logged(options, server, start, known), options.count):
         at, landing = names.get(changeset.id, []), known.landings.get(changeset.id)
         document = changeset_document(changeset) | {"bookmarks": at, "landed": None}
         if landing:
             document["landed"] = landing_document(landing)
         if options.path is not None:
             document["at_path"] = fate(changeset, options.path.strip("/"))
-        out.tell(document, log_lines(options, changeset, at, landing))
+        lines = log_lines(options, changeset, at, landing)
+        out.tell(document, graph.drawn(changeset, list(lines)) if graph else lines)
 
 
-def logged(options: Namespace, server: Server, start: str) -> Iterator[Changeset]:
+def logged(options: Namespace, server: Server, start: str, log: Log) -> Iterator[Changeset]:
     """The changesets of a log, the newest first."""
+    if options.graph:
+        yield from last_known_first(server, start, log.places())
+        return
     if options.path is None:
         yield from chain(server, start)
         return

@@ -151,7 +151,7 @@ async function file(id, path, query) {
 function pastRows(past) {
   const row = (one) => {
     const made = changesetRow(one);
-    if (one.at_path === "deleted") made.querySelector(".title").prepend("deleted it: ");
+    if (one.at_path !== "set") made.querySelector(".title").prepend(`${one.at_path} it: `);
     return made;
   };
   return [make("h2", {}, "History ", make("small", {}, counted(past.changesets.length + past.older, "changeset"))),

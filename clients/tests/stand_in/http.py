@@ -380,10 +380,11 @@ class StandIn(ThreadingHTTPServer):
         has_manifests: bool = True,
         idle_seconds: float | None = None,
         version: int = 2,
+        merges: bool = False,
     ):
         super().__init__(("127.0.0.1", port), Session)
         self.idle_seconds = idle_seconds
-        self.repository = Repository(capacity, version)
+        self.repository = Repository(capacity, version, merges)
         self.service = Service(self.repository, has_manifests)
         self.lanes = threading.Semaphore(lanes) if lanes else nullcontext()
         self.url = f"http://127.0.0.1:{self.server_address[1]}"

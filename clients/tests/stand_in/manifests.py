@@ -1,4 +1,4 @@
-"""Manifests from scratch: trees, fsnodes, unodes and the history of files."""
+"""Manifests from scratch: fsnodes, unodes, deleted nodes and the history of files."""
 
 from __future__ import annotations
 
@@ -7,6 +7,7 @@ from dataclasses import dataclass, field
 from functools import lru_cache
 
 from .spelling import Record, Refusal, Set, digest, summary_bytes
+from .trees import Tree, fronts, tree_after
 
 
 @dataclass
@@ -22,29 +23,9 @@ class Past:
     """The unodes of one changeset by path: id, bytes, and whether it is a file."""
 
     nodes: dict[str, tuple[str, bytes, bool]]
-    tree: dict[str, Set]
+    tree: Tree
     gone: dict[str, str]
     """Of each path that was a file and isn't now, the changeset that took it away last."""
-
-
-def tree_after(before: dict[str, Set], record: Record) -> dict[str, Set]:
-    """The tree after a changeset: each path by the last that decides it."""
-    touched = {path for path, _ in record.changes}
-    sets = {path for path, file in record.changes if file}
-    above_sets = {front for path in sets for front in fronts(path)}
-    after = {
-        path: file
-        for path, file in before.items()
-        if path not in touched and path not in above_sets and not sets & set(fronts(path))
-    }
-    after.update({path: file for path, file in record.changes if file})
-    return after
-
-
-def fronts(path: str) -> list[str]:
-    """The paths that a path lies strictly under."""
-    elements = path.split("/")
-    return ["/".join(elements[:count]) for count in range(1, len(elements))]
 
 
 def nested(tree: dict[str, Set]) -> Node:
@@ -93,36 +74,36 @@ def fsnodes(tree: dict[str, Set]) -> dict[str, bytes]:
     return found
 
 
-def past_after(before: Past | None, record: Record) -> Past:
-    """The unodes of a changeset: new where it touches, else those of its parent."""
-    old = before.nodes if before else {}
-    tree = tree_after(before.tree if before else {}, record)
+def past_after(parents: list[Past], record: Record) -> Past:
+    """The unodes of a changeset: new where it touches or its parents differ, else theirs."""
+    tree = tree_after([parent.tree for parent in parents], record)
     link = bytes.fromhex(record.id)
     above_touched = {front for path in record.touched for front in fronts(path)}
     nodes: dict[str, tuple[str, bytes, bool]] = {}
 
-    def parent(path: str, is_file: bool) -> bytes:
-        found = old.get(path)
-        if found is None or found[2] != is_file:
-            return b"\x00"
-        return b"\x01" + bytes.fromhex(found[0])
+    def before(path: str, is_file: bool) -> dict[str, tuple[str, bytes, bool]]:
+        """The nodes of the path at the parents, each once, by their ids."""
+        there = [parent.nodes[path] for parent in parents if path in parent.nodes]
+        return {node[0]: node for node in there if node[2] == is_file}
 
     def visit(node: Node, path: str) -> None:
         for name, below in node.names.items():
             visit(below, f"{path}/{name}" if path else name)
         is_file = node.file is not None
+        old = before(path, is_file)
         if is_file:
             is_new = record.set_at(path) is not None
         else:
             is_new = not path or path in above_touched
-        if not is_new:
-            nodes[path] = old[path]
+        if not is_new and len(old) == 1:
+            nodes[path] = next(iter(old.values()))
             return
+        parent_ids = bytes((len(old),)) + b"".join(map(bytes.fromhex, old))
         if node.file:
-            data = b"\x56\x01" + parent(path, True) + bytes.fromhex(node.file.content)
+            data = b"\x56\x01" + parent_ids + bytes.fromhex(node.file.content)
             data += bytes((node.file.kind,)) + bytes.fromhex(digest(path.encode())) + link
         else:
-            data = b"\x55\x01" + parent(path, False) + link + struct.pack(">I", len(node.names))
+            data = b"\x55\x01" + parent_ids + link + struct.pack(">I", len(node.names))
             for name, below in rising(node):
                 id, _, below_is_file = nodes[f"{path}/{name}" if path else name]
                 data += (
@@ -131,14 +112,14 @@ def past_after(before: Past | None, record: Record) -> Past:
         nodes[path] = (digest(data), data, is_file)
 
     visit(nested(tree), "")
-    return Past(nodes, tree, gone_after(before, record.id, tree))
+    return Past(nodes, tree, gone_after(parents, record.id, tree))
 
 
-def gone_after(before: Past | None, id: str, tree: dict[str, Set]) -> dict[str, str]:
+def gone_after(parents: list[Past], id: str, tree: Tree) -> dict[str, str]:
     """What is taken away at a changeset with this tree, by its first parent's past."""
-    if before is None:
+    if not parents:
         return {}
-    gone = before.gone | dict.fromkeys(before.tree, id)
+    gone = parents[0].gone | dict.fromkeys(parents[0].tree, id)
     return {path: link for path, link in gone.items() if path not in tree}
 
 
@@ -158,23 +139,36 @@ def deleted_nodes(gone: dict[str, str]) -> dict[str, bytes]:
 
 
 class Manifests:
-    """Manifests of changesets. `chain(id)` gives a chain, the oldest first."""
+    """Manifests of changesets. `chain(id)` gives a changeset and its first parents, and
+    `ancestors(id)` it and all that it reaches through parents, the oldest first."""
 
-    def __init__(self, chain, changeset):
+    def __init__(self, chain, ancestors, changeset):
         self.chain = chain
+        self.ancestors = ancestors
         self.changeset = changeset
+        self.tree = lru_cache(None)(self.fold)
         self.past = lru_cache(None)(self.derive)
         self.fsnodes = lru_cache(64)(lambda id: fsnodes(self.past(id).tree))
 
-    def derive(self, id: str) -> Past:
-        """The manifests of a changeset, its parent's being there."""
+    def fold(self, id: str) -> Tree:
+        """The tree of a changeset, its parents' being there."""
         record = self.changeset(id)
-        before = self.past(record.parents[0]) if record.parents else None
-        return past_after(before, record)
+        return tree_after([self.tree(parent) for parent in record.parents], record)
+
+    def tree_at(self, id: str) -> Tree:
+        """The tree of a changeset, those of all ancestors first."""
+        for record in self.ancestors(id):
+            self.tree(record.id)
+        return self.tree(id)
+
+    def derive(self, id: str) -> Past:
+        """The manifests of a changeset, its parents' being there."""
+        record = self.changeset(id)
+        return past_after([self.past(parent) for parent in record.parents], record)
 
     def prepare(self, id: str) -> None:
-        """Derives a chain from its root on, so that no derivation goes deep."""
-        for record in self.chain(id):
+        """Derives all ancestors first, so that no derivation goes deep."""
+        for record in self.ancestors(id):
             self.past(record.id)
 
     def fsnode(self, id: str, directory: str) -> bytes:
@@ -213,17 +207,24 @@ class Manifests:
         return record.set_at(path) is not None or before.get(path) != after.get(path)
 
     def history(self, id: str, path: str) -> list[str]:
-        """The changesets that set the file, newest first, to the first whose parent lacks it."""
+        """The changesets that made the file's unode and those it reaches, the last known first."""
         self.prepare(id)
         found = self.past(id).nodes.get(path)
         if found is None:
             raise Refusal(404, "no-path")
         if not found[2]:
             raise Refusal(404, "not-a-file")
-        ids: list[str] = []
-        for record in reversed(self.chain(id)):
-            if record.set_at(path):
-                ids.append(record.id)
-                if not record.parents or path not in self.past(record.parents[0]).tree:
-                    break
-        return ids
+        reached: set[str] = set()
+        waiting = [linknode(found[1])]
+        while waiting:
+            link = waiting.pop()
+            if link not in reached:
+                reached.add(link)
+                pasts = [self.past(parent) for parent in self.changeset(link).parents]
+                waiting += [linknode(past.nodes[path][1]) for past in pasts if path in past.tree]
+        return [record.id for record in self.ancestors(id)[::-1] if record.id in reached]
+
+
+def linknode(file_unode: bytes) -> str:
+    """The changeset that made the unode of a file."""
+    return file_unode[-32:].hex()

@@ -7,6 +7,7 @@ import time
 from .manifests import Manifests
 from .policy import NOBODY, Rule, read_policy, refuse_denied
 from .spelling import MOST, Record, Refusal, comparable, digest, key, read_changeset, with_parent
+from .trees import unresolved
 
 MOST_RANGE = 10_000
 MOST_STACK = 100
@@ -19,9 +20,11 @@ PAGE = 100
 class Repository:
     """Contents, changesets, bookmarks and the log, in memory."""
 
-    def __init__(self, capacity: int = 34_359_738_368, version: int = 2):
+    def __init__(self, capacity: int = 34_359_738_368, version: int = 2, merges: bool = False):
         self.capacity = capacity
         self.version = version
+        self.takes_merges = merges
+        """Whether changesets of two parents are stored."""
         self.size = 17
         self.contents: dict[str, bytes] = {}
         """All contents, those among them that are wholes, and so made of others."""
@@ -34,7 +37,7 @@ class Repository:
         """The texts of policies by the numbers of their entries, the last of which is held."""
         self.rules: list[Rule] | None = None
         self.clock = lambda: int(time.time())
-        self.manifests = Manifests(self.chain, self.changeset)
+        self.manifests = Manifests(self.chain, self.ancestors, self.changeset)
 
     def append(self, payload: int, entry: dict) -> None:
         """Makes an entry whose record has a payload of so many bytes."""
@@ -44,13 +47,22 @@ class Repository:
         self.entries.append({"number": len(self.entries), **entry})
 
     def chain(self, id: str) -> list[Record]:
-        """A changeset and its ancestors, the oldest first."""
+        """A changeset and its ancestors by first parents, the oldest first."""
         record = self.changeset(id)
         line = [record]
         while record.parents:
             record = self.changesets[record.parents[0]]
             line.append(record)
         return line[::-1]
+
+    def ancestors(self, id: str) -> list[Record]:
+        """A changeset and all that it reaches through parents, as they came to be known."""
+        reached, waiting = {id}, [self.changeset(id)]
+        while waiting:
+            new = [parent for parent in waiting.pop().parents if parent not in reached]
+            reached.update(new)
+            waiting += [self.changesets[parent] for parent in new]
+        return [record for record in self.changesets.values() if record.id in reached]
 
     def append_by(self, caller: str, payload: int, entry: dict) -> None:
         """Makes an entry that tells its caller, if a policy is held."""
@@ -73,7 +85,7 @@ class Repository:
 
     def put_changeset(self, data: bytes) -> str:
         record = read_changeset(data)
-        if len(record.parents) == 2:
+        if len(record.parents) == 2 and not self.takes_merges:
             raise Refusal(422, "merge")
         for parent in record.parents:
             if parent not in self.changesets:
@@ -84,10 +96,19 @@ class Repository:
             if file and len(self.contents[file.content]) != file.size:
                 found = len(self.contents[file.content])
                 raise Refusal(422, "wrong-size", found=found, path=path, wanted=file.size)
+        self.refuse_unresolved(record)
         if record.id not in self.changesets:
             self.append(len(data), {"kind": "changeset", "id": record.id})
             self.changesets[record.id] = record
         return record.id
+
+    def refuse_unresolved(self, record: Record) -> None:
+        """Refuses a merge that leaves its parents' trees against one another."""
+        if len(record.parents) < 2:
+            return
+        path = unresolved(record, *map(self.manifests.tree_at, record.parents))
+        if path is not None:
+            raise Refusal(422, "unresolved", path=path)
 
     def changeset(self, id: str) -> Record:
         if id not in self.changesets:
@@ -174,6 +195,8 @@ class Repository:
             raise Refusal(409, "already-in")
         if len(stack) > MOST_STACK:
             raise Refusal(413, "stack-too-long", count=len(stack))
+        refuse_merge("merge-in-stack", stack)
+        refuse_merge("merge-in-range", behind)
         refuse_denied(self.rules, caller, touched(stack))
         refuse_clash(touched(stack), touched(behind))
         records = rebased(stack, old, moment)
@@ -207,6 +230,13 @@ class Repository:
 
 def touched(records: list[Record]) -> list[str]:
     return sorted({path for record in records for path in record.touched}, key=key)
+
+
+def refuse_merge(code: str, records: list[Record]) -> None:
+    """Refuses the first of these that has two parents."""
+    for record in records:
+        if len(record.parents) == 2:
+            raise Refusal(409, code, id=record.id)
 
 
 def refuse_clash(left: list[str], right: list[str]) -> None:
