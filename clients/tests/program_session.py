@@ -93,7 +93,7 @@ class Script:
 
     def __init__(self) -> None:
         file = (PROGRAM / "data" / "repository").read_bytes()
-        self.repository = Repository(int.from_bytes(file[8:16], "big"))
+        self.repository = Repository(int.from_bytes(file[8:16], "big"), merges=True)
         self.repository.put_content(b"abc")
         assert self.repository.size == len(file) and digest(b"abc") == ABC
         assert file[7] == self.repository.version
@@ -379,6 +379,98 @@ def manifests(script: Script, root: str) -> None:
     script.ask(f"PUT /deleted/{tree}", f"POST /pathlog/{tree}/a")
 
 
+MERGE_READS = """
+fsnode/{merge}
+unode/{merge}
+unode/{merge}/x
+history/{merge}/x
+history/{merge}/y
+pathlog/{merge}/x
+pathlog/{merge}/y
+deleted/{merge}
+changeset/{merge}
+fsnode/{crossed}
+unode/{crossed}
+unode/{crossed}/x
+history/{crossed}/x
+unode/{settled}
+unode/{settled}/x
+history/{settled}/x
+pathlog/{settled}/x
+fsnode/{dropped}
+unode/{dropped}
+deleted/{dropped}
+deleted/{dropped}/x
+pathlog/{dropped}/x
+fsnode/{deep}
+unode/{deep}/x/y
+history/{deep}/x/y
+deleted/{deep}/x
+pathlog/{deep}/x
+pathlog/{deep}/x/y
+fsnode/{all}
+unode/{all}
+history/{all}/z
+history/{all}/x
+pathlog/{all}/z
+"""
+"""Manifests of merges: of two files, of these two ways, of a file that both set, and of a merge."""
+
+
+def merges(script: Script, root: str) -> None:
+    """Changesets with two parents, those that are refused, and landings with them and over them."""
+    on_root = {"parents": (root,)}
+    x, other = script.commit(spelled(sets("x"), **on_root)), script.commit(spelled(sets("x", b""), **on_root))
+    y, z = script.commit(spelled(sets("y", b""), **on_root)), script.commit(spelled(sets("z"), **on_root))
+    under = script.commit(spelled(sets("x/y"), **on_root))
+    merge, back = script.commit(spelled(parents=(x, y))), script.commit(spelled(parents=(y, x)))
+    marks = {
+        "merge": merge,
+        "crossed": script.commit(spelled(parents=(merge, back))),
+        "settled": script.commit(spelled(sets("x"), parents=(x, other))),
+        "dropped": script.commit(spelled(deletes("x"), parents=(x, other))),
+        "deep": script.commit(spelled(deletes("x"), parents=(x, under))),
+        "all": script.commit(spelled(parents=(z, merge))),
+    }
+    for parents, edits in [
+        ((x, other), ()),
+        ((x, other), (sets("x/a"),)),
+        ((x, other), (deletes("y"),)),
+        ((x, under), ()),
+        ((under, x), ()),
+        ((under, x), (deletes("x/y"),)),
+        ((under, x), (sets("x"),)),
+        ((x, under), (sets("x/y"),)),
+        ((merge, marks["settled"]), ()),
+        ((x, x), ()),
+        ((x, ABC), ()),
+        ((ABC, x), ()),
+        ((digest(b""), ABC), (sets("x"),)),
+    ]:
+        script.commit(spelled(*edits, parents=parents))
+    merged_lines(script, root, x, merge)
+    for line in MERGE_READS.split("\n")[1:-1]:
+        for mark, text in marks.items():
+            line = line.replace(f"{{{mark}}}", text)
+        script.ask(f"GET /{line}")
+
+
+def merged_lines(script: Script, root: str, x: str, merge: str) -> None:
+    """Drafts beside a merge that a bookmark is at, on it, and with it."""
+    beside = script.commit(spelled(sets("q"), parents=(x,)))
+    above = script.commit(spelled(sets("q"), parents=(merge,)))
+    script.ask(
+        f"PUT /bookmark/merged/none/{merge}",
+        f"POST /land/merged/{beside}",
+        f"POST /land/merged/{above}",
+        f"POST /land/merged/{above}",
+        f"PUT /bookmark/plain/none/{root}",
+        f"POST /land/plain/{above}",
+        f"POST /land/plain/{merge}",
+        f"POST /land/plain/{beside}",
+    )
+
+
 LIB = b"allow ann lib\ndeny * lib\nallow * /\n"
 BAD_POLICIES = (
     b"",
@@ -522,6 +614,7 @@ def made() -> Script:
     clashes(script, root)
     copied_files(script, root)
     manifests(script, root)
+    merges(script, root)
     policies(script, root)
     wholes(script, root)
     for head in HEADS:

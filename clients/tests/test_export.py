@@ -43,7 +43,7 @@ class RoundTrip(Case):
 
     def imported(self, *words: object) -> tuple[str, Path]:
         name, marks = fresh("round"), self.folder / "marks"
-        self.ok("import-git", self.maker.folder, name, "--marks", marks, *words)
+        self.ok("import-git", "--first-parent", self.maker.folder, name, "--marks", marks, *words)
         return name, marks
 
     def test_the_same_trees(self):
@@ -65,7 +65,7 @@ class RoundTrip(Case):
         out = self.folder / "out"
         first = self.ask("export-git", name, out)
         self.assertEqual(first["changesets"], 61)
-        self.ok("import-git", self.maker.folder, name, "--marks", marks)
+        self.ok("import-git", "--first-parent", self.maker.folder, name, "--marks", marks)
         second = self.ask("export-git", name, out, "--connections", "1")
         self.assertEqual((second["changesets"], second["known"]), (COMMITS - 61, 61))
         self.assertEqual(trees(out, name), trees(self.maker.folder, "main"))
@@ -75,7 +75,7 @@ class RoundTrip(Case):
     def test_a_server_with_one_lane(self):
         narrow = self.special(lanes=1)
         out, copy = self.folder / "out", self.folder / "copy"
-        words = ("import-git", self.maker.folder, "b", "--marks", self.folder / "marks")
+        words = ("import-git", "--first-parent", self.maker.folder, "b", "--marks", self.folder / "marks")
         line = self.maker.line()
         for words in (
             (*words, "--branch", line[8]),

@@ -57,7 +57,7 @@ class Whole(Case):
     def imported(self, *words: object) -> tuple[dict, dict[str, str]]:
         """What an import of the line told, and the changesets by commits."""
         name, marks = fresh("import"), self.folder / "marks"
-        told = self.ask("import-git", self.maker.folder, name, "--marks", marks, *words)
+        told = self.ask("import-git", "--first-parent", self.maker.folder, name, "--marks", marks, *words)
         self.assertEqual(self.ask("bookmark", name)["head"], told["head"])
         return told, dict(line.split() for line in marks.read_text().splitlines()[1:])
 
@@ -136,7 +136,7 @@ class Whole(Case):
 
     def test_going_on(self):
         name, marks = fresh("import"), self.folder / "marks"
-        words = ("import-git", self.maker.folder, name, "--marks", marks)
+        words = ("import-git", "--first-parent", self.maker.folder, name, "--marks", marks)
         first = self.ask(*words, "--branch", self.line[79])
         self.assertEqual((first["commits"], first["known"]), (80, 0))
         marks.write_text(marks.read_text() + "cut off")
@@ -145,19 +145,19 @@ class Whole(Case):
         again = self.ok(*words)
         self.assertIn("200 commits imported before", again.out)
         self.assertIn("nothing new", again.out)
-        other = self.ask("import-git", self.maker.folder, fresh(), "--marks", self.folder / "other")
+        other = self.ask("import-git", "--first-parent", self.maker.folder, fresh(), "--marks", self.folder / "other")
         self.assertEqual(other["head"], second["head"])
 
     def test_a_server_with_fewer_lanes_than_connections(self):
         narrow = self.special(lanes=1)
-        words = ("import-git", self.maker.folder, "b", "--marks", self.folder / "marks")
+        words = ("import-git", "--first-parent", self.maker.folder, "b", "--marks", self.folder / "marks")
         ran = jarrah("--json", *words, "--connections", "6", server=narrow.url)
         self.assertEqual((ran.status, ran.complaint, ran.document["commits"]), (0, "", COMMITS))
 
     def test_marks_of_another_server(self):
         other = self.special()
         name, marks = fresh("import"), self.folder / "marks"
-        words = ("import-git", self.maker.folder, name, "--marks", marks, "--branch", self.line[3])
+        words = ("import-git", "--first-parent", self.maker.folder, name, "--marks", marks, "--branch", self.line[3])
         self.ok(*words)
         ran = jarrah(*words, server=other.url)
         self.assertEqual((ran.status, ran.complaint.count("\n")), (1, 1))
@@ -167,7 +167,7 @@ class Whole(Case):
         name = fresh()
         self.ok("init", name)
         words = (
-            "import-git",
+            "import-git", "--first-parent",
             self.maker.folder,
             name,
             "--marks",
@@ -191,7 +191,7 @@ class Whole(Case):
             return calls(data)
 
         narrow.service.repository.put_changeset = store
-        words = ("import-git", self.maker.folder, "b", "--marks", self.folder / "marks")
+        words = ("import-git", "--first-parent", self.maker.folder, "b", "--marks", self.folder / "marks")
         ran = jarrah(*words, server=narrow.url)
         self.assertEqual((ran.status, ran.complaint.count("\n")), (1, 1))
         where = f"stopped at commit {self.line[50][:12]} (run again to go on)"
@@ -200,7 +200,7 @@ class Whole(Case):
     def test_a_server_that_is_full(self):
         small = self.special(capacity=40_000)
         marks = self.folder / "marks"
-        words = ("import-git", self.maker.folder, "b", "--marks", marks)
+        words = ("import-git", "--first-parent", self.maker.folder, "b", "--marks", marks)
         ran = jarrah(*words, server=small.url)
         self.assertEqual((ran.status, ran.complaint.count("\n")), (1, 1))
         where, _, why = ran.complaint.partition(" (run again to go on): ")

@@ -9,15 +9,15 @@ from jarrah_client.refusals import WORDS, Refused, in_words
 from jarrah_client.server import Server
 
 from .canned import Canned
-from .harness import TOP, Case, fresh, jarrah
+from .harness import TOP, Case, fresh, has_merges, jarrah
 from .test_encoding import ABC, EMPTY
 
 API = (TOP / "docs" / "API.md").read_text()
 ANSWERS = {"content", "whole", "changeset", "copies", "bookmark", "landed", "log", "history"}
 ANSWERS |= {"path-log", "policy"}
 LATER = {"no-path", "not-a-dir", "not-a-file", "bad-path", "too-long"}
-LATER |= {"unresolved", "merge-in-stack", "merge-in-range"}
-"""Codes that docs/API.md doesn't have yet, of manifests and of merges."""
+LATER |= {"merge"}
+"""Codes that docs/API.md doesn't have: of manifests, and of servers that take no merges."""
 ID = "0123456789abcdef" * 4
 MEMBERS = {
     "id": ID,
@@ -238,6 +238,11 @@ class Provoked(Case):
         self.assertEqual(ran.err, "jarrah: this server doesn't have this route\n")
 
 
+def of_two_parents(url: str) -> tuple[str, dict]:
+    """What a changeset of two parents that nobody has is refused as."""
+    return ("no-parent", {"id": ID}) if has_merges(url) else ("merge", {})
+
+
 class ByCalls(Case):
     """Refusals of requests that no subcommand sends."""
 
@@ -254,7 +259,7 @@ class ByCalls(Case):
         for data, code, members in (
             (one[:13], "bad-encoding", {"place": 6}),
             (one[:-4] + both, "bad-encoding", {"place": 32}),
-            (two_parents, "merge", {}),
+            (two_parents, *of_two_parents(self.server)),
             (unknown, "missing-content", {"id": ID, "path": "p"}),
             (wrong, "wrong-size", {"found": 3, "path": "p", "wanted": 4}),
         ):

@@ -26,9 +26,12 @@ at ks n = known_at (reverse ks) n
 abbrev pub parent_among : List Known → List Known → ℕ → Option ℕ
 parent_among ks js n = option_and_then (number_among ks) (first_parent (at js n).changeset)
 
-kept_number : (k : Known) (older : List Known) (q : Id) → is_known older k.id ≡ false → is_known older q ≡ true → number_among older q ≡ number_among (k ∷ older) q
-kept_number k older q apart known =
-    sym (cond-false (bytes_eq k.id q) (Some (length older)) (number_among older q) (false_from_ne_true (bytes_eq k.id q) (λ e. true≢false (sym known ∙ ap (is_known older) (sym ((bytes_eq-Decides k.id q).0 e)) ∙ apart))))
+-- one that isn't known has another id than one that is
+pub other_id : (k : Known) (older : List Known) (q : Id) → is_known older k.id ≡ false → is_known older q ≡ true → bytes_eq k.id q ≡ false
+other_id k older q apart known = false_from_ne_true (bytes_eq k.id q) (λ e. true≢false (sym known ∙ ap (is_known older) (sym ((bytes_eq-Decides k.id q).0 e)) ∙ apart))
+
+pub kept_number : (k : Known) (older : List Known) (q : Id) → is_known older k.id ≡ false → is_known older q ≡ true → number_among older q ≡ number_among (k ∷ older) q
+kept_number k older q apart known = sym (cond-false (bytes_eq k.id q) (Some (length older)) (number_among older q) (other_id k older q apart known))
 
 kept_parent : (k : Known) (older : List Known) (o : Option Id) → is_known older k.id ≡ false → IfSome o (λ q. is_known older q ≡ true) → option_and_then (number_among older) o ≡ option_and_then (number_among (k ∷ older)) o
 kept_parent k older None apart known = refl
@@ -66,7 +69,7 @@ parents_at (k ∷ older) apart parents n less =
     (cases_eq (length older) n)
 
 module _ (ks : List Known) (ps : List (Option ℕ)) (k : AreKnown ks ps) where
-  numbered : (o : Option Id) → option_and_then (number_among (reverse ks)) o ≡ option_and_then (number_in ks) o
+  pub numbered : (o : Option Id) → option_and_then (number_among (reverse ks)) o ≡ option_and_then (number_in ks) o
   numbered None = refl
   numbered (Some x) = sym (number_is (reverse ks) k.apart x) ∙ ap (λ js. number_in js x) (reverse-reverse ks)
 

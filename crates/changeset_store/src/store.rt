@@ -1,5 +1,5 @@
 //! The store of known changesets.
-ghost use Rattle.std.specs.Prelude.{◌≡◌, ℕ, ◌≤◌, ◌<◌, ◌+◌, ◌^◌, ◌++◌, ◌∷◌, [], ◌↔◌, true, false, length, map, reverse, option_map, Some, IsSome, IsNone, IsTrue, find, not, IsOk, OnOk, IfOk, IfSome, IfNone};
+ghost use Rattle.std.specs.Prelude.{◌≡◌, ℕ, ◌≤◌, ◌<◌, ◌+◌, ◌^◌, ◌++◌, ◌∷◌, [], ◌↔◌, true, false, length, map, reverse, option_map, Some, None, IsSome, IsNone, IsTrue, find, not, IsOk, OnOk, IfOk, IfSome, IfNone};
 ghost use Rattle.std.specs.List.{AllByRecursion};
 ghost use Rattle.std.specs.Option.{option_and_then};
 ghost use Rattle.std.specs.Arc.{arc_value};
@@ -8,9 +8,13 @@ ghost use Rattle.changeset_model.specs.Changeset as model;
 ghost use Rattle.history_model.specs.History as history;
 ghost use Rattle.history_model.specs.History.{with_id, each_id_once, changeset_of};
 ghost use Rattle.history_model.specs.Chain.{HasParents, changesets, first_parent};
+ghost use Rattle.history_model.specs.Past.{At, second_of};
 ghost use Rattle.history_model.specs.Pushrebase as pushrebase;
-ghost use Rattle.changeset_store.specs.Store.{number_in, parent_at, known_at, changeset_at};
+ghost use Rattle.reply_model.specs.Reply.{is_merge};
+ghost use Rattle.changeset_store.specs.Store.{number_in, parent_at, second_parent_at, known_at, changeset_at};
+ghost use Rattle.changeset_store.specs.Pasts.{past_at, past_at_some};
 ghost use Rattle.changeset_store.specs.Fork.{chain_at, following_at, fork_between, IsAncestor, IsFork};
+ghost use Rattle.changeset_store.specs.Merges.{nearest_merge_at, IsBetween};
 ghost use Rattle.changeset_store.specs.Shared.{values};
 
 use crate::fork::Fork;
@@ -34,6 +38,8 @@ pub struct ChangesetStore {
     commits: Vec<Arc<Commit>>,
     numbers: HashMap<Id, u32, RandomState>,
     chain: Chain,
+    // Of each changeset the nearest one with two parents on its line of first parents, itself counted.
+    merges: Vec<Option<u32>>,
 }
 
 impl Model for ChangesetStore {
@@ -43,15 +49,15 @@ impl Model for ChangesetStore {
 
     ghost coded = { coded_store };
 
-    ghost use Rattle.std.specs.Prelude.{reverse};
+    ghost use Rattle.std.specs.Prelude.{◌-◌, reverse};
     ghost use Rattle.std.specs.Vec.{vec_len, vec_capacity};
     ghost use Rattle.std.specs.HashMap.{get, spare};
     ghost use Rattle.changeset_store.specs.Numbers.{known_of, room_beside, AreNumbers};
     ghost use Rattle.changeset_store.specs.Shared.{values};
 
-    ghost view = { λ s. record { known = known_of (values s.commits.items); room = room_beside (vec_len s.commits) (vec_capacity s.commits) (spare s.numbers) s.chain.room } };
+    ghost view = { λ s. record { known = known_of (values s.commits.items); room = room_beside (vec_len s.commits) (vec_capacity s.commits) (spare s.numbers) s.chain.room (vec_capacity s.merges - vec_len s.merges) } };
 
-    ghost invariant = { λ s. AreNumbers (reverse (known_of (values s.commits.items))) (λ x. get ⟦<Id as PartialEq>⟧.eq s.numbers x) s.chain.parents };
+    ghost invariant = { λ s. AreNumbers (reverse (known_of (values s.commits.items))) (λ x. get ⟦<Id as PartialEq>⟧.eq s.numbers x) s.chain.parents s.merges.items };
 }
 
 impl ChangesetStore {
@@ -64,6 +70,7 @@ impl ChangesetStore {
             commits: Vec::new(alloc),
             numbers: HashMap::with_hasher(alloc, keys),
             chain: Chain::new(alloc),
+            merges: Vec::new(alloc),
         }
     }
 
@@ -149,6 +156,7 @@ impl ChangesetStore {
         self.commits.try_reserve(more as usize)?;
         self.numbers.try_reserve(more as usize)?;
         self.chain.reserve(more)?;
+        self.merges.try_reserve(more as usize)?;
         Ok(())
     }
 
@@ -162,11 +170,13 @@ impl ChangesetStore {
         ensures room { self.old.room ≤ self.new.room + 1 }
     {
         let parent = self.parent_of(&commit);
+        let merge = self.merge_of(&commit, parent);
         let number = self.chain.add_reserved(parent);
         let Ok(_) = self.numbers.insert(commit.id(), number) else {
             unreachable!();
         };
         self.commits.push_reserved(commit);
+        self.merges.push_reserved(merge);
         number
     }
 
@@ -250,6 +260,45 @@ impl ChangesetStore {
         self.chain.parent(number)
     }
 
+    /// The number of a changeset's second parent, if it has two. Chains don't go through it.
+    pub fn second_parent(&self, number: u32) -> Option<u32>
+        requires { number < length self.now.known }
+        ensures parent { result ≡ second_parent_at self.now.known number }
+        ensures earlier { IfSome result (λ parent. parent < number) }
+        // It is there where the changeset has two parents.
+        ensures id { option_map (λ n. (known_at self.now.known n).id) result ≡ second_of (changeset_at self.now.known number).parents }
+        // A past is made of the pasts of both parents.
+        ensures past { past_at self.now.known number ≡ At (known_at self.now.known number) (past_at_some self.now.known (parent_at self.now.known number)) (past_at_some self.now.known result) }
+    {
+        // The store keeps its rules.
+        let _commits = &self.commits;
+        self.second_parent_of(self.at(number))
+    }
+
+    // The number of the second parent.
+    fn second_parent_of(&self, commit: &Commit) -> Option<u32>
+        ensures { result ≡ option_and_then (number_in self.now.known) (second_of commit.now.parents) }
+    {
+        let parent = commit.changeset().parents().get(1)?;
+        self.number_of(parent)
+    }
+
+    /// The number of the nearest changeset with two parents, from this one along first parents, itself counted. It is kept,
+    /// so that none is gone through.
+    pub fn nearest_merge(&self, number: u32) -> Option<u32>
+        requires { number < length self.now.known }
+        ensures nearest { result ≡ nearest_merge_at self.now.known number }
+        ensures ancestor { IfSome result (λ m. IsAncestor self.now.known m number) }
+        ensures earlier { IfSome result (λ m. m ≤ number) }
+        ensures merge { IfSome result (λ m. is_merge (changeset_at self.now.known m) ≡ true) }
+        // Of what follows an ancestor none has two parents, unless it came after that ancestor.
+        ensures no_other { (above : ℕ) → IsAncestor self.now.known above number → IfSome result (λ m. m ≤ above) → find is_merge (following_at self.now.known above number) ≡ None }
+        // An ancestor that came before it is one of its own.
+        ensures between { IfSome result (λ m. (above : ℕ) → IsAncestor self.now.known above number → above < m → IsBetween self.now.known above m number) }
+    {
+        self.merges[number as usize]
+    }
+
     /// The number of the changeset that 2^exponent changesets of a chain follow up to its last, or `None` where the chain is
     /// no longer than that. It reads one ancestor, and goes through none.
     pub fn jump(&self, last: u32, exponent: u32) -> Option<u32>
@@ -270,6 +319,7 @@ impl ChangesetStore {
     pub fn previous(&self, ancestor: u32, last: u32) -> Option<u32>
         requires { IsAncestor self.now.known ancestor last }
         ensures none { IfNone result (following_at self.now.known ancestor last ≡ []) }
+        ensures itself { IfNone result (ancestor ≡ last) }
         ensures ancestor { IfSome result (λ p. IsAncestor self.now.known ancestor p) }
         ensures earlier { IfSome result (λ p. p < last) }
         ensures newest { IfSome result (λ p. following_at self.now.known ancestor last ≡ following_at self.now.known ancestor p ++ changeset_at self.now.known last ∷ []) }

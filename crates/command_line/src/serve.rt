@@ -213,11 +213,19 @@ where
         served,
     } = closing;
     let (accept, faulted) = accept.into_parts();
-    Left {
-        state,
-        accept,
-        served,
-        faulted,
+    match state {
+        Some(state) => Left {
+            state: Some(state),
+            accept,
+            served,
+            faulted,
+        },
+        None => Left {
+            state: None,
+            accept,
+            served,
+            faulted,
+        },
     }
 }
 

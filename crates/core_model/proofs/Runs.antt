@@ -14,7 +14,7 @@ use Rattle.history_model.specs.Journal.{payload_len, record_len, size, is_full, 
 use Rattle.manifest_model.specs.Fsnode.{fsnode, fsnode_bytes}
 use Rattle.manifest_model.specs.Unode.{Unode, Manifest, FileUnode, UnodeFile, UnodeDir, unode, unode_id, unode_bytes}
 use Rattle.policy_model.specs.Examples.{ann_policy}
-use Rattle.reply_model.specs.Reply.{SetPolicy, ChangesetPut, NoBookmark, NoChangeset, NoRoot, Merge, BadEncoding, Down, ContentPut, PutContent, PutChangeset, SetBookmark, LandDraft, BookmarkSet, Landed, judge, NoParent, NoContent, WrongSize, Moved, AlreadyIn, Clash, Full, SeenIds, NoPath, seen_history}
+use Rattle.reply_model.specs.Reply.{SetPolicy, ChangesetPut, NoBookmark, NoChangeset, NoRoot, BadEncoding, Down, ContentPut, PutContent, PutChangeset, SetBookmark, LandDraft, BookmarkSet, Landed, judge, NoParent, NoContent, WrongSize, Moved, AlreadyIn, Clash, Full, SeenIds, NoPath, seen_history}
 use Rattle.reply_model.specs.Legal.{IsLegal}
 use Rattle.reply_model.specs.Opening.{nobody, opens, NotARepository, Damaged}
 use Rattle.manifest_model.specs.FileHistory.{file_history}
@@ -347,10 +347,9 @@ refusals : map (judge (record { capacity = 65536; version = First }) (starting B
     ∷ LandDraft nobody main (sha256 []) 0
     ∷ LandDraft nobody main (id_of (by_a [] (delete (codes "z") ∷ []))) 0
     ∷ SetBookmark nobody main (Some (id_of B)) (Some (sha256 []))
-    ∷ PutChangeset (spelling (by_a (id_of B ∷ id_of X ∷ []) []))
     ∷ PutChangeset (0x44 ∷ [])
     ∷ [])
-    ≡ Err NoBookmark ∷ Err (NoChangeset (sha256 [])) ∷ Err NoRoot ∷ Err (NoChangeset (sha256 [])) ∷ Err Merge ∷ Err (BadEncoding 0) ∷ []
+    ≡ Err NoBookmark ∷ Err (NoChangeset (sha256 [])) ∷ Err NoRoot ∷ Err (NoChangeset (sha256 [])) ∷ Err (BadEncoding 0) ∷ []
 unfolding is_utf8 chars lib.Utf8.encode sha256 digest_bytes hash_after compress rounds schedule first_words
 refusals = refl
 

@@ -1,34 +1,43 @@
 -- A derivation from its directories.
-use Rattle.std.proofs.Common.{◌≡◌, ◌⊎◌, inl, inr, ℕ, Bool, true, false, ◌||◌, List, [], ◌∷◌, ◌++◌, length, reverse, refl, sym, ap, subst, ◌∙◌, arith, append-nil}
-use Rattle.std.specs.Prelude.{Contains, flat_map, Option, None, Some, option_map, ◌==◌}
+use Rattle.std.proofs.Common.{◌≡◌, ◌⊎◌, inl, inr, ℕ, Bool, true, false, cond, not, ◌&&◌, ◌||◌, List, [], ◌∷◌, ◌++◌, length, reverse, refl, sym, ap, subst, ◌∙◌, arith, append-nil}
+use Rattle.std.specs.Prelude.{Contains, flat_map, bytes_eq, Option, None, Some, option_map, ◌==◌}
+use mathlib.Core.Bool.{true≢false}
 use mathlib.Core.List.{reverse-cons}
 use Rattle.std.specs.List.{AllByRecursion, list_any}
 use Rattle.std.specs.List.Sorted.{IsStrictlySortedBy}
 use Rattle.std.specs.Arc.{arc_value}
 use Rattle.std.specs.BTreeMap.{BTreeMap, get}
-use Rattle.std.specs.BTreeSet.{BTreeSet}
-use Rattle.std.proofs.lemmas.Bool.{ne_eqb}
+use Rattle.std.specs.BTreeSet.{BTreeSet, contains}
+use Rattle.std.proofs.lemmas.Bool.{ne_eqb, false_from_ne_true, or_left, or_right}
 use Rattle.std.proofs.lemmas.List.{length-append}
 use Rattle.std.proofs.lemmas.Grind.{flat_map-append}
+use Rattle.byte_fields.specs.Bytes.{Id}
+use Rattle.byte_fields.proofs.Booleans.{and_false, or_false}
 use Rattle.changeset_model.specs.Path.{Path, path_cmp, is_strict_prefix}
 use Rattle.changeset_model.specs.Changeset.{Changeset}
-use Rattle.byte_fields.specs.Bytes.{Id}
 use Rattle.history_model.specs.History.{Known}
-use Rattle.history_model.specs.Past.{Begin, past_on}
-use Rattle.manifest_model.specs.Unode.{is_renewed}
+use Rattle.history_model.specs.Past.{Past, Begin, At}
+use Rattle.manifest_model.specs.Unode.{is_renewed, unode_id}
+use Rattle.manifest_model.specs.Merged.{unode_at}
+use Rattle.manifest_model.proofs.Derivations.{or_case as or_either}
+use Rattle.merge_laws.specs.Joined.{dirs_differ}
+use Rattle.merge_laws.specs.Resolved.{has_dir}
 use Rattle.deleted_step.specs.declared.done.Done.{Done as DeletedDone}
 use Rattle.deleted_step.specs.Steps.{AreGiven, IsDoneOf as AreDeletedOf, root_on}
 use Rattle.derive_step.specs.declared.job.DirIds.{DirIds}
 use Rattle.derive_step.specs.declared.job.DirNodes.{DirNodes}
 use Rattle.derive_step.specs.declared.job.Job.{Job}
+use Rattle.derive_step.specs.declared.job.Parent.{Parent}
 use Rattle.derive_step.specs.declared.done.Done.{Done}
 use Rattle.derive_step.specs.declared.made.Made.{Made}
-use Rattle.derive_step.specs.Views.{before_seen, first_of, nodes_before, roots_before, held_in}
-use Rattle.derive_step.specs.Jobs.{IsJobOf, IsDoneOf, all_nodes_on, roots_on}
-use Rattle.derive_step.specs.Renewal.{dir_nodes, ids_at, AreBefore, AreTouched, AreRenewed, IsDue, IsMadeUnder}
-use Rattle.derive_step.proofs.Gone.{above_any, renewed_there, above_some}
+use Rattle.derive_step.specs.Views.{are_apart, are_held_apart, before_seen, first_of, held_in, nodes_before, roots_before, second_of}
+use Rattle.derive_step.specs.Pasts.{IsDoneAt, IsJobAt, all_nodes_of, is_touched, nodes_in_past, nodes_of, roots_of}
+use Rattle.derive_step.specs.Touched.{differ_in, is_above}
+use Rattle.derive_step.specs.Renewal.{AreBefore, ArePutFor, AreRenewed, AreTouched, IsDue, IsMadeUnder, dir_nodes, ids_at, is_gone_through}
+use Rattle.derive_step.proofs.Gone.{above_any, above_some, put_more, touched_under, under_any}
+use Rattle.derive_step.proofs.Lines.{none_differ}
 use Rattle.derive_step.proofs.Members.{Has, any_has, has_left, has_right}
-use Rattle.derive_step.proofs.AllNodes.{all_right, all_whole}
+use Rattle.derive_step.proofs.PastNodes.{all_right, all_whole}
 use Rattle.derive_step.proofs.Few.{few_put}
 
 has_reverse : (xs : List Path) (x : Path) → Has xs x → Has (reverse xs) x
@@ -36,68 +45,106 @@ has_reverse [] x h = absurd h
 has_reverse (y ∷ xs) x (inl e) = subst (λ ys. Has ys x) (sym (reverse-cons y xs)) (has_right (reverse xs) (y ∷ []) x (inl e))
 has_reverse (y ∷ xs) x (inr h) = subst (λ ys. Has ys x) (sym (reverse-cons y xs)) (has_left (reverse xs) (y ∷ []) x (has_reverse xs x h))
 
-under_root : (b c : Bool) → b ≡ false → (b || c) ≡ true → c ≡ true
-under_root true c none h = absurd (cc)
-under_root false c none h = h
+-- both parents' nodes of a directory differ where the definitions' do
+apart_is : (first second : Past) (d : Path) → are_apart (nodes_of first d) (nodes_of second d) ≡ dirs_differ first second d
+apart_is first second d = by (has_dir first d) (has_dir second d)
+  where
+    by : (a b : Bool) → are_apart (cond a (Some (nodes_in_past first d)) None) (cond b (Some (nodes_in_past second d)) None) ≡ (a && (b && not (bytes_eq (unode_id (unode_at first d)) (unode_id (unode_at second d)))))
+    by true true = refl
+    by true false = refl
+    by false b = refl
 
-module _ (c : Known) (older : List Known) (job : Job) (of : IsJobOf c older job) where
-  pub is_due : (commit : Changeset) → commit ≡ arc_value job.commit → IsDue c older commit
-  is_due commit is = record { right = of.right; changeset = is ∙ of.changeset; id = of.id }
+module _ (c : Known) (first second : Past) (job : Job) (of : IsJobAt c first second job) where
+  pub is_due : (commit : Changeset) → commit ≡ arc_value job.commit → IsDue c first second commit
+  is_due commit is = record { sound = of.sound; changeset = is ∙ of.changeset; id = of.id }
 
-  pub are_before : (dirs : BTreeMap Path DirNodes) → ((n : List ℕ) (d : Path) → option_map before_seen (get path_cmp dirs (n ∷ d)) ≡ nodes_before (first_of job.parents) (n ∷ d)) → AreBefore c older dirs
-  are_before dirs told [] some renewed = absurd (omega arith)
-  are_before dirs told (n ∷ d) some renewed = told n d ∙ of.nodes (n ∷ d) renewed
+  pub are_before : (past : Past) (parent : Option Parent) (dirs : BTreeMap Path DirNodes) → ((n : List ℕ) (d : Path) → option_map before_seen (get path_cmp dirs (n ∷ d)) ≡ nodes_before parent (n ∷ d))
+      → ((d : Path) → is_touched c first second d ≡ true → nodes_before parent d ≡ nodes_of past d) → AreBefore c first second past dirs
+  are_before past parent dirs told nodes [] some touched = absurd (omega arith)
+  are_before past parent dirs told nodes (n ∷ d) some touched = told n d ∙ nodes (n ∷ d) touched
 
-  pub deleted_given : (x : Id) (top : Option Id) → x ≡ c.id → top ≡ option_map (λ r. r.deleted) (roots_before (first_of job.parents)) → AreGiven (held_in job.deletions.nodes) top c (past_on older) Begin x job.deletions.gone.items job.deletions.come.items
-  deleted_given x top id is = record { id = id; root = is ∙ ap (option_map (λ r. r.deleted)) of.roots ∙ root_is older; held = of.held; files = of.files }
+  pub deleted_given : (x : Id) (top : Option Id) → x ≡ c.id → top ≡ option_map (λ r. r.deleted) (roots_before (first_of job.parents)) → AreGiven (held_in job.deletions.nodes) top c first second x job.deletions.gone.items job.deletions.come.items
+  deleted_given x top id is = record { id = id; root = is ∙ ap (option_map (λ r. r.deleted)) of.first_roots ∙ root_is first; held = of.held; files = of.files }
     where
-      root_is : (ks : List Known) → option_map (λ r. r.deleted) (roots_on ks) ≡ root_on (past_on ks)
-      root_is [] = refl
-      root_is (k ∷ ks) = refl
+      root_is : (past : Past) → option_map (λ r. r.deleted) (roots_of past) ≡ root_on past
+      root_is Begin = refl
+      root_is (At k p q) = refl
 
-module _ (c : Known) (older : List Known) (job : Job) (of : IsJobOf c older job) (dirs : BTreeSet Path) (touched : AreTouched c dirs) where
+  held_is : (d : Path) → are_held_apart (first_of job.parents) (second_of job.parents) d ≡ dirs_differ first second d
+  held_is d = by (dirs_differ first second d) refl
+    where
+      by : (b : Bool) → dirs_differ first second d ≡ b → are_held_apart (first_of job.parents) (second_of job.parents) d ≡ dirs_differ first second d
+      by true e =
+          let touched = or_right (is_renewed c.changeset d) (dirs_differ first second d) e in
+          (λ i. are_apart (of.first_nodes d touched i) (of.second_nodes d touched i)) ∙ apart_is first second d
+      by false e = false_from_ne_true (are_held_apart (first_of job.parents) (second_of job.parents) d) (λ h. true≢false (sym (of.differ d h) ∙ e)) ∙ sym e
+
+  pub are_touched : (dirs above : BTreeSet Path) (one two : BTreeMap Path DirNodes)
+      → ((n : List ℕ) (d : Path) → option_map before_seen (get path_cmp one (n ∷ d)) ≡ nodes_before (first_of job.parents) (n ∷ d))
+      → ((n : List ℕ) (d : Path) → option_map before_seen (get path_cmp two (n ∷ d)) ≡ nodes_before (second_of job.parents) (n ∷ d))
+      → ((p : Path) → contains path_cmp above p ≡ list_any (λ e. is_above p e.0) c.changeset.changes)
+      → ((p : Path) → contains path_cmp dirs p ≡ (contains path_cmp above p || (not (length p == 0) && differ_in one two p))) → AreTouched c first second dirs
+  are_touched dirs above one two first_told second_told edits all p = all p ∙ (λ i. edits p i || differ p i)
+    where
+      differ : (p : Path) → (not (length p == 0) && differ_in one two p) ≡ (not (length p == 0) && dirs_differ first second p)
+      differ [] = refl
+      differ (n ∷ d) = ap (λ b. not (length (n ∷ d) == 0) && b) ((λ i. are_apart (first_told n d i) (second_told n d i)) ∙ held_is (n ∷ d))
+
+module _ (c : Known) (first second : Past) (job : Job) (of : IsJobAt c first second job) (dirs : BTreeSet Path) (touched : AreTouched c first second dirs) where
   abbrev ds : List Path
   ds = reverse dirs.keys ++ [] ∷ []
 
-  abbrev put : List (List ℕ)
-  put = flat_map (dir_nodes c older) ds
-
   -- what is under the root was gone through
-  pub under_root_made : (made : BTreeMap Path Made) (had mid : List (List ℕ)) → AreRenewed c older dirs made had mid → IsMadeUnder c older made []
-  under_root_made made had mid renewed n h = renewed.noted (n ∷ []) (touched (n ∷ []) ∙ above_any (n ∷ []) c.changeset.changes (omega arith) h)
+  pub under_root_made : (made : BTreeMap Path Made) (had mid : List (List ℕ)) → AreRenewed c first second dirs made had mid → IsMadeUnder c first second made []
+  under_root_made made had mid renewed n h = renewed.noted (n ∷ []) (touched_under c first second dirs touched had [] n h)
 
-  inside : (d : Path) → is_renewed c.changeset d ≡ true → Has ds d
+  inside : (d : Path) → is_touched c first second d ≡ true → Has ds d
   inside [] h = has_right (reverse dirs.keys) ([] ∷ []) [] (inl refl)
-  inside (e ∷ d) h =
-      has_left (reverse dirs.keys) ([] ∷ []) (e ∷ d) (has_reverse dirs.keys (e ∷ d) (any_has dirs.keys (e ∷ d) (
-      touched (e ∷ d) ∙ above_any (e ∷ d) c.changeset.changes (omega arith) (under_root (length (e ∷ d) == 0) (list_any (λ x. is_strict_prefix (e ∷ d) x.0) c.changeset.changes) (ne_eqb (length (e ∷ d)) 0 (λ z. absurd (omega arith))) h))))
+  inside (e ∷ d) h = has_left (reverse dirs.keys) ([] ∷ []) (e ∷ d) (has_reverse dirs.keys (e ∷ d) (any_has dirs.keys (e ∷ d) (touched (e ∷ d) ∙ through h)))
+    where
+      deep : (length (e ∷ d) == 0) ≡ false
+      deep = ne_eqb (length (e ∷ d)) 0 (λ z. absurd (omega arith))
+
+      through : is_touched c first second (e ∷ d) ≡ true → is_gone_through c first second (e ∷ d) ≡ true
+      through h = or_either (is_renewed c.changeset (e ∷ d)) (dirs_differ first second (e ∷ d))
+          (λ g. or_left (list_any (λ x. is_above (e ∷ d) x.0) c.changeset.changes) (not (length (e ∷ d) == 0) && dirs_differ first second (e ∷ d)) (above_any (e ∷ d) c.changeset.changes (omega arith) (sym (ap (λ b. b || list_any (λ x. is_strict_prefix (e ∷ d) x.0) c.changeset.changes) deep) ∙ g)))
+          (λ g. or_right (list_any (λ x. is_above (e ∷ d) x.0) c.changeset.changes) (not (length (e ∷ d) == 0) && dirs_differ first second (e ∷ d)) (λ i. not (deep i) && g i)) h
 
   abbrev paths : List Path
   paths = job.deletions.gone.items ++ job.deletions.come.items
 
-  pub done_of : (done : Done) (made : BTreeMap Path Made) (had mid : List (List ℕ)) (ids : DirIds) (new : DeletedDone) → IsStrictlySortedBy path_cmp dirs.keys → done.number ≡ job.number → done.first ≡ roots_before (first_of job.parents) → done.second ≡ None → had ≡ [] → AreRenewed c older dirs made had mid
-      → ids ≡ ids_at (c ∷ older) [] → AreDeletedOf (past_on older) (past_on (c ∷ older)) paths new → done.roots ≡ record { fsnode = ids.fsnode; unode = ids.unode; deleted = new.root } → done.nodes.items ≡ (mid ++ dir_nodes c older []) ++ new.nodes.items → IsDoneOf c older job done
-  done_of done made had mid ids new ordered number first second none renewed same deleted roots nodes = record {
+  -- with one parent alone, the directories are those above the change paths
+  one_through : second ≡ Begin → (p : Path) → list_any (λ e. is_above p e.0) c.changeset.changes ≡ contains path_cmp dirs p
+  one_through none p = sym (
+      touched p
+      ∙ ap (λ past. is_gone_through c first past p) none
+      ∙ ap (λ b. list_any (λ e. is_above p e.0) c.changeset.changes || (not (length p == 0) && b)) (none_differ first p)
+      ∙ ap (λ b. list_any (λ e. is_above p e.0) c.changeset.changes || b) (and_false (not (length p == 0)))
+      ∙ or_false (list_any (λ e. is_above p e.0) c.changeset.changes))
+
+  pub done_of : (done : Done) (made : BTreeMap Path Made) (had mid put : List (List ℕ)) (ids : DirIds) (new : DeletedDone) → IsStrictlySortedBy path_cmp dirs.keys → done.number ≡ job.number → done.first ≡ roots_before (first_of job.parents) → done.second ≡ roots_before (second_of job.parents) → had ≡ [] → AreRenewed c first second dirs made had mid
+      → ids ≡ ids_at (At c first second) [] → ArePutFor c first second ([] ∷ []) mid put → AreDeletedOf first (At c first second) paths new → done.roots ≡ record { fsnode = ids.fsnode; unode = ids.unode; deleted = new.root } → done.nodes.items ≡ put ++ new.nodes.items → IsDoneAt c first second job done
+  done_of done made had mid put ids new ordered number one two none renewed same root deleted roots nodes = record {
     number = number;
-    first = first ∙ of.roots;
-    second = second;
+    first_roots = one ∙ of.first_roots;
+    second_roots = two ∙ of.second_roots;
     roots = ap Some (roots ∙ (λ i. record { fsnode = (same i).fsnode; unode = (same i).unode; deleted = deleted.root i }));
-    right = subst (AllByRecursion (Contains (all_nodes_on (c ∷ older)))) (sym are_put) (all_right c older of.right ds inside paths new deleted);
-    whole = λ n h. found n (all_whole c older of.right ds inside paths new deleted n h);
-    few = (
-        let same = ap length are in
-        let both = length-append (flat_map (dir_nodes c older) (reverse dirs.keys) ++ dir_nodes c older []) new.nodes.items in
-        let most = few_put c older dirs.keys ordered (λ p h. (above_some p c.changeset.changes (sym (touched p) ∙ h), renewed_there c older dirs touched had p h)) in
+    right = subst (AllByRecursion (Contains (all_nodes_of (At c first second)))) (sym are) (all_right c first second of.sound ds all.more inside all.whole all.right paths new deleted);
+    whole = λ n h. found n (all_whole c first second of.sound ds all.more inside all.whole all.right paths new deleted n h);
+    few = λ alone. (
+        let same = ap length (are ∙ ap (λ ns. ns ++ new.nodes.items) (all.alone alone ∙ flat_map-append (dir_nodes c first second) (reverse dirs.keys) ([] ∷ []) ∙ ap (λ ns. flat_map (dir_nodes c first second) (reverse dirs.keys) ++ ns) (append-nil (dir_nodes c first second [])))) in
+        let both = length-append (flat_map (dir_nodes c first second) (reverse dirs.keys) ++ dir_nodes c first second []) new.nodes.items in
+        let most = few_put c first second dirs.keys ordered (λ p h. (let above = one_through alone p ∙ h in (above_some p c.changeset.changes above, or_right (length p == 0) (list_any (λ e. is_strict_prefix p e.0) c.changeset.changes) (under_any p c.changeset.changes above)))) in
         let more = deleted.few in
         omega (arith, same, both, most, more));
   }
     where
-      are : done.nodes.items ≡ (flat_map (dir_nodes c older) (reverse dirs.keys) ++ dir_nodes c older []) ++ new.nodes.items
-      are = nodes ∙ ap (λ ns. (ns ++ dir_nodes c older []) ++ new.nodes.items) (renewed.nodes ∙ ap (λ ns. ns ++ flat_map (dir_nodes c older) (reverse dirs.keys)) none)
+      all : ArePutFor c first second ds had put
+      all = put_more c first second (reverse dirs.keys) ([] ∷ []) had mid put renewed.nodes root
 
-      are_put : done.nodes.items ≡ put ++ new.nodes.items
-      are_put = are ∙ ap (λ ns. ns ++ new.nodes.items) (ap (λ ns. flat_map (dir_nodes c older) (reverse dirs.keys) ++ ns) (sym (append-nil (dir_nodes c older []))) ∙ sym (flat_map-append (dir_nodes c older) (reverse dirs.keys) ([] ∷ [])))
+      are : done.nodes.items ≡ all.more ++ new.nodes.items
+      are = nodes ∙ ap (λ ns. ns ++ new.nodes.items) (all.nodes ∙ ap (λ ns. ns ++ all.more) none)
 
-      found : (n : List ℕ) → Contains (put ++ new.nodes.items) n ⊎ Contains (all_nodes_on older) n → Contains done.nodes.items n ⊎ Contains (all_nodes_on older) n
-      found n (inl h) = inl (subst (λ ns. Contains ns n) (sym are_put) h)
+      found : (n : List ℕ) → Contains (all.more ++ new.nodes.items) n ⊎ (Contains (all_nodes_of first) n ⊎ Contains (all_nodes_of second) n) → Contains done.nodes.items n ⊎ (Contains (all_nodes_of first) n ⊎ Contains (all_nodes_of second) n)
+      found n (inl h) = inl (subst (λ ns. Contains ns n) (sym are) h)
       found n (inr h) = inr h

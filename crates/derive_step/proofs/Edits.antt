@@ -13,10 +13,9 @@ use Rattle.changeset_model.specs.Changeset.{File, FileChange, Set, Delete}
 use Rattle.manifest_laws.proofs.Names.{same_name}
 use Rattle.manifest_laws.proofs.Changes.{prefix_itself}
 use Rattle.manifest_laws.proofs.Flat.{strict_parts, strict_from}
-use Rattle.manifest_laws.specs.EntryEdits.{without_dir, edited, renewed, after_edit, after_edits}
 use Rattle.manifest_laws.proofs.Seen.{one_more, outside_at, outside_under, here_at, here_under, under_at, under_under}
 use Rattle.tree_fold.proofs.Texts.{drop-front}
-use Rattle.derive_step.specs.Walk.{after, all_nodes, name_in, nodes_at, nodes_by, nodes_of, sole}
+use Rattle.derive_step.specs.Walk.{Sides, after, after_edit, after_edits, all_nodes, edited, name_in, nodes_at, nodes_by, nodes_of, renewed, sole, without_dir}
 use Rattle.derive_step.specs.Slices.{edits_in, past, IsChild, left_after}
 
 -- ---- an edit, seen from a directory
@@ -62,83 +61,85 @@ in_twice d (e ∷ es) = by (in_twice d es) (is_strict_prefix d e.0) refl
     by ih true h = ap (λ b. cond b (e ∷ edits_in d (edits_in d es)) (edits_in d (edits_in d es))) h ∙ ap (λ q. e ∷ q) ih
     by ih false h = ih
 
-module _ {E : Type 0} (set_at : Path → Option E → File → E) (is_file : E → Bool) where
-  abbrev after_at : (made : Path → Option E) → Path → List ℕ → Path × FileChange → Option E → Option E
+-- ---- edits under one directory leave what the first leaves
+
+without_twice : {E : Type 0} (is_file : E → Bool) (o : Option E) → without_dir is_file (without_dir is_file o) ≡ without_dir is_file o
+without_twice is_file None = refl
+without_twice {E} is_file (Some e) = by (is_file e) refl
+  where
+    by : (b : Bool) → is_file e ≡ b → without_dir is_file (cond b (Some e) None) ≡ cond b (Some e) None
+    by true h = ap (λ b. cond b (Some e) None) h
+    by false h = refl
+
+pub renewed_twice : {E : Type 0} (is_file : E → Bool) (m : Option E) (s : Sides E) → renewed m is_file (renewed m is_file s) ≡ renewed m is_file s
+renewed_twice is_file None s = λ i. (without_twice is_file s.0 i, without_twice is_file s.1 i)
+renewed_twice is_file (Some m) s = refl
+
+module _ {E : Type 0} (set_at : Path → Sides E → File → E) (is_file : E → Bool) where
+  abbrev after_at : (made : Path → Option E) → Path → List ℕ → Path × FileChange → Sides E → Sides E
   after_at made d n e o = after_edit (set_at (d ++ n ∷ [])) (made (d ++ n ∷ [])) is_file (d ++ n ∷ []) e o
 
-  pub outside_edit : (made : Path → Option E) (d q : Path) (m : List ℕ) (change : FileChange) (o : Option E) → is_strict_prefix d q ≡ false → o ≡ after_at made d m (q, change) o
+  pub outside_edit : (made : Path → Option E) (d q : Path) (m : List ℕ) (change : FileChange) (o : Sides E) → is_strict_prefix d q ≡ false → o ≡ after_at made d m (q, change) o
   outside_edit made d q m change o h =
-      sym (λ i. cond (outside_at d q m h i) (edited (set_at (d ++ m ∷ [])) (made (d ++ m ∷ [])) is_file change o) (cond (outside_under d q m h i) (renewed (set_at (d ++ m ∷ [])) (made (d ++ m ∷ [])) is_file o) o))
+      sym (λ i. cond (outside_at d q m h i) (edited (set_at (d ++ m ∷ [])) is_file change o) (cond (outside_under d q m h i) (renewed (made (d ++ m ∷ [])) is_file o) o))
 
-  here_edit : (made : Path → Option E) (d q : Path) (m n : List ℕ) (change : FileChange) (f : List ℕ → Option E) (o : Option E) → q ≡ d ++ m ∷ [] → ((x : Option E) → o ≡ edited (set_at (d ++ m ∷ [])) x is_file change (f m))
+  here_edit : (made : Path → Option E) (d q : Path) (m n : List ℕ) (change : FileChange) (f : List ℕ → Sides E) (o : Sides E) → q ≡ d ++ m ∷ [] → o ≡ edited (set_at (d ++ m ∷ [])) is_file change (f m)
       → cond (eq_by_cmp (slice_cmp nat_cmp) m n) o (f n) ≡ after_at made d n (q, change) (f n)
   here_edit made d q m n change f o e right =
       by (eq_by_cmp (slice_cmp nat_cmp) m n) refl
-      ∙ sym (λ i. cond ((here_at d q m n e ∙ name_swap n m) i) (edited (set_at (d ++ n ∷ [])) (made (d ++ n ∷ [])) is_file change (f n)) (cond (here_under d q m n e i) (renewed (set_at (d ++ n ∷ [])) (made (d ++ n ∷ [])) is_file (f n)) (f n)))
+      ∙ sym (λ i. cond ((here_at d q m n e ∙ name_swap n m) i) (edited (set_at (d ++ n ∷ [])) is_file change (f n)) (cond (here_under d q m n e i) (renewed (made (d ++ n ∷ [])) is_file (f n)) (f n)))
     where
-      by : (b : Bool) → eq_by_cmp (slice_cmp nat_cmp) m n ≡ b → cond b o (f n) ≡ cond b (edited (set_at (d ++ n ∷ [])) (made (d ++ n ∷ [])) is_file change (f n)) (f n)
-      by true t = right (made (d ++ n ∷ [])) ∙ ap (λ x. edited (set_at (d ++ x ∷ [])) (made (d ++ n ∷ [])) is_file change (f x)) (tied_name m n t)
+      by : (b : Bool) → eq_by_cmp (slice_cmp nat_cmp) m n ≡ b → cond b o (f n) ≡ cond b (edited (set_at (d ++ n ∷ [])) is_file change (f n)) (f n)
+      by true t = right ∙ ap (λ x. edited (set_at (d ++ x ∷ [])) is_file change (f x)) (tied_name m n t)
       by false t = refl
 
-  under_edit : (made : Path → Option E) (d q : Path) (m n : List ℕ) (e : List ℕ) (r : Path) (change : FileChange) (f : List ℕ → Option E) (o : Option E) → q ≡ d ++ m ∷ e ∷ r → o ≡ renewed (set_at (d ++ m ∷ [])) (made (d ++ m ∷ [])) is_file (f m)
+  under_edit : (made : Path → Option E) (d q : Path) (m n : List ℕ) (e : List ℕ) (r : Path) (change : FileChange) (f : List ℕ → Sides E) (o : Sides E) → q ≡ d ++ m ∷ e ∷ r → o ≡ renewed (made (d ++ m ∷ [])) is_file (f m)
       → cond (eq_by_cmp (slice_cmp nat_cmp) m n) o (f n) ≡ after_at made d n (q, change) (f n)
   under_edit made d q m n e r change f o h right =
       by (eq_by_cmp (slice_cmp nat_cmp) m n) refl
-      ∙ sym (λ i. cond (under_at d q r e m n h i) (edited (set_at (d ++ n ∷ [])) (made (d ++ n ∷ [])) is_file change (f n)) (cond ((under_under d q r e m n h ∙ name_swap n m) i) (renewed (set_at (d ++ n ∷ [])) (made (d ++ n ∷ [])) is_file (f n)) (f n)))
+      ∙ sym (λ i. cond (under_at d q r e m n h i) (edited (set_at (d ++ n ∷ [])) is_file change (f n)) (cond ((under_under d q r e m n h ∙ name_swap n m) i) (renewed (made (d ++ n ∷ [])) is_file (f n)) (f n)))
     where
-      by : (b : Bool) → eq_by_cmp (slice_cmp nat_cmp) m n ≡ b → cond b o (f n) ≡ cond b (renewed (set_at (d ++ n ∷ [])) (made (d ++ n ∷ [])) is_file (f n)) (f n)
-      by true t = right ∙ ap (λ x. renewed (set_at (d ++ x ∷ [])) (made (d ++ x ∷ [])) is_file (f x)) (tied_name m n t)
+      by : (b : Bool) → eq_by_cmp (slice_cmp nat_cmp) m n ≡ b → cond b o (f n) ≡ cond b (renewed (made (d ++ n ∷ [])) is_file (f n)) (f n)
+      by true t = right ∙ ap (λ x. renewed (made (d ++ x ∷ [])) is_file (f x)) (tied_name m n t)
       by false t = refl
 
   -- ---- edits elsewhere leave the entry
 
-  abbrev pub after_all : (made : Path → Option E) → Path → List ℕ → List (Path × FileChange) → Option E → Option E
+  abbrev pub after_all : (made : Path → Option E) → Path → List ℕ → List (Path × FileChange) → Sides E → Sides E
   after_all made d n es o = after_edits (set_at (d ++ n ∷ [])) (made (d ++ n ∷ [])) is_file (d ++ n ∷ []) es o
 
-  in_dir : (made : Path → Option E) (d : Path) (n : List ℕ) (es : List (Path × FileChange)) (o : Option E) → after_all made d n (edits_in d es) o ≡ after_all made d n es o
+  in_dir : (made : Path → Option E) (d : Path) (n : List ℕ) (es : List (Path × FileChange)) (o : Sides E) → after_all made d n (edits_in d es) o ≡ after_all made d n es o
   in_dir made d n [] o = refl
   in_dir made d n (e ∷ es) o = by (in_dir made d n es) (is_strict_prefix d e.0) refl
     where
-      by : ((o : Option E) → after_all made d n (edits_in d es) o ≡ after_all made d n es o) → (b : Bool) → is_strict_prefix d e.0 ≡ b → after_all made d n (cond b (e ∷ edits_in d es) (edits_in d es)) o ≡ after_all made d n es (after_at made d n e o)
+      by : ((o : Sides E) → after_all made d n (edits_in d es) o ≡ after_all made d n es o) → (b : Bool) → is_strict_prefix d e.0 ≡ b → after_all made d n (cond b (e ∷ edits_in d es) (edits_in d es)) o ≡ after_all made d n es (after_at made d n e o)
       by ih true under = ih (after_at made d n e o)
       by ih false out = ih o ∙ ap (after_all made d n es) (outside_edit made d e.0 n e.1 o out)
 
-  pub same_in : (made : Path → Option E) (d : Path) (n : List ℕ) (es fs : List (Path × FileChange)) (o : Option E) → edits_in d es ≡ edits_in d fs → after_all made d n es o ≡ after_all made d n fs o
+  pub same_in : (made : Path → Option E) (d : Path) (n : List ℕ) (es fs : List (Path × FileChange)) (o : Sides E) → edits_in d es ≡ edits_in d fs → after_all made d n es o ≡ after_all made d n fs o
   same_in made d n es fs o e = sym (in_dir made d n es o) ∙ ap (λ q. after_all made d n q o) e ∙ in_dir made d n fs o
 
   -- ---- edits under one directory leave what the first leaves
 
-  without_twice : (s : Option E → File → E) (m o : Option E) → without_dir s m is_file (without_dir s m is_file o) ≡ without_dir s m is_file o
-  without_twice s m None = refl
-  without_twice s m (Some e) = by (is_file e) refl
-    where
-      by : (b : Bool) → is_file e ≡ b → without_dir s m is_file (cond b (Some e) None) ≡ cond b (Some e) None
-      by true h = ap (λ b. cond b (Some e) None) h
-      by false h = refl
+  twice_if : (m : Option E) (o : Sides E) (b : Bool) → cond b (renewed m is_file (cond b (renewed m is_file o) o)) (cond b (renewed m is_file o) o) ≡ cond b (renewed m is_file o) o
+  twice_if m o true = renewed_twice is_file m o
+  twice_if m o false = refl
 
-  renewed_twice : (s : Option E → File → E) (m o : Option E) → renewed s m is_file (renewed s m is_file o) ≡ renewed s m is_file o
-  renewed_twice s None o = without_twice s None o
-  renewed_twice s (Some m) o = refl
-
-  twice_if : (s : Option E → File → E) (m o : Option E) (b : Bool) → cond b (renewed s m is_file (cond b (renewed s m is_file o) o)) (cond b (renewed s m is_file o) o) ≡ cond b (renewed s m is_file o) o
-  twice_if s m o true = renewed_twice s m o
-  twice_if s m o false = refl
-
-  seen_under : (made : Path → Option E) (d q : Path) (m n : List ℕ) (change : FileChange) (o : Option E) → is_strict_prefix (d ++ m ∷ []) q ≡ true
-      → after_at made d n (q, change) o ≡ cond (eq_by_cmp (slice_cmp nat_cmp) n m) (renewed (set_at (d ++ n ∷ [])) (made (d ++ n ∷ [])) is_file o) o
+  seen_under : (made : Path → Option E) (d q : Path) (m n : List ℕ) (change : FileChange) (o : Sides E) → is_strict_prefix (d ++ m ∷ []) q ≡ true
+      → after_at made d n (q, change) o ≡ cond (eq_by_cmp (slice_cmp nat_cmp) n m) (renewed (made (d ++ n ∷ [])) is_file o) o
   seen_under made d q m n change o h =
       let s = under_shape d m q h in
-      λ i. cond (under_at d q s.1 s.0 m n s.2 i) (edited (set_at (d ++ n ∷ [])) (made (d ++ n ∷ [])) is_file change o) (cond (under_under d q s.1 s.0 m n s.2 i) (renewed (set_at (d ++ n ∷ [])) (made (d ++ n ∷ [])) is_file o) o)
+      λ i. cond (under_at d q s.1 s.0 m n s.2 i) (edited (set_at (d ++ n ∷ [])) is_file change o) (cond (under_under d q s.1 s.0 m n s.2 i) (renewed (made (d ++ n ∷ [])) is_file o) o)
 
-  pub again : (made : Path → Option E) (d q r : Path) (m n : List ℕ) (a b : FileChange) (o : Option E) → is_strict_prefix (d ++ m ∷ []) q ≡ true → is_strict_prefix (d ++ m ∷ []) r ≡ true
+  pub again : (made : Path → Option E) (d q r : Path) (m n : List ℕ) (a b : FileChange) (o : Sides E) → is_strict_prefix (d ++ m ∷ []) q ≡ true → is_strict_prefix (d ++ m ∷ []) r ≡ true
       → after_at made d n (r, b) (after_at made d n (q, a) o) ≡ after_at made d n (q, a) o
   again made d q r m n a b o first second =
       seen_under made d r m n b (after_at made d n (q, a) o) second
-      ∙ ap (λ x. cond (eq_by_cmp (slice_cmp nat_cmp) n m) (renewed (set_at (d ++ n ∷ [])) (made (d ++ n ∷ [])) is_file x) x) (seen_under made d q m n a o first)
-      ∙ twice_if (set_at (d ++ n ∷ [])) (made (d ++ n ∷ [])) o (eq_by_cmp (slice_cmp nat_cmp) n m)
+      ∙ ap (λ x. cond (eq_by_cmp (slice_cmp nat_cmp) n m) (renewed (made (d ++ n ∷ [])) is_file x) x) (seen_under made d q m n a o first)
+      ∙ twice_if (made (d ++ n ∷ [])) o (eq_by_cmp (slice_cmp nat_cmp) n m)
       ∙ sym (seen_under made d q m n a o first)
 
-  past_same : (made : Path → Option E) (d q : Path) (m n : List ℕ) (a : FileChange) (o : Option E) → is_strict_prefix (d ++ m ∷ []) q ≡ true → (es : List (Path × FileChange))
+  past_same : (made : Path → Option E) (d q : Path) (m n : List ℕ) (a : FileChange) (o : Sides E) → is_strict_prefix (d ++ m ∷ []) q ≡ true → (es : List (Path × FileChange))
       → after_all made d n (past (d ++ m ∷ []) es) (after_at made d n (q, a) o) ≡ after_all made d n es (after_at made d n (q, a) o)
   past_same made d q m n a o under [] = refl
   past_same made d q m n a o under (e ∷ es) = by (past_same made d q m n a o under es) (is_strict_prefix (d ++ m ∷ []) e.0) refl
@@ -147,7 +148,7 @@ module _ {E : Type 0} (set_at : Path → Option E → File → E) (is_file : E �
       by ih true h = ih ∙ ap (after_all made d n es) (sym (again made d q e.0 m n a e.1 o under h))
       by ih false h = refl
 
-  pub left_same : (made : Path → Option E) (d q : Path) (n : List ℕ) (a : FileChange) (o : Option E) (child : Option Path) → IsChild child d q → (es : List (Path × FileChange))
+  pub left_same : (made : Path → Option E) (d q : Path) (n : List ℕ) (a : FileChange) (o : Sides E) (child : Option Path) → IsChild child d q → (es : List (Path × FileChange))
       → after_all made d n (left_after child es) (after_at made d n (q, a) o) ≡ after_all made d n es (after_at made d n (q, a) o)
   left_same made d q n a o None is es = refl
   left_same made d q n a o (Some c) is es =
@@ -156,10 +157,10 @@ module _ {E : Type 0} (set_at : Path → Option E → File → E) (is_file : E �
 
   -- ---- put into a map
 
-  pub put_here : (g f : List ℕ → Option E) (d q : Path) (m : List ℕ) (change : FileChange) (o : Option E) (made : Path → Option E) → ((n : List ℕ) → g n ≡ cond (eq_by_cmp (slice_cmp nat_cmp) m n) o (f n)) → q ≡ d ++ m ∷ [] → ((x : Option E) → o ≡ edited (set_at (d ++ m ∷ [])) x is_file change (f m)) → (n : List ℕ) → g n ≡ after_at made d n (q, change) (f n)
+  pub put_here : (g f : List ℕ → Sides E) (d q : Path) (m : List ℕ) (change : FileChange) (o : Sides E) (made : Path → Option E) → ((n : List ℕ) → g n ≡ cond (eq_by_cmp (slice_cmp nat_cmp) m n) o (f n)) → q ≡ d ++ m ∷ [] → o ≡ edited (set_at (d ++ m ∷ [])) is_file change (f m) → (n : List ℕ) → g n ≡ after_at made d n (q, change) (f n)
   put_here g f d q m change o made h e right n = h n ∙ here_edit made d q m n change f o e right
 
-  pub put_under : (g f : List ℕ → Option E) (d q : Path) (m : List ℕ) (t : Path) (change : FileChange) (o : Option E) (made : Path → Option E) → ((n : List ℕ) → g n ≡ cond (eq_by_cmp (slice_cmp nat_cmp) m n) o (f n)) → 0 < length t → q ≡ d ++ m ∷ t → o ≡ renewed (set_at (d ++ m ∷ [])) (made (d ++ m ∷ [])) is_file (f m) → (n : List ℕ) → g n ≡ after_at made d n (q, change) (f n)
+  pub put_under : (g f : List ℕ → Sides E) (d q : Path) (m : List ℕ) (t : Path) (change : FileChange) (o : Sides E) (made : Path → Option E) → ((n : List ℕ) → g n ≡ cond (eq_by_cmp (slice_cmp nat_cmp) m n) o (f n)) → 0 < length t → q ≡ d ++ m ∷ t → o ≡ renewed (made (d ++ m ∷ [])) is_file (f m) → (n : List ℕ) → g n ≡ after_at made d n (q, change) (f n)
   put_under g f d q m [] change o made h some is right n = absurd (omega arith)
   put_under g f d q m (e ∷ t) change o made h some is right n = h n ∙ under_edit made d q m n e t change f o is right
 
@@ -175,49 +176,49 @@ name_under d m e r = by (is_strict_prefix d (d ++ m ∷ e ∷ r)) (ap sole (drop
     by true h = h
     by false h = refl
 
-module _ {E : Type 0} (own : Path → Option E → File → List (List ℕ)) (d : Path) where
-  pub here_nodes : (q : Path) (m : List ℕ) (change : FileChange) (o : List ℕ → Option E) (before : Option E) → q ≡ d ++ m ∷ [] → before ≡ o m → nodes_of own q before change ≡ nodes_by own d o (q, change)
+module _ {E : Type 0} (own : Path → Sides E → File → List (List ℕ)) (d : Path) where
+  pub here_nodes : (q : Path) (m : List ℕ) (change : FileChange) (o : List ℕ → Sides E) (before : Sides E) → q ≡ d ++ m ∷ [] → before ≡ o m → nodes_of own q before change ≡ nodes_by own d o (q, change)
   here_nodes q m (Set f copied) o before e is =
       ap (λ b. own q b f) is
       ∙ ap (nodes_at own q f o) (sym (ap (name_in d) e ∙ name_here d m))
   here_nodes q m Delete o before e is = refl
 
-  no_nodes : (q : Path) (m e : List ℕ) (r : Path) (change : FileChange) (o : List ℕ → Option E) → q ≡ d ++ m ∷ e ∷ r → [] ≡ nodes_by own d o (q, change)
+  no_nodes : (q : Path) (m e : List ℕ) (r : Path) (change : FileChange) (o : List ℕ → Sides E) → q ≡ d ++ m ∷ e ∷ r → [] ≡ nodes_by own d o (q, change)
   no_nodes q m e r (Set f copied) o is = ap (nodes_at own q f o) (sym (ap (name_in d) is ∙ name_under d m e r))
   no_nodes q m e r Delete o is = refl
 
-  pub under_nodes : (q : Path) (m : List ℕ) (t : Path) (change : FileChange) (o : List ℕ → Option E) (old : List (List ℕ)) → 0 < length t → q ≡ d ++ m ∷ t → old ≡ old ++ nodes_by own d o (q, change)
+  pub under_nodes : (q : Path) (m : List ℕ) (t : Path) (change : FileChange) (o : List ℕ → Sides E) (old : List (List ℕ)) → 0 < length t → q ≡ d ++ m ∷ t → old ≡ old ++ nodes_by own d o (q, change)
   under_nodes q m [] change o old some is = absurd (omega arith)
   under_nodes q m (e ∷ t) change o old some is = sym (append-nil old) ∙ ap (λ ns. old ++ ns) (no_nodes q m e t change o is)
 
-  pub outside_nodes : (p : Path) (change : FileChange) (o : List ℕ → Option E) → is_strict_prefix d p ≡ false → [] ≡ nodes_by own d o (p, change)
+  pub outside_nodes : (p : Path) (change : FileChange) (o : List ℕ → Sides E) → is_strict_prefix d p ≡ false → [] ≡ nodes_by own d o (p, change)
   outside_nodes p (Set f copied) o out = sym (ap (λ b. nodes_at own p f o (cond b (sole (drop (length d) p)) None)) out)
   outside_nodes p Delete o out = refl
 
 -- ---- edits elsewhere put no nodes of files
 
-module _ {E : Type 0} (set_at : Path → Option E → File → E) (made : Path → Option E) (is_file : E → Bool) (own : Path → Option E → File → List (List ℕ)) (d : Path) where
-  abbrev nodes : List (Path × FileChange) → (List ℕ → Option E) → List (List ℕ)
+module _ {E : Type 0} (set_at : Path → Sides E → File → E) (made : Path → Option E) (is_file : E → Bool) (own : Path → Sides E → File → List (List ℕ)) (d : Path) where
+  abbrev nodes : List (Path × FileChange) → (List ℕ → Sides E) → List (List ℕ)
   nodes es o = all_nodes set_at made is_file own d es o
 
-  abbrev then : (List ℕ → Option E) → Path × FileChange → List ℕ → Option E
+  abbrev then : (List ℕ → Sides E) → Path × FileChange → List ℕ → Sides E
   then o e = after set_at made is_file d (e ∷ []) o
 
-  in_dir_nodes : (es : List (Path × FileChange)) (o : List ℕ → Option E) → nodes (edits_in d es) o ≡ nodes es o
+  in_dir_nodes : (es : List (Path × FileChange)) (o : List ℕ → Sides E) → nodes (edits_in d es) o ≡ nodes es o
   in_dir_nodes [] o = refl
   in_dir_nodes (e ∷ es) o = by (in_dir_nodes es) (is_strict_prefix d e.0) refl
     where
-      by : ((o : List ℕ → Option E) → nodes (edits_in d es) o ≡ nodes es o) → (b : Bool) → is_strict_prefix d e.0 ≡ b → nodes (cond b (e ∷ edits_in d es) (edits_in d es)) o ≡ nodes_by own d o e ++ nodes es (then o e)
+      by : ((o : List ℕ → Sides E) → nodes (edits_in d es) o ≡ nodes es o) → (b : Bool) → is_strict_prefix d e.0 ≡ b → nodes (cond b (e ∷ edits_in d es) (edits_in d es)) o ≡ nodes_by own d o e ++ nodes es (then o e)
       by ih true under = ap (λ ns. nodes_by own d o e ++ ns) (ih (then o e))
       by ih false out =
           ih o
           ∙ ap (nodes es) (λ i n. outside_edit set_at is_file made d e.0 n e.1 (o n) out i)
           ∙ ap (λ ns. ns ++ nodes es (then o e)) (outside_nodes own d e.0 e.1 o out)
 
-  pub same_in_nodes : (es fs : List (Path × FileChange)) (o : List ℕ → Option E) → edits_in d es ≡ edits_in d fs → nodes es o ≡ nodes fs o
+  pub same_in_nodes : (es fs : List (Path × FileChange)) (o : List ℕ → Sides E) → edits_in d es ≡ edits_in d fs → nodes es o ≡ nodes fs o
   same_in_nodes es fs o e = sym (in_dir_nodes es o) ∙ ap (λ q. nodes q o) e ∙ in_dir_nodes fs o
 
-  module _ (q : Path) (a : FileChange) (o : List ℕ → Option E) where
+  module _ (q : Path) (a : FileChange) (o : List ℕ → Sides E) where
     past_nodes : (m : List ℕ) → is_strict_prefix (d ++ m ∷ []) q ≡ true → (es : List (Path × FileChange)) → nodes (past (d ++ m ∷ []) es) (then o (q, a)) ≡ nodes es (then o (q, a))
     past_nodes m under [] = refl
     past_nodes m under (e ∷ es) = by (past_nodes m under es) (is_strict_prefix (d ++ m ∷ []) e.0) refl
@@ -236,7 +237,7 @@ module _ {E : Type 0} (set_at : Path → Option E → File → E) (made : Path �
 
 -- ---- where files have no nodes of their own
 
-none_by : {E : Type 0} (d p : Path) (change : FileChange) (o : List ℕ → Option E) → nodes_by (λ _ _ _. []) d o (p, change) ≡ []
+none_by : {E : Type 0} (d p : Path) (change : FileChange) (o : List ℕ → Sides E) → nodes_by (λ _ _ _. []) d o (p, change) ≡ []
 none_by d p (Set f copied) o = by (name_in d p)
   where
     by : (x : Option (List ℕ)) → nodes_at (λ _ _ _. []) p f o x ≡ []
@@ -244,6 +245,6 @@ none_by d p (Set f copied) o = by (name_in d p)
     by (Some n) = refl
 none_by d p Delete o = refl
 
-pub no_own_nodes : {E : Type 0} (set_at : Path → Option E → File → E) (made : Path → Option E) (is_file : E → Bool) (d : Path) (es : List (Path × FileChange)) (o : List ℕ → Option E) → all_nodes set_at made is_file (λ _ _ _. []) d es o ≡ []
+pub no_own_nodes : {E : Type 0} (set_at : Path → Sides E → File → E) (made : Path → Option E) (is_file : E → Bool) (d : Path) (es : List (Path × FileChange)) (o : List ℕ → Sides E) → all_nodes set_at made is_file (λ _ _ _. []) d es o ≡ []
 no_own_nodes set_at made is_file d [] o = refl
 no_own_nodes set_at made is_file d (e ∷ es) o = ap (λ ns. ns ++ all_nodes set_at made is_file (λ _ _ _. []) d es (after set_at made is_file d (e ∷ []) o)) (none_by d e.0 e.1 o) ∙ no_own_nodes set_at made is_file d es (after set_at made is_file d (e ∷ []) o)

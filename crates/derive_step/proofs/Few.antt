@@ -13,10 +13,12 @@ use Rattle.changeset_model.specs.Path.{Path, path_cmp}
 use Rattle.changeset_model.specs.Changeset.{CopySource, File, FileChange, Set, Delete, file_of, sets_of}
 use Rattle.changeset_model.proofs.Paths.{path_cmp_total}
 use Rattle.history_model.specs.History.{Known}
-use Rattle.history_model.specs.Tree.{is_dir}
+use Rattle.history_model.specs.Past.{Past, At}
+use Rattle.history_model.specs.Tree.{files_in, is_dir}
 use Rattle.manifest_model.specs.Fsnode.{fsnode, fsnode_bytes}
-use Rattle.manifest_model.specs.Unode.{is_renewed, unode, unode_bytes}
-use Rattle.manifest_laws.specs.Changes.{files_in, renewed_dirs}
+use Rattle.manifest_model.specs.Unode.{is_renewed, unode_bytes}
+use Rattle.manifest_model.specs.Merged.{unode_at}
+use Rattle.manifest_laws.specs.Changes.{renewed_dirs}
 use Rattle.manifest_laws.proofs.Directories.{renewed_are}
 use Rattle.manifest_laws.proofs.Flat.{tied_self}
 use Rattle.manifest_laws.proofs.Lists.{true_and_false}
@@ -102,14 +104,14 @@ few_files ds ((p, Delete) ∷ es) distinct =
 
 -- ---- the nodes of each directory
 
-module _ (c : Known) (older : List Known) where
+module _ (c : Known) (first second : Past) where
   abbrev weight : List Path → ℕ
   weight [] = 0
-  weight (d ∷ ds) = length (dir_nodes c older d) + weight ds
+  weight (d ∷ ds) = length (dir_nodes c first second d) + weight ds
 
-  flat_weight : (ds : List Path) → length (flat_map (dir_nodes c older) ds) ≡ weight ds
+  flat_weight : (ds : List Path) → length (flat_map (dir_nodes c first second) ds) ≡ weight ds
   flat_weight [] = refl
-  flat_weight (d ∷ ds) = length-append (dir_nodes c older d) (flat_map (dir_nodes c older) ds) ∙ ap (λ n. length (dir_nodes c older d) + n) (flat_weight ds)
+  flat_weight (d ∷ ds) = length-append (dir_nodes c first second d) (flat_map (dir_nodes c first second) ds) ∙ ap (λ n. length (dir_nodes c first second d) + n) (flat_weight ds)
 
   weight-append : (xs ys : List Path) → weight (xs ++ ys) ≡ weight xs + weight ys
   weight-append [] ys = omega arith
@@ -123,13 +125,13 @@ module _ (c : Known) (older : List Known) where
       let all = ap weight (reverse-cons x xs) ∙ sum in
       omega (arith, rest, all)
 
-  dir_weight : (d : Path) → length (dir_nodes c older d) ≤ 2 + length (files_set_in d c.changeset.changes)
-  dir_weight d = by (is_dir (files_in (c ∷ older)) d)
+  dir_weight : (d : Path) → length (dir_nodes c first second d) ≤ 2 + length (files_set_in d c.changeset.changes)
+  dir_weight d = by (is_dir (files_in (At c first second)) d)
     where
-      by : (b : Bool) → length (cond b (nodes_there c older d) []) ≤ 2 + length (files_set_in d c.changeset.changes)
+      by : (b : Bool) → length (cond b (nodes_there c first second d) []) ≤ 2 + length (files_set_in d c.changeset.changes)
       by true =
-          let both = length-append (map (λ p. unode_bytes (unode (c ∷ older) p)) (files_set_in d c.changeset.changes)) (fsnode_bytes (fsnode (files_in (c ∷ older)) d) ∷ unode_bytes (unode (c ∷ older) d) ∷ []) in
-          let files = length-map (files_set_in d c.changeset.changes) (λ p. unode_bytes (unode (c ∷ older) p)) in
+          let both = length-append (map (λ p. unode_bytes (unode_at (At c first second) p)) (files_set_in d c.changeset.changes)) (fsnode_bytes (fsnode (files_in (At c first second)) d) ∷ unode_bytes (unode_at (At c first second) d) ∷ []) in
+          let files = length-map (files_set_in d c.changeset.changes) (λ p. unode_bytes (unode_at (At c first second) p)) in
           omega (arith, both, files)
       by false = omega arith
 
@@ -141,14 +143,14 @@ module _ (c : Known) (older : List Known) where
       omega (arith, here, rest)
 
   pub few_put : (keys : List Path) → IsStrictlySortedBy path_cmp keys → ((p : Path) → list_any (eq_by_cmp path_cmp p) keys ≡ true → (0 < length p) × (is_renewed c.changeset p ≡ true))
-      → length (flat_map (dir_nodes c older) (reverse keys) ++ dir_nodes c older []) ≤ 2 * length (renewed_dirs c.changeset) + length (sets_of c.changeset)
+      → length (flat_map (dir_nodes c first second) (reverse keys) ++ dir_nodes c first second []) ≤ 2 * length (renewed_dirs c.changeset) + length (sets_of c.changeset)
   few_put keys rising there =
-      let whole = length-append (flat_map (dir_nodes c older) (reverse keys)) (dir_nodes c older []) in
-      let first = flat_weight (reverse keys) ∙ weight-reverse keys in
+      let whole = length-append (flat_map (dir_nodes c first second) (reverse keys)) (dir_nodes c first second []) in
+      let weighed = flat_weight (reverse keys) ∙ weight-reverse keys in
       let all = all_weight ([] ∷ keys) in
       let files : in_dirs ([] ∷ keys) c.changeset.changes ≤ length (sets_of c.changeset) = few_files ([] ∷ keys) c.changeset.changes distinct in
       let dirs = length-le_from_is_member (eq_by_cmp_equiv path_cmp_total) ([] ∷ keys) (renewed_dirs c.changeset) distinct member in
-      omega (arith, whole, first, all, files, dirs)
+      omega (arith, whole, weighed, all, files, dirs)
     where
       deep : (p : Path) → 0 < length p → eq_by_cmp path_cmp [] p ≡ false
       deep [] some = absurd (omega arith)

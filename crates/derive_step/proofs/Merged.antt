@@ -1,5 +1,5 @@
 -- Entries by rising names, of which some were gone through.
-use Rattle.std.proofs.Common.{◌≡◌, ◌⊎◌, inl, inr, ℕ, ◌<◌, Bool, true, false, cond, ◌&&◌, List, [], ◌∷◌, ◌++◌, length, get_or, refl, sym, ap, ◌∙◌, append_assoc, arith}
+use Rattle.std.proofs.Common.{◌≡◌, ◌⊎◌, inl, inr, ℕ, ◌<◌, Bool, true, false, cond, ◌&&◌, List, [], ◌∷◌, ◌++◌, length, get_or, refl, sym, ap, subst, ◌∙◌, append_assoc, arith}
 use Rattle.std.specs.Prelude.{Option, Some, None, bytes_eq}
 use mathlib.Core.Bool.{true≢false}
 use Rattle.std.specs.declared.cmp.Ordering.{Ordering}
@@ -17,7 +17,8 @@ use Rattle.manifest_laws.proofs.Names.{same_name}
 use Rattle.derive_step.specs.Slices.{past, left_after}
 use Rattle.node_fields.specs.declared.child.Child.{Child}
 use Rattle.node_fields.specs.Children.{children_seen}
-use Rattle.derive_step.specs.Merge.{AreAhead, IsMerge, comes_before, is_before, stands_under}
+use Rattle.derive_step.specs.declared.merge.Merge.{Merge}
+use Rattle.derive_step.specs.Merge.{AreAhead, IsMerge, comes_before, is_before, stands_under, whole}
 use Rattle.derive_step.proofs.Edits.{tied_name, name_swap}
 use Rattle.derive_step.proofs.Entries.{by_name, list_all_push, none_below}
 use Rattle.manifest_laws.proofs.Summaries.{later_differ as less_apart}
@@ -250,11 +251,23 @@ pub ahead_on : {E : Type 0} (d p : Path) (m : List ℕ) (s : Path) (xs ys zs : L
 ahead_on d p m s xs ys zs es here before same below ahead =
     ahead_later d xs zs p es (λ q n t less is was. ap (is_before n) same ∙ before_rise d m n s t ys (sym (λ i. path_lt (here i) (is i)) ∙ less) before) below ahead
 
--- an entry that is put in where one was taken out
-pub put_over : {E : Type 0} (n : List ℕ) (o : Option E) (h g f : List ℕ → Option E) → ((q : List ℕ) → h q ≡ cond (eq_by_cmp by_name n q) o (g q)) → ((q : List ℕ) → g q ≡ cond (eq_by_cmp by_name n q) None (f q)) → (q : List ℕ) → h q ≡ cond (eq_by_cmp by_name n q) o (f q)
-put_over n o h g f put taken q = put q ∙ ap (cond (eq_by_cmp by_name n q) o) (taken q) ∙ by (eq_by_cmp by_name n q)
+-- ---- entries of which none was gone through
+
+module _ {R E : Type 0} (seen : R → E) where
+  pub merge_start : (is_kept : E → Bool) (m : Merge R) (cs : List (Child R)) → m.done.items ≡ [] → m.left.items ≡ cs → is_sorted by_name (children_seen seen cs) ≡ true → IsMerge is_kept (children_seen seen m.done.items) (children_seen seen m.left.items)
+  merge_start is_kept m cs none all rise = subst (λ (ds : List (Child R)). IsMerge is_kept (children_seen seen ds) (children_seen seen m.left.items)) (sym none) (begun is_kept (children_seen seen m.left.items) (ap (λ ls. is_sorted by_name (children_seen seen ls)) all ∙ rise))
+
+  pub ahead_start : (m : Merge R) (d : Path) (es : List (Path × FileChange)) → m.done.items ≡ [] → AreAhead d es (children_seen seen m.done.items)
+  ahead_start m d es none = subst (λ (ds : List (Child R)). AreAhead d es (children_seen seen ds)) (sym none) (none_gone E d es)
+
+  pub whole_rises : (is_kept : E → Bool) (m : Merge R) (cs : List (Child R)) → children_seen seen cs ≡ whole seen m → IsMerge is_kept (children_seen seen m.done.items) (children_seen seen m.left.items) → is_sorted by_name (children_seen seen cs) ≡ true
+  whole_rises is_kept m cs is merge = ap (is_sorted by_name) is ∙ merge.rising
+
+-- what is put in where something was taken out
+pub put_over : {X : Type 0} (n : List ℕ) (none o : X) (h g f : List ℕ → X) → ((q : List ℕ) → h q ≡ cond (eq_by_cmp by_name n q) o (g q)) → ((q : List ℕ) → g q ≡ cond (eq_by_cmp by_name n q) none (f q)) → (q : List ℕ) → h q ≡ cond (eq_by_cmp by_name n q) o (f q)
+put_over n none o h g f put taken q = put q ∙ ap (cond (eq_by_cmp by_name n q) o) (taken q) ∙ by (eq_by_cmp by_name n q)
   where
-    by : (b : Bool) → cond b o (cond b None (f q)) ≡ cond b o (f q)
+    by : (b : Bool) → cond b o (cond b none (f q)) ≡ cond b o (f q)
     by true = refl
     by false = refl
 

@@ -1,25 +1,27 @@
--- What is put to the nodes for a directory, and what is noted of it.
-use Rattle.std.proofs.Common.{◌≡◌, ℕ, Bool, true, false, cond, ◌&&◌, List, [], ◌∷◌, ◌++◌, map, length, refl, sym, ap, ◌∙◌, arith, append_assoc, append-nil}
-use Rattle.std.specs.Prelude.{Option, Some, None, option_map, Result, Ok, Err, IfOk, OnOk, ◌==◌}
-use Rattle.std.specs.declared.alloc.AllocError.{AllocError}
+-- What is noted of a directory, and that its nodes are the definitions'.
+use Rattle.std.proofs.Common.{◌≡◌, ℕ, true, false, cond, List, [], ◌∷◌, ◌++◌, length, refl, sym, ap, ◌∙◌, append-nil}
+use Rattle.std.specs.Prelude.{Option, Some, None, option_map, bytes_eq, ◌==◌}
 use mathlib.Core.Bool.{true≢false}
-use Rattle.std.proofs.lemmas.Bool.{and_parts, ne_eqb}
+use Rattle.std.specs.List.{dedup}
 use Rattle.std.specs.BTreeMap.{BTreeMap, get, Updates}
-use Rattle.std.specs.FinMap.{is_sorted}
-use Rattle.std.specs.FinMap.Entries.{below_all}
-use Rattle.std.specs.Ordering.{is_lt}
 use Rattle.byte_fields.specs.Bytes.{Id}
-use Rattle.changeset_model.specs.Path.{Path, path_cmp, is_strict_prefix}
+use Rattle.changeset_model.specs.Path.{Path, path_cmp}
 use Rattle.changeset_model.specs.Changeset.{Changeset, File, FileChange}
 use Rattle.history_model.specs.History.{Known}
-use Rattle.history_model.specs.Tree.{is_dir}
-use Rattle.manifest_model.specs.Fsnode.{Fsnode, FsDir, fs_dir, fsnode, fsnode_bytes, fsnode_id, are_entries, is_summary}
-use Rattle.manifest_model.specs.Unode.{Unode, UnodeDir, unode, unode_bytes, unode_id, is_renewed}
-use Rattle.manifest_laws.specs.Changes.{files_in, is_covered}
+use Rattle.history_model.specs.Past.{Past, At}
+use Rattle.history_model.specs.Tree.{files_in, is_dir}
+use Rattle.manifest_model.specs.Fsnode.{FsEntry, FsDir, fs_dir, fsnode, are_entries, is_summary}
+use Rattle.manifest_model.specs.Unode.{UnodeDir, UnodeEntry, unode_id}
+use Rattle.manifest_model.specs.Merged.{unode_at}
+use Rattle.manifest_model.proofs.Deletions.{file_at-files_in}
+use Rattle.manifest_laws.specs.Changes.{is_covered}
 use Rattle.manifest_laws.specs.Summaries.{summary_by}
-use Rattle.manifest_laws.specs.Entries.{fs_entry_at, unode_entry_at}
+use Rattle.manifest_laws.specs.Entries.{file_of_entry, fs_entry_at, unode_entry_at}
 use Rattle.manifest_laws.proofs.Directories.{empty_is}
-use Rattle.manifest_laws.specs.EntryEdits.{fs_set, is_fs_file, unode_set, is_unode_file}
+use Rattle.manifest_laws.proofs.Seen.{one_more as under_dir}
+use Rattle.manifest_laws.specs.EntryEdits.{is_fs_file, is_unode_file}
+use Rattle.merge_laws.proofs.Trees.{dir_from}
+use Rattle.merge_laws.proofs.UnodeEntries.{uncovered_dir}
 use Rattle.derive_step.specs.declared.job.DirIds.{DirIds}
 use Rattle.node_fields.specs.declared.child.Child.{Child}
 use Rattle.fsnode.specs.declared.entry.FsEntry.{FsEntry as RustFsEntry}
@@ -31,84 +33,62 @@ use Rattle.unode.specs.Parts.{parents_seen, entry_seen as unode_entry_seen, chil
 use Rattle.unode.specs.Views.{manifest_seen}
 use Rattle.derive_step.specs.declared.made.Made.{Made}
 use Rattle.derive_step.specs.Views.{Before}
-use Rattle.derive_step.specs.Jobs.{IsRight, nodes_on}
-use Rattle.derive_step.specs.Steps.{fs_made_in, fs_before, fs_after, unode_made_in, unode_before, unode_after, own_unode, set_nodes}
+use Rattle.derive_step.specs.Pasts.{IsSound, is_touched, nodes_of}
+use Rattle.derive_step.specs.Walk.{Sides}
+use Rattle.derive_step.specs.Join.{joined_by, made_at}
+use Rattle.derive_step.specs.Steps.{file_now, fs_made_in, fs_after, fs_join, fs_set, fsnodes_before, unode_after, unode_join, unode_made_in, unode_set, unodes_before}
 use Rattle.derive_step.specs.Slices.{edits_in}
-use Rattle.derive_step.specs.Renewal.{IsDue, IsMadeUnder, IsStep, IsRenewed, fsnode_part, unode_part, parent_part, nodes_there, dir_nodes, ids_at, files_set_in}
+use Rattle.derive_step.specs.Renewal.{AreIn, ArePutFor, IsDue, IsMadeUnder, IsStep, IsRenewed, fsnode_part, unode_part, parent_part, nodes_there, ids_at}
 use Rattle.derive_step.proofs.Above.{by_test}
-use Rattle.derive_step.proofs.Edits.{same_in, same_in_nodes, in_twice}
-use Rattle.derive_step.proofs.Laws.{rise, uncovered_dir, is_before, fs_entries, same_entries, same_node, unode_entries, same_unode}
-use Rattle.derive_step.proofs.FileNodes.{all_found, file_nodes}
-
-ok_with : {P Q : Type 0} (r : Result DirIds AllocError) (a b : DirIds) → IfOk r (λ x. x ≡ a) → a ≡ b → OnOk r P → (P → Q) → IfOk r (λ x. (x ≡ b) × Q)
-ok_with (Ok x) a b h e p f = (h ∙ e, f p)
-ok_with (Err x) a b h e p f = tt
-
-module _ (c : Known) (older : List Known) (commit : Changeset) (d : Path) (made : BTreeMap Path Made) (b : Option Before) (step : IsStep c older commit d made b) (dir : is_dir (files_in (c ∷ older)) d ≡ true)
-    (link : Id) (es : List (Path × FileChange)) (is_link : link ≡ c.id) (are_edits : edits_in d es ≡ edits_in d c.changeset.changes) where
-  pub unode_is : (m : UnodeManifest) → ((n : List ℕ) → unode_entry_at (manifest_seen m) n ≡ unode_after link made d es (unode_before (unode_part b)) n) → are_entries (unode_children_seen m.entries.items) ≡ true
-      → parents_seen m.parents ≡ parent_part b → m.linknode ≡ link → manifest_seen m ≡ unode (c ∷ older) d
-  unode_is m found rule parent linked =
-      same_unode c older step.due.right d m step.renewed dir rule
-      (λ n.
-      found n
-      ∙ ap (λ x. unode_after x made d es (unode_before (unode_part b)) n) is_link
-      ∙ same_in (unode_set c.id) is_unode_file (unode_made_in made) d n es c.changeset.changes (unode_before (unode_part b) n) are_edits
-      ∙ unode_entries c older step.due.right d made b step.before step.under dir n)
-      (parent ∙ step.before.parent (uncovered_dir c older step.due.right d dir))
-      (linked ∙ is_link)
-
-  pub files_are : set_nodes link made d es (unode_before (unode_part b)) ≡ map (λ p. unode_bytes (unode (c ∷ older) p)) (files_set_in d c.changeset.changes)
-  files_are =
-      ap (λ x. set_nodes x made d es (unode_before (unode_part b))) is_link
-      ∙ same_in_nodes (unode_set c.id) (unode_made_in made) is_unode_file (own_unode c.id) d es c.changeset.changes (unode_before (unode_part b)) are_edits
-      ∙ file_nodes c older step.due.right d made c.changeset.changes (unode_before (unode_part b)) (rise c older step.due.right) (all_found c.changeset.changes (rise c older step.due.right))
-      (λ n h. step.before.unode (uncovered_dir c older step.due.right d dir) n)
-
-  pub put_all : (r : Result DirIds AllocError) (fs : Fsnode) (un : Unode) (old mid new : List (List ℕ)) → fs ≡ fsnode (files_in (c ∷ older)) d → un ≡ unode (c ∷ older) d
-      → IfOk r (λ ids. ids ≡ record { fsnode = fsnode_id fs; unode = unode_id un }) → mid ≡ old ++ set_nodes link made d es (unode_before (unode_part b))
-      → OnOk r (new ≡ mid ++ fsnode_bytes fs ∷ unode_bytes un ∷ [])
-      → IfOk r (λ ids. (ids ≡ ids_at (c ∷ older) d) × (new ≡ old ++ dir_nodes c older d))
-  put_all r fs un old mid new same_fs same_un ids files own =
-      ok_with r (record { fsnode = fsnode_id fs; unode = unode_id un }) (ids_at (c ∷ older) d) ids (λ i. record { fsnode = fsnode_id (same_fs i); unode = unode_id (same_un i) }) own
-      (λ h. h ∙ (λ i. files i ++ fsnode_bytes (same_fs i) ∷ unode_bytes (same_un i) ∷ [])
-      ∙ append_assoc old (set_nodes link made d es (unode_before (unode_part b))) (fsnode_bytes (fsnode (files_in (c ∷ older)) d) ∷ unode_bytes (unode (c ∷ older) d) ∷ [])
-      ∙ (λ i. old ++ (files_are i ++ fsnode_bytes (fsnode (files_in (c ∷ older)) d) ∷ unode_bytes (unode (c ∷ older) d) ∷ []))
-      ∙ ap (λ v. old ++ cond v (nodes_there c older d) []) (sym dir))
+use Rattle.derive_step.proofs.Edits.{same_in}
+use Rattle.derive_step.proofs.FileNodes.{both_on}
+use Rattle.derive_step.proofs.PastLaws.{is_before, fs_entries, same_entries, same_node, unode_entries, same_unode, file_here}
 
 none_seen : (cs : List (Child RustFsEntry)) → fs_children_seen cs ≡ [] → cs ≡ []
 none_seen [] h = refl
 none_seen (x ∷ cs) h = absurd (cc)
 
--- ---- from the nodes of the parent
+-- ---- from the nodes of both parents
 
-pub step_from : (c : Known) (older : List Known) (commit : Changeset) (d : Path) (made : BTreeMap Path Made) (b : Option Before) → IsDue c older commit → is_renewed c.changeset d ≡ true → IsMadeUnder c older made d
-    → b ≡ cond (is_covered c.changeset d) None (nodes_on older d) → IsStep c older commit d made b
-step_from c older commit d made b due renewed under e = record { due = due; renewed = renewed; before = is_before c older d b e; under = under }
+pub step_from : (c : Known) (first second : Past) (commit : Changeset) (d : Path) (made : BTreeMap Path Made) (a b : Option Before) → IsDue c first second commit → is_touched c first second d ≡ true → IsMadeUnder c first second made d
+    → a ≡ cond (is_covered c.changeset d) None (nodes_of first d) → b ≡ cond (is_covered c.changeset d) None (nodes_of second d) → IsStep c first second commit d made a b
+step_from c first second commit d made a b due touched under one two = record { due = due; touched = touched; before_first = is_before c first d a one; before_second = is_before c second d b two; under = under }
 
-pub root_seen : (c : Known) (older : List Known) (b : Option Before) → IsRight (c ∷ older) → b ≡ nodes_on older [] → b ≡ cond (is_covered c.changeset []) None (nodes_on older [])
-root_seen c older b right e = e ∙ sym (ap (λ v. cond v None (nodes_on older [])) (uncovered_dir c older right [] refl))
+pub root_seen : (c : Known) (first second past : Past) (b : Option Before) → IsSound (At c first second) → b ≡ nodes_of past [] → b ≡ cond (is_covered c.changeset []) None (nodes_of past [])
+root_seen c first second past b sound e = e ∙ sym (ap (λ v. cond v None (nodes_of past [])) (uncovered_dir c first second [] sound.resolved refl))
 
-pub dir_seen : (c : Known) (older : List Known) (d : Path) (b o : Option Before) → b ≡ cond (is_covered c.changeset d) None o → o ≡ nodes_on older d → b ≡ cond (is_covered c.changeset d) None (nodes_on older d)
-dir_seen c older d b o e there = e ∙ ap (λ x. cond (is_covered c.changeset d) None x) there
+pub dir_seen : (c : Known) (past : Past) (d : Path) (b o : Option Before) → b ≡ cond (is_covered c.changeset d) None o → o ≡ nodes_of past d → b ≡ cond (is_covered c.changeset d) None (nodes_of past d)
+dir_seen c past d b o e there = e ∙ ap (λ x. cond (is_covered c.changeset d) None x) there
 
--- the edits that are gone through are those under the directory
-pub slice_is : (c : Known) (older : List Known) → IsRight (c ∷ older) → (d : Path) (all es : List (Path × FileChange)) → all ≡ c.changeset.changes → (is_sorted path_cmp all ≡ true → es ≡ edits_in d all) → edits_in d es ≡ edits_in d c.changeset.changes
-slice_is c older right d all es are slice = ap (edits_in d) (slice (ap (is_sorted path_cmp) are ∙ rise c older right)) ∙ in_twice d all ∙ ap (edits_in d) are
+-- ---- by its parts
 
-module _ (c : Known) (older : List Known) (commit : Changeset) (d : Path) (made : BTreeMap Path Made) (b : Option Before) (step : IsStep c older commit d made b)
-    (es : List (Path × FileChange)) (are_edits : edits_in d es ≡ edits_in d c.changeset.changes) (node : RustFsnode) (found : (n : List ℕ) → fs_entry_at (fsnode_seen node) n ≡ fs_after made d es (fs_before (fsnode_part b)) n) (rule : are_entries (fs_children_seen node.entries.items) ≡ true) where
+module _ (c : Known) (first second : Past) (commit : Changeset) (d : Path) (made : BTreeMap Path Made) (a b : Option Before) (step : IsStep c first second commit d made a b)
+    (es : List (Path × FileChange)) (are_edits : edits_in d es ≡ edits_in d c.changeset.changes) (node : RustFsnode)
+    (found : (n : List ℕ) → fs_entry_at (fsnode_seen node) n ≡ joined_by (fs_join (made_at (fs_made_in made) (d ++ n ∷ []))) (fs_after made d es (fsnodes_before (fsnode_part a) (fsnode_part b)) n))
+    (rule : are_entries (fs_children_seen node.entries.items) ≡ true) where
+  abbrev q : Past
+  q = At c first second
+
   abbrev now : List (Path × File)
-  now = files_in (c ∷ older)
+  now = files_in (At c first second)
+
+  sound : IsSound (At c first second)
+  sound = step.due.sound
 
   found_after : (n : List ℕ) → fs_entry_at (fsnode_seen node) n ≡ fs_entry_at (fsnode now d) n
-  found_after n = found n ∙ same_in (λ _. fs_set) is_fs_file (fs_made_in made) d n es c.changeset.changes (fs_before (fsnode_part b) n) are_edits ∙ fs_entries c older step.due.right d made b step.before step.under n
+  found_after n =
+      found n
+      ∙ ap (joined_by (fs_join (made_at (fs_made_in made) (d ++ n ∷ [])))) (same_in fs_set is_fs_file (fs_made_in made) d n es c.changeset.changes (fsnodes_before (fsnode_part a) (fsnode_part b) n) are_edits)
+      ∙ fs_entries c first second step.due.sound d n made a b step.before_first step.before_second step.under
+
+  pub files_are : (n : List ℕ) → file_now (fs_children_seen node.entries.items) n ≡ file_here c first second step.due.sound d n
+  files_are n = ap file_of_entry (found_after n)
 
   entries_are : fs_children_seen node.entries.items ≡ (fsnode now d).entries
-  entries_are = same_entries c older step.due.right d (fs_children_seen node.entries.items) rule found_after
+  entries_are = same_entries c first second step.due.sound d (fs_children_seen node.entries.items) rule found_after
 
   pub node_is : (is_summary (summary_by (fs_children_seen node.entries.items)) ≡ true → summary_seen node.summary ≡ summary_by (fs_children_seen node.entries.items)) → is_dir now d ≡ true → fsnode_seen node ≡ fsnode now d
-  node_is sums dir = same_node c older step.due.right d node rule found_after sums dir
+  node_is sums dir = same_node c first second step.due.sound d node rule found_after sums dir
 
   pub not_there : (length d == 0) ≡ false → node.entries.items ≡ [] → is_dir now d ≡ false
   not_there deep empty = (empty_is now d deep).0 (sym entries_are ∙ ap fs_children_seen empty)
@@ -118,12 +98,25 @@ module _ (c : Known) (older : List Known) (commit : Changeset) (d : Path) (made 
 
   -- ---- where it isn't there
 
-  pub left_out : (put : List (List ℕ)) → is_dir now d ≡ false → get path_cmp made d ≡ None → IsRenewed c older d made made put put
+  none_in : is_dir now d ≡ false → AreIn c first second d []
+  none_in none = record {
+    fsnode = λ dir. absurd (true≢false (sym dir ∙ none));
+    unode = λ dir. absurd (true≢false (sym dir ∙ none));
+    files = λ n f at new. absurd (true≢false (sym (dir_from now d (d ++ n ∷ []) f (under_dir d n) (file_at-files_in q (d ++ n ∷ []) ∙ at)) ∙ none));
+  }
+
+  pub left_out : (put : List (List ℕ)) → is_dir now d ≡ false → get path_cmp made d ≡ None → IsRenewed c first second d made made put put
   left_out put none new = record {
-    nodes = sym (append-nil put) ∙ ap (λ v. put ++ cond v (nodes_there c older d) []) (sym none);
+    nodes = record {
+      more = [];
+      nodes = sym (append-nil put);
+      right = tt;
+      whole = (none_in none, tt);
+      alone = λ one. sym (ap (λ v. cond v (nodes_there c first second d) [] ++ []) none);
+    };
     here = (
       ap (option_map (λ x. fs_entry_seen x.fsnode)) new ∙ ap (λ v. cond v (Some (fs_dir (fsnode now d))) None) (sym none),
-      ap (option_map (λ x. unode_entry_seen x.unode)) new ∙ ap (λ v. cond v (Some (UnodeDir (unode_id (unode (c ∷ older) d)))) None) (sym none),
+      ap (option_map (λ x. unode_entry_seen x.unode)) new ∙ ap (λ v. cond v (Some (UnodeDir (unode_id (unode_at q d)))) None) (sym none),
     );
     others = λ p apart. refl;
   }
@@ -132,7 +125,7 @@ module _ (c : Known) (older : List Known) (commit : Changeset) (d : Path) (made 
 
   pub noted : (after : BTreeMap Path Made) (had put : List (List ℕ)) (m : Made) (ids : DirIds) → is_dir now d ≡ true → fsnode_seen node ≡ fsnode now d
       → Updates path_cmp made after d (Some m) → fs_entry_seen m.fsnode ≡ FsDir ids.fsnode (summary_seen node.summary) → unode_entry_seen m.unode ≡ UnodeDir ids.unode
-      → ids ≡ ids_at (c ∷ older) d → put ≡ had ++ dir_nodes c older d → IsRenewed c older d made after had put
+      → ids ≡ ids_at q d → ArePutFor c first second (d ∷ []) had put → IsRenewed c first second d made after had put
   noted after had put m ids dir same updates fs un are puts = record {
     nodes = puts;
     here = (
@@ -141,41 +134,34 @@ module _ (c : Known) (older : List Known) (commit : Changeset) (d : Path) (made 
           ∙ ap (λ v. cond v (Some (fs_dir (fsnode now d))) None) (sym dir),
       ap (option_map (λ x. unode_entry_seen x.unode)) updates.1
           ∙ ap Some (un ∙ (λ i. UnodeDir (are i).unode))
-          ∙ ap (λ v. cond v (Some (UnodeDir (unode_id (unode (c ∷ older) d)))) None) (sym dir),
+          ∙ ap (λ v. cond v (Some (UnodeDir (unode_id (unode_at q d)))) None) (sym dir),
     );
     others = λ p apart. updates.2 p apart;
   }
 
--- ---- whether a directory has entries
+  module _ (dir : is_dir now d ≡ true) where
+    out : is_covered c.changeset d ≡ false
+    out = uncovered_dir c first second d step.due.sound.resolved dir
 
-empty_length : {X : Type 0} (xs : List X) → (length xs == 0) ≡ true → xs ≡ []
-empty_length [] h = refl
-empty_length (x ∷ xs) h = absurd (true≢false (sym h ∙ ne_eqb (length (x ∷ xs)) 0 (λ e. absurd (omega arith))))
+    pub had_is : (n : List ℕ) → unodes_before (unode_part a) (unode_part b) n ≡ both_on c first second step.due.sound d n
+    had_is n = λ i. (step.before_first.unode out n i, step.before_second.unode out n i)
 
-pub is_empty_list : {X : Type 0} (xs : List X) (b : Bool) → b ≡ (length xs == 0) → b ≡ true → xs ≡ []
-is_empty_list xs b e h = empty_length xs (sym e ∙ h)
+  module _ (dir : is_dir now d ≡ true) (link : Id) (is_link : link ≡ c.id) where
+    abbrev had_before : List ℕ → Sides UnodeEntry
+    had_before = unodes_before (unode_part a) (unode_part b)
 
-pub is_some_list : {X : Type 0} (xs : List X) (b : Bool) → b ≡ (length xs == 0) → b ≡ false → xs ≡ [] → ⊥
-is_some_list xs b e h empty = absurd (true≢false (sym (ap (λ ys. length ys == 0) empty) ∙ sym e ∙ h))
+    abbrev entries : List (List ℕ × FsEntry)
+    entries = fs_children_seen node.entries.items
 
-below_in : (d p : Path) (xs : List (Path × FileChange)) → below_all path_cmp p xs ≡ true → below_all path_cmp p (edits_in d xs) ≡ true
-below_in d p [] below = refl
-below_in d p (x ∷ xs) below = by (and_parts (is_lt (path_cmp p x.0)) (below_all path_cmp p xs) below).0 (below_in d p xs (and_parts (is_lt (path_cmp p x.0)) (below_all path_cmp p xs) below).1) (is_strict_prefix d x.0)
-  where
-    by : is_lt (path_cmp p x.0) ≡ true → below_all path_cmp p (edits_in d xs) ≡ true → (b : Bool) → below_all path_cmp p (cond b (x ∷ edits_in d xs) (edits_in d xs)) ≡ true
-    by here later true = λ i. here i && later i
-    by here later false = later
-
-sorted_in : (d : Path) (es : List (Path × FileChange)) → is_sorted path_cmp es ≡ true → is_sorted path_cmp (edits_in d es) ≡ true
-sorted_in d [] h = refl
-sorted_in d (e ∷ es) h = by (below_in d e.0 es (and_parts (below_all path_cmp e.0 es) (is_sorted path_cmp es) h).0) (sorted_in d es (and_parts (below_all path_cmp e.0 es) (is_sorted path_cmp es) h).1) (is_strict_prefix d e.0)
-  where
-    by : below_all path_cmp e.0 (edits_in d es) ≡ true → is_sorted path_cmp (edits_in d es) ≡ true → (b : Bool) → is_sorted path_cmp (cond b (e ∷ edits_in d es) (edits_in d es)) ≡ true
-    by here later true = λ i. here i && later i
-    by here later false = later
-
--- those under a directory rise as all do
-pub slice_rises : (d : Path) (all es changes : List (Path × FileChange)) → all ≡ changes → is_sorted path_cmp changes ≡ true → (is_sorted path_cmp all ≡ true → es ≡ edits_in d all) → is_sorted path_cmp es ≡ true
-slice_rises d all es changes are sorted slice =
-    let rises = ap (is_sorted path_cmp) are ∙ sorted in
-    ap (is_sorted path_cmp) (slice rises) ∙ sorted_in d all rises
+    pub unode_is : (m : UnodeManifest)
+        → ((n : List ℕ) → unode_entry_at (manifest_seen m) n ≡ joined_by (unode_join link (d ++ n ∷ []) (file_now entries n) (made_at (unode_made_in made) (d ++ n ∷ []))) (unode_after link made d es had_before n))
+        → are_entries (unode_children_seen m.entries.items) ≡ true → parents_seen m.parents ≡ dedup bytes_eq (parent_part a ++ parent_part b) → m.linknode ≡ link → manifest_seen m ≡ unode_at q d
+    unode_is m told rise parents linked =
+        same_unode c first second step.due.sound d m step.touched dir rise
+        (λ n.
+        told n
+        ∙ (λ i. joined_by (unode_join (is_link i) (d ++ n ∷ []) (files_are n i) (made_at (unode_made_in made) (d ++ n ∷ []))) (unode_after (is_link i) made d es had_before n))
+        ∙ ap (joined_by (unode_join c.id (d ++ n ∷ []) (file_here c first second step.due.sound d n) (made_at (unode_made_in made) (d ++ n ∷ [])))) (same_in (unode_set c.id) is_unode_file (unode_made_in made) d n es c.changeset.changes (had_before n) are_edits)
+        ∙ unode_entries c first second step.due.sound d n made a b step.before_first step.before_second step.under dir)
+        (parents ∙ (λ i. dedup bytes_eq (step.before_first.parent (out dir) i ++ step.before_second.parent (out dir) i)))
+        (linked ∙ is_link)

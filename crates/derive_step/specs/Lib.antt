@@ -1,9 +1,11 @@
 pub mod Places
 pub mod Views
 pub mod Jobs
+pub mod Pasts
 pub mod Summing
 pub mod Walk
 pub mod Merge
+pub mod Join
 pub mod Steps
 pub mod Touched
 pub mod Renewal

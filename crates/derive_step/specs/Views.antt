@@ -2,9 +2,10 @@
 --     Before, before_seen n      the nodes of a directory at the parent
 --     first_of parents, second_of parents      the first parent, and the second
 --     nodes_before parent d      the nodes that a job has of a parent;  roots_before parent      the parent's roots
+--     are_held_apart first second d      both parents have nodes of a directory, and different unodes by their ids
 --     held_in nodes id      the bytes of a node that is held
 
-use Rattle.std.specs.Prelude.{ℕ, List, [], ◌∷◌, Option, None, Some, option_map}
+use Rattle.std.specs.Prelude.{ℕ, Bool, false, not, List, [], ◌∷◌, bytes_eq, Option, None, Some, option_map}
 use Rattle.std.specs.Ordering.{nat_cmp}
 use Rattle.std.specs.Cmp.Lexicographic.{slice_cmp}
 use Rattle.std.specs.BTreeMap.{get}
@@ -46,6 +47,14 @@ nodes_before (Some p) (e ∷ d) = option_map before_seen (get path_cmp p.dirs (e
 
 abbrev pub roots_before : Option Parent → Option Roots
 roots_before parent = option_map (λ p. p.roots) parent
+
+abbrev pub are_apart : (a b : Option Before) → Bool
+are_apart None b = false
+are_apart (Some x) None = false
+are_apart (Some x) (Some y) = not (bytes_eq x.unode_id y.unode_id)
+
+abbrev pub are_held_apart : (first second : Option Parent) → Path → Bool
+are_held_apart first second d = are_apart (nodes_before first d) (nodes_before second d)
 
 abbrev pub held_in : HeldNodes → Id → Option (List ℕ)
 held_in held id = get (slice_cmp nat_cmp) held.nodes id

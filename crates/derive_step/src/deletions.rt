@@ -3,7 +3,7 @@ ghost use Rattle.std.specs.Prelude.{◌≡◌, ◌++◌, IfOk, IfErr, IsErrOf, o
 ghost use Rattle.byte_fields.specs.Bytes.{Id as IdBytes};
 ghost use Rattle.changeset_model.specs.Changeset.{id_of};
 ghost use Rattle.history_model.specs.History.{Known};
-ghost use Rattle.history_model.specs.Past.{Past, Begin};
+ghost use Rattle.history_model.specs.Past.{Past};
 ghost use Rattle.deleted_step.specs.declared.fault.StepFault.TheVariants.{NoNode, Memory};
 ghost use Rattle.deleted_step.specs.Steps.{AreGiven, IsNoNode};
 ghost use Rattle.derive_step.specs.Put.{ArePut};
@@ -16,20 +16,20 @@ use node_table::{Node, Roots};
 use object_id::Id;
 use std::alloc::Global;
 
-/// Puts the deleted nodes that are new to the nodes, and gives the id of the root's. `first` are the roots of the first
-/// parent.
+/// Puts the deleted nodes that are new to the nodes, and gives the id of the root's. `roots` are those of the
+/// first parent.
 pub(crate) fn put_deleted(
     alloc: Global,
     commit: &Commit,
-    first: &Option<Roots>,
+    roots: &Option<Roots>,
     deletions: &Deletions,
     nodes: &mut Vec<Node>,
 ) -> Result<Id, StepFault>
-    ensures made { (c : Known) (past : Past) → AreGiven (held_in deletions.now.nodes) (option_map (λ r. r.deleted) first.now) c past Begin (id_of commit.now) deletions.now.gone.items deletions.now.come.items → IfOk result (λ root. ArePut c past (deletions.now.gone.items ++ deletions.now.come.items) root nodes.old.items nodes.new.items) }
-    ensures memory { (c : Known) (past : Past) → AreGiven (held_in deletions.now.nodes) (option_map (λ r. r.deleted) first.now) c past Begin (id_of commit.now) deletions.now.gone.items deletions.now.come.items → IfErr result (λ fault. fault ≡ Memory) }
+    ensures made { (c : Known) (first second : Past) → AreGiven (held_in deletions.now.nodes) (option_map (λ r. r.deleted) roots.now) c first second (id_of commit.now) deletions.now.gone.items deletions.now.come.items → IfOk result (λ root. ArePut c first second (deletions.now.gone.items ++ deletions.now.come.items) root nodes.old.items nodes.new.items) }
+    ensures memory { (c : Known) (first second : Past) → AreGiven (held_in deletions.now.nodes) (option_map (λ r. r.deleted) roots.now) c first second (id_of commit.now) deletions.now.gone.items deletions.now.come.items → IfErr result (λ fault. fault ≡ Memory) }
     ensures no_node { (id : IdBytes) → IsErrOf result (NoNode id) → IsNoNode (held_in deletions.now.nodes) id }
 {
-    let top = deleted_root(first);
+    let top = deleted_root(roots);
     let done = derive_deleted(
         alloc,
         &deletions.nodes,

@@ -1,5 +1,6 @@
-//! The manifests of a changeset from those of its parent: only the directories above its change paths, and the deleted
-//! nodes of the paths where files come or go, are made anew, and all other nodes are shared by id.
+//! The manifests of a changeset from those of its parents: only the directories above its change paths, those of which two
+//! parents have different unodes, and the deleted nodes of the paths where files come or go are made anew, and all other
+//! nodes are shared by id.
 #![tactic(auto)]
 
 mod covering;
@@ -9,9 +10,11 @@ pub mod done;
 mod fsnodes;
 pub mod held;
 pub mod job;
+mod join;
 mod kind;
 mod made;
 mod merge;
+mod named;
 mod nodes;
 mod place;
 mod renewal;

@@ -6,7 +6,8 @@ ghost use Rattle.std.specs.Cmp.Lexicographic.{slice_cmp};
 ghost use Rattle.std.specs.FinMap.Entries.{below_all};
 ghost use Rattle.changeset_model.specs.Path.{is_element};
 ghost use Rattle.node_fields.specs.Children.{children_seen};
-ghost use Rattle.derive_step.specs.Merge.{IsMerge, comes_before, entry_in, is_before, stands_under, whole};
+ghost use Rattle.derive_step.specs.Walk.{both_seen};
+ghost use Rattle.derive_step.specs.Merge.{AreAfter, AreBefore, AreMerges, IsMerge, comes_before, entries_in, entry_in, is_before, stands_under, whole};
 
 use crate::kind::Kind;
 use node_fields::{Child, Name};
@@ -18,6 +19,13 @@ use std::collections::VecDeque;
 pub(crate) struct Merge<E> {
     pub(crate) done: Vec<Child<E>>,
     pub(crate) left: VecDeque<Child<E>>,
+}
+
+/// The entries of both parents.
+#[derive(Drop)]
+pub(crate) struct Merges<E> {
+    pub(crate) first: Merge<E>,
+    pub(crate) second: Merge<E>,
 }
 
 /// Entries of which none was gone through.
@@ -34,7 +42,7 @@ pub(crate) fn all_left<E>(alloc: Global, children: Vec<Child<E>>) -> Merge<E>
 /// Goes on to a name, and takes its entry out, if there is one.
 pub(crate) fn take<K: Kind>(
     entries: &mut Merge<K::Entry>,
-    name: &str,
+    name: &[u8],
 ) -> Result<Option<K::Entry>, AllocError>
     requires merge { IsMerge K.is_kept (children_seen K.seen entries.old.done.items) (children_seen K.seen entries.old.left.items) }
     requires before { is_before name.now (children_seen K.seen entries.old.done.items) ≡ true }
@@ -55,7 +63,7 @@ pub(crate) fn take<K: Kind>(
 }
 
 // Goes through those that come before a name.
-fn pass<K: Kind>(entries: &mut Merge<K::Entry>, name: &str) -> Result<(), AllocError>
+fn pass<K: Kind>(entries: &mut Merge<K::Entry>, name: &[u8]) -> Result<(), AllocError>
     requires merge { IsMerge K.is_kept (children_seen K.seen entries.old.done.items) (children_seen K.seen entries.old.left.items) }
     requires before { is_before name.now (children_seen K.seen entries.old.done.items) ≡ true }
     ensures merge { OnOk result (IsMerge K.is_kept (children_seen K.seen entries.new.done.items) (children_seen K.seen entries.new.left.items)) }
@@ -73,21 +81,21 @@ fn pass<K: Kind>(entries: &mut Merge<K::Entry>, name: &str) -> Result<(), AllocE
 }
 
 // Whether the first that is left comes before a name.
-fn is_next_before<E>(left: &VecDeque<Child<E>>, name: &str) -> bool
+fn is_next_before<E>(left: &VecDeque<Child<E>>, name: &[u8]) -> bool
     ensures { result ≡ comes_before name.now left.now.items }
 {
     match left.front() {
-        Some(child) => child.name.as_bytes().cmp(name.as_bytes()).is_lt(),
+        Some(child) => child.name.as_bytes().cmp(name).is_lt(),
         None => false,
     }
 }
 
 // Whether the first that is left stands under a name.
-fn is_next<E>(left: &VecDeque<Child<E>>, name: &str) -> bool
+fn is_next<E>(left: &VecDeque<Child<E>>, name: &[u8]) -> bool
     ensures { result ≡ stands_under name.now left.now.items }
 {
     match left.front() {
-        Some(child) => child.name.as_bytes() == name.as_bytes(),
+        Some(child) => child.name.as_bytes() == name,
         None => false,
     }
 }
@@ -96,7 +104,7 @@ fn is_next<E>(left: &VecDeque<Child<E>>, name: &str) -> bool
 pub(crate) fn put<K: Kind>(
     alloc: Global,
     entries: &mut Merge<K::Entry>,
-    name: &str,
+    name: &[u8],
     entry: Option<K::Entry>,
 ) -> Result<(), AllocError>
     requires name { is_element name.now ≡ true }
@@ -108,9 +116,49 @@ pub(crate) fn put<K: Kind>(
     ensures put { OnOk result ((n : List ℕ) → entry_in K.seen entries.new n ≡ (if eq_by_cmp (slice_cmp nat_cmp) name.now n then option_map K.seen entry else entry_in K.seen entries.old n)) }
 {
     if let Some(entry) = entry {
-        let name = Name::copy_of(alloc, name.as_bytes())?;
+        let name = Name::copy_of(alloc, name)?;
         entries.left.push_front(Child { name, entry })?;
     }
+    Ok(())
+}
+
+/// Goes on to a name in the entries of both parents, and takes theirs out.
+pub(crate) fn take_both<K: Kind>(
+    entries: &mut Merges<K::Entry>,
+    name: &[u8],
+) -> Result<(Option<K::Entry>, Option<K::Entry>), AllocError>
+    requires merge { AreMerges K.seen K.is_kept entries.old }
+    requires before { AreBefore K.seen name.now entries.old }
+    ensures merge { OnOk result (AreMerges K.seen K.is_kept entries.new) }
+    ensures before { OnOk result (AreBefore K.seen name.now entries.new) }
+    ensures after { OnOk result (AreAfter K.seen name.now entries.new) }
+    ensures found { IfOk result (λ taken. both_seen K.seen taken ≡ entries_in K.seen entries.old name.now) }
+    ensures without { OnOk result ((n : List ℕ) → entries_in K.seen entries.new n ≡ (if eq_by_cmp (slice_cmp nat_cmp) name.now n then (None, None) else entries_in K.seen entries.old n)) }
+{
+    let first = take::<K>(&mut entries.first, name)?;
+    let second = take::<K>(&mut entries.second, name)?;
+    Ok((first, second))
+}
+
+/// Puts entries in under a name that was gone on to in those of both parents.
+pub(crate) fn put_both<K: Kind>(
+    alloc: Global,
+    entries: &mut Merges<K::Entry>,
+    name: &[u8],
+    both: (Option<K::Entry>, Option<K::Entry>),
+) -> Result<(), AllocError>
+    requires name { is_element name.now ≡ true }
+    requires merge { AreMerges K.seen K.is_kept entries.old }
+    requires before { AreBefore K.seen name.now entries.old }
+    requires after { AreAfter K.seen name.now entries.old }
+    ensures merge { OnOk result (AreMerges K.seen K.is_kept entries.new) }
+    ensures first { OnOk result (entries.new.first.done.items ≡ entries.old.first.done.items) }
+    ensures second { OnOk result (entries.new.second.done.items ≡ entries.old.second.done.items) }
+    ensures put { OnOk result ((n : List ℕ) → entries_in K.seen entries.new n ≡ (if eq_by_cmp (slice_cmp nat_cmp) name.now n then both_seen K.seen both else entries_in K.seen entries.old n)) }
+{
+    let (first, second) = both;
+    put::<K>(alloc, &mut entries.first, name, first)?;
+    put::<K>(alloc, &mut entries.second, name, second)?;
     Ok(())
 }
 

@@ -1,9 +1,10 @@
 //! Where a path lies, seen from a directory.
-ghost use Rattle.std.specs.Prelude.{◌≡◌, ◌<◌, ◌++◌, ◌∷◌, [], List, ℕ, length, drop, false, IfOk, IfSome, IfNone, IsTrue, option_map};
-ghost use Rattle.changeset_model.specs.Path.{Path, elements, is_path, is_strict_prefix};
+ghost use Rattle.std.specs.Prelude.{◌≡◌, ◌<◌, ◌++◌, ◌∷◌, [], List, ℕ, length, drop, true, false, if◌then◌else◌, Some, None, IfOk, IfSome, IfNone, IsTrue, option_map};
+ghost use Rattle.changeset_model.specs.Path.{Path, elements, is_element, is_path, is_strict_prefix};
 ghost use Rattle.derive_step.specs.Places.{dir_of, is_in, IsPlace};
 
-use repo_path::{RepoPath, path_of};
+use node_fields::Name;
+use repo_path::{PathFault, RepoPath, path_of};
 use std::alloc::{AllocError, Global};
 
 /// Where a path lies, seen from a directory.
@@ -11,9 +12,9 @@ use std::alloc::{AllocError, Global};
 pub(crate) enum Place<'a> {
     Outside,
     /// Directly in the directory, under this name.
-    Here(&'a str),
+    Here(&'a [u8]),
     /// Under the directory of this name, and the text of the path from there.
-    Under(&'a str, &'a str),
+    Under(&'a [u8], &'a str),
 }
 
 /// Where a path lies, seen from a directory or the root.
@@ -31,13 +32,13 @@ pub(crate) fn place_in<'a>(path: &'a RepoPath, dir: Option<&RepoPath>) -> Place<
 }
 
 // The first element of a path, and the rest if there is one.
-fn parted(text: &str) -> (&str, Option<&str>)
+fn parted(text: &str) -> (&[u8], Option<&str>)
     ensures alone { IfNone result.1 (elements text.now ≡ result.0.now ∷ []) }
     ensures more { IfSome result.1 (λ rest. elements text.now ≡ result.0.now ∷ elements rest.now) }
 {
     match text.split_once('/') {
-        None => (text, None),
-        Some((name, rest)) => (name, Some(rest)),
+        None => (text.as_bytes(), None),
+        Some((name, rest)) => (name.as_bytes(), Some(rest)),
     }
 }
 
@@ -87,4 +88,40 @@ pub(crate) fn dir_before(alloc: Global, path: &RepoPath, rest: &str) -> Result<R
         unreachable!()
     };
     path_of(alloc, text)
+}
+
+/// The path of a name in a directory, or in the root. None where it is too long for a path.
+pub(crate) fn child_in(
+    alloc: Global,
+    dir: Option<&RepoPath>,
+    name: &Name,
+) -> Result<Option<RepoPath>, AllocError>
+    ensures { IfOk result (λ path. path ≡ (if is_path (dir_of dir.entry ++ name.now ∷ []) then Some (dir_of dir.entry ++ name.now ∷ []) else None)) }
+{
+    let text = child_text(alloc, dir, name.as_bytes())?;
+    match RepoPath::from_bytes(alloc, text.as_slice()) {
+        Ok(path) => Ok(Some(path)),
+        Err(PathFault::BadPath { at: _ }) => Ok(None),
+        Err(PathFault::Memory) => Err(AllocError),
+    }
+}
+
+fn child_text(alloc: Global, dir: Option<&RepoPath>, name: &[u8]) -> Result<Vec<u8>, AllocError>
+    requires { is_element name.now ≡ true }
+    ensures { IfOk result (λ text. elements text.items ≡ dir_of dir.entry ++ name.now ∷ []) }
+{
+    match dir {
+        Some(dir) => text_with(alloc, dir, name),
+        None => Vec::from_slice(alloc, name),
+    }
+}
+
+fn text_with(alloc: Global, dir: &RepoPath, name: &[u8]) -> Result<Vec<u8>, AllocError>
+    requires { is_element name.now ≡ true }
+    ensures { IfOk result (λ text. elements text.items ≡ dir.now ++ name.now ∷ []) }
+{
+    let mut text = Vec::from_slice(alloc, dir.as_str().as_bytes())?;
+    text.push(b'/')?;
+    text.extend_from_slice(name)?;
+    Ok(text)
 }

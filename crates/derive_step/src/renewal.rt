@@ -6,8 +6,9 @@ ghost use Rattle.std.specs.Ordering.{eq_by_cmp};
 ghost use Rattle.changeset_model.specs.Path.{Path, path_cmp};
 ghost use Rattle.changeset_model.specs.Changeset.{Changeset, is_changeset, self_conflict};
 ghost use Rattle.history_model.specs.History.{Known};
+ghost use Rattle.history_model.specs.Past.{Past, At};
 ghost use Rattle.manifest_model.specs.Fsnode.{FsDir, fsnode_bytes, fsnode_id};
-ghost use Rattle.manifest_model.specs.Unode.{UnodeDir, unode_bytes, unode_id, is_renewed};
+ghost use Rattle.manifest_model.specs.Unode.{UnodeDir, unode_bytes, unode_id};
 ghost use Rattle.manifest_laws.specs.Changes.{is_covered as is_covered_by};
 ghost use Rattle.fsnode.specs.Parts.{summary_seen, entry_seen as fs_entry_seen};
 ghost use Rattle.fsnode.specs.Views.{fsnode_seen};
@@ -15,8 +16,8 @@ ghost use Rattle.unode.specs.Parts.{entry_seen as unode_entry_seen};
 ghost use Rattle.unode.specs.Views.{manifest_seen};
 ghost use Rattle.derive_step.specs.Covering.{paths_seen, paths_set};
 ghost use Rattle.derive_step.specs.Views.{before_seen};
-ghost use Rattle.derive_step.specs.Jobs.{nodes_on};
-ghost use Rattle.derive_step.specs.Renewal.{AreBefore, AreRenewed, AreTouched, IsDue, IsMadeUnder, IsRenewed, dir_nodes, fsnode_part, parent_part, ids_at, unode_part};
+ghost use Rattle.derive_step.specs.Pasts.{is_touched, nodes_of};
+ghost use Rattle.derive_step.specs.Renewal.{AreBefore, ArePutFor, AreRenewed, AreTouched, IsDue, IsMadeUnder, IsRenewed, fsnode_part, ids_at, parent_part, unode_part};
 
 use crate::covering::{is_covered, set_paths};
 use crate::fsnodes::fsnode_in;
@@ -24,7 +25,7 @@ use crate::job::{DirIds, DirNodes};
 use crate::made::{Made, MadeDirs};
 use crate::nodes::put_node;
 use crate::slices::edits_under;
-use crate::unodes::{UnodeBefore, manifest_in};
+use crate::unodes::{UnodeBefore, Unodes, manifest_in};
 use bonsai::Commit;
 use fsnode::{FsEntry, Fsnode, Summary};
 use node_table::Node;
@@ -33,29 +34,34 @@ use std::alloc::{AllocError, Global};
 use std::collections::{BTreeMap, BTreeSet};
 use unode::{Unode, UnodeEntry, UnodeManifest};
 
-/// The nodes of directories at the parent.
+/// The nodes of directories at a parent.
 pub(crate) type Dirs = BTreeMap<RepoPath, DirNodes>;
 
 /// Makes the nodes of touched directories anew, from the last by the order of paths on, so that each has those under it.
+/// `first` and `second` are what both parents have of them.
 pub(crate) fn renew_dirs(
     alloc: Global,
     commit: &Commit,
-    mut before: Dirs,
+    mut first: Dirs,
+    mut second: Dirs,
     mut dirs: BTreeSet<RepoPath>,
     made: &mut MadeDirs,
     nodes: &mut Vec<Node>,
 ) -> Result<(), AllocError>
-    ensures { (c : Known) (older : List Known) → IsDue c older commit.now → AreBefore c older before → AreTouched c dirs → ((p : Path) → get path_cmp made.old p ≡ None) → OnOk result (AreRenewed c older dirs made.new nodes.old.items nodes.new.items) }
+    ensures { (c : Known) (p q : Past) → IsDue c p q commit.now → AreBefore c p q p first → AreBefore c p q q second → AreTouched c p q dirs → ((d : Path) → get path_cmp made.old d ≡ None) → OnOk result (AreRenewed c p q dirs made.new nodes.old.items nodes.new.items) }
 {
-    let sets = set_paths(alloc, commit.changeset().edits())?;
+    let paths = set_paths(alloc, commit.changeset().edits())?;
+    let sets = paths.as_slice();
     while let Some(dir) = dirs.pop_last() {
-        let there = take_nodes(&mut before, &sets, &dir);
-        renew_dir(alloc, commit, there, dir, made, nodes)?;
+        let first_there = take_nodes(&mut first, sets, &dir);
+        let second_there = take_nodes(&mut second, sets, &dir);
+        let before = (first_there, second_there);
+        renew_dir(alloc, commit, before, dir, made, nodes)?;
     }
     Ok(())
 }
 
-// Takes out the nodes of a directory at the parent. There are none where a file is set there or above.
+// Takes out the nodes of a directory at a parent. There are none where a file is set there or above.
 fn take_nodes(before: &mut Dirs, sets: &[&RepoPath], dir: &RepoPath) -> Option<DirNodes>
     ensures nodes { (c : Changeset) → is_changeset c ≡ true → self_conflict c ≡ None → paths_seen sets.now ≡ paths_set c.changes → option_map before_seen result ≡ (if is_covered_by c dir.now then None else option_map before_seen (get path_cmp before.old dir.now)) }
     ensures others { (p : Path) → eq_by_cmp path_cmp dir.now p ≡ false → get path_cmp before.new p ≡ get path_cmp before.old p }
@@ -67,25 +73,45 @@ fn take_nodes(before: &mut Dirs, sets: &[&RepoPath], dir: &RepoPath) -> Option<D
     nodes
 }
 
-// Makes the nodes of a directory anew. Where it is empty after the changeset, it isn't there.
+// Makes the nodes of a directory anew, from those of both parents. Where it is empty after the changeset, it isn't there.
 fn renew_dir(
     alloc: Global,
     commit: &Commit,
-    before: Option<DirNodes>,
+    before: (Option<DirNodes>, Option<DirNodes>),
     dir: RepoPath,
     made: &mut MadeDirs,
     nodes: &mut Vec<Node>,
 ) -> Result<(), AllocError>
-    ensures { (c : Known) (older : List Known) → IsDue c older commit.now → option_map before_seen before ≡ (if is_covered_by c.changeset dir then None else nodes_on older dir) → is_renewed c.changeset dir ≡ true → IsMadeUnder c older made.old dir → get path_cmp made.old dir ≡ None → OnOk result (IsRenewed c older dir made.old made.new nodes.old.items nodes.new.items) }
+    ensures { (c : Known) (p q : Past) → IsDue c p q commit.now → option_map before_seen before.0 ≡ (if is_covered_by c.changeset dir then None else nodes_of p dir) → option_map before_seen before.1 ≡ (if is_covered_by c.changeset dir then None else nodes_of q dir) → is_touched c p q dir ≡ true → IsMadeUnder c p q made.old dir → get path_cmp made.old dir ≡ None → OnOk result (IsRenewed c p q dir made.old made.new nodes.old.items nodes.new.items) }
 {
     let edits = edits_under(commit.changeset().edits(), &dir);
-    let (fsnode_before, unode_before) = apart(before);
-    let fsnode = fsnode_in(alloc, fsnode_before, edits, Some(&dir), made, nodes)?;
+    let (fsnode_first, unode_first) = apart(before.0);
+    let (fsnode_second, unode_second) = apart(before.1);
+    let fsnode = fsnode_in(
+        alloc,
+        fsnode_first,
+        fsnode_second,
+        edits,
+        Some(&dir),
+        made,
+        nodes,
+    )?;
     if fsnode.entries.is_empty() {
         return Ok(());
     }
     let link = commit.id();
-    let unode = manifest_in(alloc, unode_before, link, edits, Some(&dir), made, nodes)?;
+    let files = fsnode.entries.as_slice();
+    let kind = Unodes { link, files };
+    let unode = manifest_in(
+        alloc,
+        unode_first,
+        unode_second,
+        &kind,
+        edits,
+        Some(&dir),
+        made,
+        nodes,
+    )?;
     let ids = put_nodes(alloc, &fsnode, unode, nodes)?;
     made.insert(dir, made_of(ids, fsnode.summary))?;
     Ok(())
@@ -123,20 +149,33 @@ fn made_of(ids: DirIds, summary: Summary) -> Made
     }
 }
 
-/// Makes the nodes of the root anew, from those before. It is always there.
+/// Makes the nodes of the root anew, from those of both parents. It is always there.
 pub(crate) fn renew_root(
     alloc: Global,
     commit: &Commit,
-    before: Option<DirNodes>,
+    before: (Option<DirNodes>, Option<DirNodes>),
     made: &MadeDirs,
     nodes: &mut Vec<Node>,
 ) -> Result<DirIds, AllocError>
-    ensures { (c : Known) (older : List Known) → IsDue c older commit.now → option_map before_seen before ≡ nodes_on older [] → IsMadeUnder c older made.now [] → IfOk result (λ ids. (ids ≡ ids_at (c ∷ older) []) × (nodes.new.items ≡ nodes.old.items ++ dir_nodes c older [])) }
+    ensures { (c : Known) (p q : Past) → IsDue c p q commit.now → option_map before_seen before.0 ≡ nodes_of p [] → option_map before_seen before.1 ≡ nodes_of q [] → IsMadeUnder c p q made.now [] → IfOk result (λ ids. (ids ≡ ids_at (At c p q) []) × ArePutFor c p q ([] ∷ []) nodes.old.items nodes.new.items) }
 {
     let edits = commit.changeset().edits();
-    let (fsnode_before, unode_before) = apart(before);
-    let fsnode = fsnode_in(alloc, fsnode_before, edits, None, made, nodes)?;
-    let unode = manifest_in(alloc, unode_before, commit.id(), edits, None, made, nodes)?;
+    let (fsnode_first, unode_first) = apart(before.0);
+    let (fsnode_second, unode_second) = apart(before.1);
+    let fsnode = fsnode_in(alloc, fsnode_first, fsnode_second, edits, None, made, nodes)?;
+    let link = commit.id();
+    let files = fsnode.entries.as_slice();
+    let kind = Unodes { link, files };
+    let unode = manifest_in(
+        alloc,
+        unode_first,
+        unode_second,
+        &kind,
+        edits,
+        None,
+        made,
+        nodes,
+    )?;
     put_nodes(alloc, &fsnode, unode, nodes)
 }
 

@@ -1,14 +1,19 @@
-//! The directories that a changeset touches: those above its change paths.
-ghost use Rattle.std.specs.Prelude.{◌≡◌, ◌==◌, ◌&&◌, ◌||◌, not, true, length, OnOk, IfOk, IsTrue};
+//! The directories that a changeset touches: those above its change paths, and those of which both parents have different
+//! unodes.
+ghost use Rattle.std.specs.Prelude.{◌≡◌, ◌==◌, ◌&&◌, ◌||◌, not, true, length, OnOk, IfOk, IsTrue, option_map};
 ghost use Rattle.std.specs.List.{list_any};
+ghost use Rattle.std.specs.BTreeMap.{get};
 ghost use Rattle.std.specs.BTreeSet.{contains};
 ghost use Rattle.bonsai.specs.View.{edits_view};
 ghost use Rattle.changeset_model.specs.Path.{Path, elements, is_path, is_strict_prefix, path_cmp};
-ghost use Rattle.derive_step.specs.Touched.{is_above, IsWhole};
+ghost use Rattle.derive_step.specs.Touched.{is_above, differ_in, is_other, IsWhole};
+ghost use Rattle.derive_step.specs.Views.{before_seen};
 
 use crate::place::text_above;
+use crate::renewal::Dirs;
 use bonsai::Edit;
-use repo_path::{RepoPath, path_of};
+use object_id::Id;
+use repo_path::{RepoPath, has_elements, path_of};
 use std::alloc::{AllocError, Global};
 use std::collections::BTreeSet;
 
@@ -39,4 +44,32 @@ fn add_above(alloc: Global, path: &str, dirs: &mut BTreeSet<RepoPath>) -> Result
         text = above;
     }
     Ok(())
+}
+
+/// Adds the directories other than the root of which both parents have different unodes.
+pub(crate) fn add_differing(
+    alloc: Global,
+    first: &Dirs,
+    second: &Dirs,
+    dirs: &mut BTreeSet<RepoPath>,
+) -> Result<(), AllocError>
+    ensures { OnOk result ((p : Path) → contains path_cmp dirs.new p ≡ (contains path_cmp dirs.old p || (not (length p == 0) && differ_in first.now second.now p))) }
+{
+    for (dir, nodes) in first {
+        if has_other(second, dir, &nodes.unode_id) {
+            has_elements(dir);
+            dirs.insert(dir.copy(alloc)?)?;
+        }
+    }
+    Ok(())
+}
+
+// Whether a directory is there with another unode.
+fn has_other(dirs: &Dirs, dir: &RepoPath, id: &Id) -> bool
+    ensures { result ≡ is_other id.now (option_map before_seen (get path_cmp dirs.now dir.now)) }
+{
+    match dirs.get(dir) {
+        Some(nodes) => *id != nodes.unode_id,
+        None => false,
+    }
 }

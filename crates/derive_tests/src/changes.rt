@@ -41,8 +41,7 @@ fn parents(alloc: Global, parent: Option<Id>) -> Result<Vec<Id>, AllocError> {
     Ok(parents)
 }
 
-fn fields(alloc: Global, parent: Option<Id>, edits: Vec<Edit>) -> Result<Fields, AllocError> {
-    let parents = parents(alloc, parent)?;
+fn fields(alloc: Global, parents: Vec<Id>, edits: Vec<Edit>) -> Result<Fields, AllocError> {
     let author = String::from_str(alloc, "a")?;
     Ok(Fields {
         version: Version::First,
@@ -65,7 +64,17 @@ pub(crate) fn commit(
     parent: Option<Id>,
     edits: Vec<Edit>,
 ) -> Result<Option<Commit>, Fail> {
-    let fields = fields(alloc, parent, edits)?;
+    let parents = parents(alloc, parent)?;
+    commit_on(alloc, parents, edits)
+}
+
+/// The changeset of these edits on parents, if they make one.
+pub(crate) fn commit_on(
+    alloc: Global,
+    parents: Vec<Id>,
+    edits: Vec<Edit>,
+) -> Result<Option<Commit>, Fail> {
+    let fields = fields(alloc, parents, edits)?;
     match changeset(alloc, fields) {
         Some(changeset) => Ok(Some(Commit::of(alloc, changeset)?)),
         None => Ok(None),

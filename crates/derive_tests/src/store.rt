@@ -3,7 +3,7 @@ use crate::changes::path;
 use bonsai::{Change, Commit, Edit};
 use derive_step::{Deletions, DirIds, DirNodes, Done, HeldNodes, Job, Parent, Parents, derive};
 use fsnode::{FsChild, FsEntry, Fsnode};
-use node_table::{Node, Roots};
+use node_table::{Node, NodeTable, Roots};
 use object_id::Id;
 use repo_path::RepoPath;
 use std::alloc::Global;
@@ -51,6 +51,17 @@ impl Store {
             Some(bytes) => Ok(bytes.as_slice()),
             None => Err(Fail::from("a node")),
         }
+    }
+
+    /// A table with all nodes.
+    pub(crate) fn table(&self) -> Result<NodeTable, Fail> {
+        let mut table = NodeTable::new(self.alloc);
+        for bytes in self.nodes.values() {
+            if table.insert(bytes.clone()?).is_err() {
+                return Err(Fail::from("a table"));
+            }
+        }
+        Ok(table)
     }
 
     pub(crate) fn fsnode(&self, id: &Id) -> Result<Fsnode, Fail> {
@@ -136,13 +147,42 @@ impl Store {
         commit: Commit,
         before: Option<&Derived>,
     ) -> Result<Derived, Fail> {
-        let id = commit.id();
         let parent = match before {
             Some(before) => Some(self.parent(before.roots)?),
             None => None,
         };
         let deletions = self.deletions(parent.as_ref(), commit.changeset().edits())?;
-        let done = done_of(self.alloc, commit, parent, deletions)?;
+        let parents = match parent {
+            Some(parent) => Parents::One(parent),
+            None => Parents::Absent,
+        };
+        self.derive_on(commit, parents, deletions)
+    }
+
+    /// Derives a merge of two others, at which these files go and come, and keeps its nodes.
+    pub(crate) fn derive_merge(
+        &mut self,
+        commit: Commit,
+        first: &Derived,
+        second: &Derived,
+        gone: Vec<RepoPath>,
+        come: Vec<RepoPath>,
+    ) -> Result<Derived, Fail> {
+        let nodes = self.deleted_nodes()?;
+        let deletions = Deletions { gone, come, nodes };
+        let first = self.parent(first.roots)?;
+        let second = self.parent(second.roots)?;
+        self.derive_on(commit, Parents::Two(first, second), deletions)
+    }
+
+    fn derive_on(
+        &mut self,
+        commit: Commit,
+        parents: Parents,
+        deletions: Deletions,
+    ) -> Result<Derived, Fail> {
+        let id = commit.id();
+        let done = done_of(self.alloc, commit, parents, deletions)?;
         let (roots, new) = (done.roots, done.nodes.len());
         self.keep(done)?;
         Ok(Derived { id, roots, new })
@@ -241,14 +281,10 @@ fn joined(alloc: Global, dir: &str, name: &[u8]) -> Result<String, Fail> {
 fn done_of(
     alloc: Global,
     commit: Commit,
-    parent: Option<Parent>,
+    parents: Parents,
     deletions: Deletions,
 ) -> Result<Done, Fail> {
     let commit = Arc::new(alloc, commit)?;
-    let parents = match parent {
-        Some(parent) => Parents::One(parent),
-        None => Parents::Absent,
-    };
     let job = Job {
         number: 7,
         commit,

@@ -26,7 +26,6 @@ refusal_is refusals.Down = inr (inr (reply.Down, refl, λ want. absurd (let e = 
 refusal_is (refusals.TooLong length) = inr (inr (reply.TooLong length, refl, λ want. absurd (let e = want.2 in cc), refl))
 refusal_is (refusals.BadEncoding at) = inr (inr (reply.BadEncoding at, refl, λ want. absurd (let e = want.2 in cc), refl))
 refusal_is (refusals.SelfConflict short long) = inr (inr (reply.SelfConflict short long, refl, λ want. absurd (let e = want.2 in cc), refl))
-refusal_is refusals.Merge = inr (inr (reply.Merge, refl, λ want. absurd (let e = want.2 in cc), refl))
 refusal_is (refusals.BadParts length) = inr (inr (reply.BadParts length, refl, λ want. absurd (let e = want.2 in cc), refl))
 refusal_is refusals.OldFormat = inr (inr (reply.OldFormat, refl, λ want. absurd (let e = want.2 in cc), refl))
 refusal_is (refusals.NoPiece id) = inr (inr (reply.NoPiece id, refl, λ want. absurd (let e = want.2 in cc), refl))

@@ -97,7 +97,7 @@ again_by header h (PutContent given) granted b fetched asked judged m plain f =
 again_by header h (PutWhole given pieces) granted b fetched asked judged m plain f = absurd (subst IsPlain m.3 plain)
 again_by header h (PutChangeset given) granted b fetched asked judged m plain f =
     let is : fetched ≡ spelling m.0 = subst (λ b. IsFetchFor b fetched) m.3 f in
-    let same : fetched ≡ given = is ∙ sym (what_is_uploaded given m.0 asked m.1 m.2).1 in
+    let same : fetched ≡ given = is ∙ sym (what_is_uploaded given m.0 asked m.1).1 in
     ap (λ b. judge header h (ask_in b fetched)) m.3 ∙ ap (λ t. judge header h (PutChangeset t)) same ∙ judged
 again_by header h (SetBookmark caller name from to) granted b fetched asked judged m plain f =
     ap (λ b. judge header h (ask_in b fetched)) m.0

@@ -13,7 +13,7 @@ use Rattle.changeset_model.specs.Changeset.{Changeset, id_of, sets_of, most_cont
 use Rattle.changeset_model.specs.Decoding.{DecodeFault, decoded}
 use Rattle.history_model.specs.History.{Body, Content, Whole, Change, Book, Land, Policy, Fault, Entry, unnumbered, bodies, is_down, Known, with_id, each_id_once, changesets_in, known, is_known, changeset_of, length_in, content_len, policy_text, policy_at}
 use Rattle.history_model.specs.Journal.{Header}
-use Rattle.reply_model.specs.Reply.{Ask, PutContent, PutWhole, PutChangeset, SetBookmark, LandDraft, SetPolicy, Refusal, Down, TooLong, Merge, NoParent, Unresolved, Collision, Granted, ContentPut, ChangesetPut, Judged, ◌>>=◌, refuse_if, refuse_some, unchanged, entered, accepted, content_refusal, unresolved_of, collides, judge}
+use Rattle.reply_model.specs.Reply.{Ask, PutContent, PutWhole, PutChangeset, SetBookmark, LandDraft, SetPolicy, Refusal, Down, TooLong, NoParent, Unresolved, Collision, Granted, ContentPut, ChangesetPut, Judged, ◌>>=◌, refuse_if, refuse_some, unchanged, entered, accepted, content_refusal, unresolved_of, collides, judge}
 use Rattle.reply_model.specs.Legal.{IsLegal}
 use Rattle.reply_model.proofs.Stored.{known-stored}
 use Rattle.reply_model.proofs.Parents.{same_id}
@@ -103,17 +103,15 @@ last_new header h c b j made e =
 
 abbrev mid_steps : Header → List Entry → Changeset → Result Judged Refusal
 mid_steps header h c = do
-  _ ← refuse_if (nat_lt 1 (length c.parents)) Merge
   _ ← refuse_some (find (λ p. not (is_known (known h) p)) c.parents) NoParent
   _ ← refuse_some (first_some (λ e. content_refusal e (content_len h e.1.content)) (sets_of c)) (λ refusal. refusal)
   last_steps header h c
 
 mid_new : (header : Header) (h : List Entry) (c : Changeset) (b : Body) (j : Judged) → j.made ≡ Some b → mid_steps header h c ≡ Ok j → is_known (known h) (id_of c) ≡ false
 mid_new header h c b j made e =
-    let one = then_ok (refuse_if (nat_lt 1 (length c.parents)) Merge) _ j e in
-    let two = then_ok (refuse_some (find (λ p. not (is_known (known h) p)) c.parents) NoParent) _ j one.2 in
-    let three = then_ok (refuse_some (first_some (λ e. content_refusal e (content_len h e.1.content)) (sets_of c)) (λ refusal. refusal)) _ j two.2 in
-    last_new header h c b j made three.2
+    let one = then_ok (refuse_some (find (λ p. not (is_known (known h) p)) c.parents) NoParent) _ j e in
+    let two = then_ok (refuse_some (first_some (λ e. content_refusal e (content_len h e.1.content)) (sets_of c)) (λ refusal. refusal)) _ j one.2 in
+    last_new header h c b j made two.2
 
 upload_new : (header : Header) (h : List Entry) (bytes : List ℕ) (c : Changeset) (b : Body) (j : Judged) → j.made ≡ Some b → decoded bytes ≡ Ok c → judge header h (PutChangeset bytes) ≡ Ok j → is_known (known h) (id_of c) ≡ false
 upload_new header h bytes c b j made read e =

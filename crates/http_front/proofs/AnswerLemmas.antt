@@ -42,7 +42,6 @@ makes_nothing refusals.Down = tt
 makes_nothing (refusals.TooLong n) = tt
 makes_nothing (refusals.BadEncoding at) = tt
 makes_nothing (refusals.SelfConflict short long) = tt
-makes_nothing refusals.Merge = tt
 makes_nothing (refusals.BadParts n) = tt
 makes_nothing refusals.OldFormat = tt
 makes_nothing (refusals.NoPiece x) = tt

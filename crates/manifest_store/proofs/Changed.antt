@@ -1,5 +1,5 @@
--- What edits take away and bring is what goes and comes at the changeset.
-use Rattle.std.proofs.Common.{◌≡◌, ◌⊎◌, inl, inr, Bool, true, false, not, cond, ◌&&◌, List, [], ◌∷◌, refl, sym, ap, ◌∙◌}
+-- What edits take away, and what they and a second parent bring, is what goes and comes at the changeset.
+use Rattle.std.proofs.Common.{◌≡◌, ◌⊎◌, inl, inr, Bool, true, false, not, cond, ◌&&◌, ◌||◌, List, [], ◌∷◌, refl, sym, ap, ◌∙◌}
 use Rattle.std.specs.Prelude.{Option, Some, None, is_some, is_none, bytes_eq}
 use Rattle.std.specs.List.{list_any}
 use Rattle.std.specs.Option.{option_and_then, option_or}
@@ -8,14 +8,13 @@ use Rattle.std.specs.FinMap.{is_sorted, find as find_key}
 use Rattle.std.specs.FinMap.Entries.{below_all}
 use mathlib.Core.Bool.{true≢false}
 use Rattle.std.proofs.lemmas.Bool.{and_parts, or_left, or_right, false_from_ne_true}
-use Rattle.byte_fields.proofs.Booleans.{same_some}
+use Rattle.byte_fields.proofs.Booleans.{and_false, and_true, same_some}
 use Rattle.changeset_model.specs.Path.{Path, path_cmp, path_eq, is_prefix, is_strict_prefix}
 use Rattle.changeset_model.specs.Changeset.{File, FileChange, Set, Delete, Changeset, file_of, set_at, self_conflict}
 use Rattle.bonsai.proofs.Rules.{changes_rise}
 use Rattle.history_model.specs.History.{Known}
-use Rattle.history_model.specs.Past.{Past, Begin, At, past_on}
+use Rattle.history_model.specs.Past.{Past, At}
 use Rattle.history_model.specs.Tree.{decides, decides_at, tree, tree_of}
-use Rattle.history_model.proofs.Pasts.{tree_of-past_on}
 use Rattle.manifest_model.proofs.Derivations.{tied_same, or_case as or_either}
 use Rattle.manifest_laws.proofs.Flat.{flat, set_decides, tied_self, strict_parts, is_strict_or_same}
 use Rattle.manifest_laws.proofs.Changes.{one_more}
@@ -24,8 +23,8 @@ use Rattle.manifest_laws.proofs.Lists.{none_some, true_and_false}
 use Rattle.manifest_laws.proofs.Names.{same_name, name_itself}
 use Rattle.history_model.proofs.Landings.{prefix_self}
 use Rattle.deleted_step.specs.Steps.{AreComeAndGone}
-use Rattle.derive_step.specs.Jobs.{IsRight}
-use Rattle.manifest_store.specs.Moves.{has_file, takes, takes_at, brings, Adds}
+use Rattle.manifest_store.specs.Manifests.{IsRight}
+use Rattle.manifest_store.specs.Moves.{has_file, takes, takes_at, brings, comes, Adds}
 
 abbrev Edits : Type 0
 Edits = List (Path × FileChange)
@@ -116,15 +115,15 @@ lone_sets c clear p q f g h k = false_from_ne_true (is_strict_prefix p q) (λ un
     in_tree : (x : Path) (f : File) → set_at c x ≡ Some f → tree (c ∷ []) x ≡ Some f
     in_tree x f at = one_more [] c x ∙ ap (λ b. cond b (set_at c x) (tree [] x)) (set_decides c x x f at (or_left (is_prefix x x) (is_prefix x x) (prefix_self x))) ∙ at
 
-module _ (c : Known) (older : List Known) (right : IsRight (c ∷ older)) where
+module _ (c : Known) (first second : Past) (right : IsRight (At c first second)) where
   abbrev es : Edits
   es = c.changeset.changes
 
   abbrev now : Past
-  now = At c (past_on older) Begin
+  now = At c first second
 
   rise : is_sorted path_cmp es ≡ true
-  rise = changes_rise c.changeset right.rules.0
+  rise = changes_rise c.changeset right.resolved.0.rules
 
   taken_is_decided : (p : Path) → list_any (λ e. takes e p) es ≡ true → decides c.changeset p ≡ true
   taken_is_decided p h = any_more (λ e. takes e p) (λ e. decides_at e.1 e.0 p) (takes_decides p) es h
@@ -153,8 +152,8 @@ module _ (c : Known) (older : List Known) (right : IsRight (c ∷ older)) where
       by ((q, Set g copied), k, found) =
           let there : set_at c.changeset q ≡ Some g = ap (option_and_then file_of) found in
           or_either (is_strict_prefix p q) (is_strict_prefix q p)
-          (λ under. true_and_false (is_strict_prefix p q) under (lone_sets c.changeset right.clear.0 p q f g at there))
-          (λ under. true_and_false (is_strict_prefix q p) under (lone_sets c.changeset right.clear.0 q p g f there at)) k
+          (λ under. true_and_false (is_strict_prefix p q) under (lone_sets c.changeset right.resolved.0.clear p q f g at there))
+          (λ under. true_and_false (is_strict_prefix q p) under (lone_sets c.changeset right.resolved.0.clear q p g f there at)) k
       by ((q, Delete), k, found) = none_some f (sym (ap (set_at c.changeset) (tied_same p q k) ∙ ap (option_and_then file_of) found) ∙ at)
 
   -- what is decided and not set is taken away
@@ -165,20 +164,21 @@ module _ (c : Known) (older : List Known) (right : IsRight (c ∷ older)) where
       by (inl k) = k
       by (inr k) = absurd (true≢false (sym (set_here p k) ∙ ap is_some at))
 
-  was_there : (p : Path) → has_file older p ≡ is_some (tree_of (past_on older) p)
-  was_there p = ap is_some (sym (tree_of-past_on older p))
-
-  pub goes : (p : Path) → (has_file older p && list_any (λ e. takes e p) es) ≡ (is_some (tree_of (past_on older) p) && is_none (tree_of now p))
-  goes p = ap (λ b. b && list_any (λ e. takes e p) es) (was_there p) ∙ by (tree_of (past_on older) p) (decides c.changeset p) refl (set_at c.changeset p) refl
+  pub goes : (p : Path) → (has_file first p && list_any (λ e. takes e p) es) ≡ (is_some (tree_of first p) && is_none (tree_of now p))
+  goes p = by (tree_of first p) (decides c.changeset p) refl (set_at c.changeset p) refl
     where
-      by : (o : Option File) (b : Bool) → decides c.changeset p ≡ b → (s : Option File) → set_at c.changeset p ≡ s → (is_some o && list_any (λ e. takes e p) es) ≡ (is_some o && is_none (cond b s (option_or o None)))
+      by : (o : Option File) (b : Bool) → decides c.changeset p ≡ b → (s : Option File) → set_at c.changeset p ≡ s → (is_some o && list_any (λ e. takes e p) es) ≡ (is_some o && is_none (cond b s (option_or o (tree_of second p))))
       by None b d s at = refl
       by (Some f) true d None at = unset_taken p d at
       by (Some f) true d (Some g) at = false_from_ne_true (list_any (λ e. takes e p) es) (λ h. none_some g (sym (taken_unset p h (Some g) at)))
       by (Some f) false d s at = false_from_ne_true (list_any (λ e. takes e p) es) (λ h. true≢false (sym (taken_is_decided p h) ∙ d))
 
-  pub comes : (p : Path) → (not (has_file older p) && list_any (λ e. brings e p) es) ≡ (is_none (tree_of (past_on older) p) && is_some (tree_of now p))
-  comes p = ap (λ b. not b && list_any (λ e. brings e p) es) (was_there p) ∙ by (tree_of (past_on older) p) (decides c.changeset p) refl (set_at c.changeset p) refl
+  -- what edits bring, and what the second parent has
+  abbrev either : Path → Bool → Bool → Bool
+  either p b d = b || (has_file second p && not d)
+
+  pub come_all : (p : Path) → comes first second es p ≡ (is_none (tree_of first p) && is_some (tree_of now p))
+  come_all p = by (tree_of first p) (decides c.changeset p) refl (set_at c.changeset p) refl
     where
       brought : (f : File) → set_at c.changeset p ≡ Some f → decides c.changeset p ≡ true
       brought f at = set_decides c.changeset p p f at (or_left (is_prefix p p) (is_prefix p p) (prefix_self p))
@@ -186,15 +186,16 @@ module _ (c : Known) (older : List Known) (right : IsRight (c ∷ older)) where
       unset : set_at c.changeset p ≡ None → list_any (λ e. brings e p) es ≡ false
       unset at = false_from_ne_true (list_any (λ e. brings e p) es) (λ h. true≢false (sym (set_here p h) ∙ ap is_some at))
 
-      by : (o : Option File) (b : Bool) → decides c.changeset p ≡ b → (s : Option File) → set_at c.changeset p ≡ s → (not (is_some o) && list_any (λ e. brings e p) es) ≡ (is_none o && is_some (cond b s (option_or o None)))
+      by : (o : Option File) (b : Bool) → decides c.changeset p ≡ b → (s : Option File) → set_at c.changeset p ≡ s →
+          (not (is_some o) && either p (list_any (λ e. brings e p) es) (decides c.changeset p)) ≡ (is_none o && is_some (cond b s (option_or o (tree_of second p))))
       by (Some f) b d s at = refl
-      by None true d (Some g) at = set_brings p g at
-      by None true d None at = unset at
+      by None true d (Some g) at = ap (λ b. either p b (decides c.changeset p)) (set_brings p g at)
+      by None true d None at = (λ i. either p (unset at i) (d i)) ∙ and_false (has_file second p)
       by None false d (Some g) at = absurd (true≢false (sym (brought g at) ∙ d))
-      by None false d None at = unset at
+      by None false d None at = (λ i. either p (unset at i) (d i)) ∙ and_true (has_file second p)
 
-  pub files_are : (gone come : List Path) → Adds (λ p. has_file older p && list_any (λ e. takes e p) es) [] gone → Adds (λ p. not (has_file older p) && list_any (λ e. brings e p) es) [] come → AreComeAndGone c (past_on older) Begin gone come
+  pub files_are : (gone come : List Path) → Adds (λ p. has_file first p && list_any (λ e. takes e p) es) [] gone → Adds (comes first second es) [] come → AreComeAndGone c first second gone come
   files_are gone come went came = record {
     went = λ p. went p ∙ goes p;
-    came = λ p. came p ∙ comes p;
+    came = λ p. came p ∙ come_all p;
   }

@@ -1,10 +1,10 @@
--- Lines of known changesets by their numbers.
+-- Lines of known changesets by their numbers, through first parents.
 use Rattle.std.proofs.Common.{◌≡◌, ℕ, zero, suc, ◌<◌, true, false, List, [], ◌∷◌, ◌++◌, map, length, reverse, refl, sym, ap, subst, ◌∙◌, arith, ⊎_elim, cond, append_assoc}
 use Rattle.std.specs.Prelude.{Option, Some, None, IfSome, is_some, bytes_eq, flat_map}
 use Rattle.std.specs.Option.{option_map_or, option_and_then, option_or}
 use mathlib.Core.Bool.{true≢false}
 use Rattle.std.proofs.lemmas.Bool.{cond-true, cond-false, cases_eq, false_from_ne_true, or_left, or_right}
-use Rattle.std.proofs.lemmas.List.{length-reverse, reverse-reverse, map-append, append-nil}
+use Rattle.std.proofs.lemmas.List.{length-reverse, reverse-reverse, append-nil}
 use Rattle.std.proofs.lemmas.Option.{same_Some}
 use Rattle.std.proofs.lemmas.Slice.Eq.{bytes_eq-Decides}
 use Rattle.byte_fields.specs.Bytes.{Id}
@@ -12,29 +12,31 @@ use Rattle.changeset_model.specs.Changeset.{Changeset, id_of}
 use Rattle.history_model.specs.History.{Entry, Change, Known, with_id, each_id_once, changesets_in, known, is_known}
 use Rattle.history_model.specs.Chain.{first_parent, HasParents, changesets, line_among, line}
 use Rattle.history_model.proofs.Chains.{first_of_all}
-use Rattle.reply_model.proofs.Lines.{AreOnce, known_once, line_grows}
+use Rattle.reply_model.proofs.Lines.{AreOnce, known_once}
 use Rattle.manifest_model.proofs.Derivations.{or_case as or_either}
-use Rattle.changeset_store.specs.Store.{number_in, parent_at, known_at, changeset_at}
+use Rattle.history_model.specs.Past.{second_of}
+use Rattle.changeset_store.specs.Store.{number_in, parent_at, second_parent_at, known_at, changeset_at}
 use Rattle.changeset_store.specs.Fork.{IsAncestor}
+use Rattle.changeset_store.specs.Merges.{line_at}
 use Rattle.changeset_store.specs.Numbers.{AreApart, parents_among}
-use Rattle.changeset_store.proofs.Places.{known_at-changeset, known_at-append, changeset_at-append, id_at, number_in-push}
+use Rattle.changeset_store.proofs.Places.{known_at-changeset, changeset_at-append, id_at, number_in-push}
 use Rattle.changeset_store.proofs.Numbering.{at_older, at_newest}
 use Rattle.reply_model.proofs.Parents.{known_reverse}
 use Rattle.changeset_store.proofs.Ancestors.{AreKnown}
 use Rattle.changeset_store.proofs.Forks.{is_its_number, has_its_id}
 use Rattle.changeset_store.proofs.Parents.{parents_at, number_is_some, number_below}
-use Rattle.manifest_store.specs.Lines.{line_at, IsStore}
+use Rattle.manifest_store.specs.Lines.{IsStore}
 
 -- ---- the history that makes these known
 
-abbrev story : List Known → List Entry
+abbrev pub story : List Known → List Entry
 story ks = map (λ k. record { who = 0; body = Change k.changeset }) ks
 
 told : (ks : List Known) → flat_map (λ e. changesets_in e.body) (story ks) ≡ changesets ks
 told [] = refl
 told (k ∷ ks) = ap (λ cs. k.changeset ∷ cs) (told ks)
 
-known_story : (ks : List Known) → map with_id (changesets ks) ≡ ks → each_id_once ks ≡ ks → known (story ks) ≡ ks
+pub known_story : (ks : List Known) → map with_id (changesets ks) ≡ ks → each_id_once ks ≡ ks → known (story ks) ≡ ks
 known_story ks ids once = ap each_id_once (ap (map with_id) (told ks) ∙ ids) ∙ once
 
 pub apart_of : (ks : List Known) → AreOnce ks → AreApart ks
@@ -139,7 +141,7 @@ module _ (ks : List Known) (s : IsStore ks) where
       let P : List Known → Type 0 = λ js. n < length js → (known_at js n).id ≡ id_of (changeset_at js n) in
       subst P s.ids (λ h. id_at (changesets ks) n h) less ∙ ap id_of (sym (known_at-changeset ks n))
 
-  parent_below : (o : Option Id) (p : ℕ) → option_and_then (number_in ks) o ≡ Some p → p < length ks
+  pub parent_below : (o : Option Id) (p : ℕ) → option_and_then (number_in ks) o ≡ Some p → p < length ks
   parent_below None p e = absurd cc
   parent_below (Some q) p e = below q p e
     where
@@ -149,9 +151,12 @@ module _ (ks : List Known) (s : IsStore ks) where
   pub parent_in : (n p : ℕ) → parent_at ks n ≡ Some p → p < length ks
   parent_in n p e = parent_below (first_parent (changeset_at ks n)) p e
 
+  pub second_parent_in : (n p : ℕ) → second_parent_at ks n ≡ Some p → p < length ks
+  second_parent_in n p e = parent_below (second_of (changeset_at ks n).parents) p e
+
   -- ---- along a line
 
-  pub in_line : (m n : ℕ) → IsAncestor ks m n → is_known (line_at ks n) (known_at ks m).id ≡ true
+  in_line : (m n : ℕ) → IsAncestor ks m n → is_known (line_at ks n) (known_at ks m).id ≡ true
   in_line m n a = sym (known_reverse (line_at ks n) (known_at ks m).id) ∙ a.in_chain
 
   ancestor : (m n : ℕ) → m < length ks → n < length ks → is_known (line_at ks n) (known_at ks m).id ≡ true → IsAncestor ks m n
@@ -207,15 +212,6 @@ module _ (ks : List Known) (s : IsStore ks) where
 
 -- ---- more become known
 
-line_more : (ks more : List Known) → IsStore (ks ++ more) → each_id_once ks ≡ ks → map with_id (changesets ks) ≡ ks → (x : Id) → is_known ks x ≡ true → line (ks ++ more) x ≡ line ks x
-line_more ks more s once ids x there =
-    let here = known_story ks ids once in
-    let whole : known (story ks ++ story more) ≡ ks ++ more = ap known (sym (map-append (λ k. record { who = 0; body = Change k.changeset }) ks more)) ∙ known_story (ks ++ more) s.ids s.once in
-    ap (λ js. line js x) (sym whole) ∙ line_grows (story ks) (story more) x (ap (λ js. is_known js x) here ∙ there) ∙ ap (λ js. line js x) here
-
-pub line_stays : (ks more : List Known) (n : ℕ) → IsStore ks → IsStore (ks ++ more) → n < length ks → line_at (ks ++ more) n ≡ line_at ks n
-line_stays ks more n own s less = ap (λ k. line (ks ++ more) k.id) (known_at-append ks more n less) ∙ line_more ks more s own.once own.ids (known_at ks n).id (known_here ks n less)
-
 number_stays : (ks more : List Known) (x : Id) (j : ℕ) → number_in ks x ≡ Some j → number_in (ks ++ more) x ≡ Some j
 number_stays ks [] x j e = ap (λ js. number_in js x) (append-nil ks) ∙ e
 number_stays ks (k ∷ more) x j e =
@@ -227,7 +223,7 @@ module _ (ks more : List Known) (own : IsStore ks) where
   number_by q None e h = absurd (true≢false (sym h))
   number_by q (Some j) e h = number_stays ks more q j e ∙ sym e
 
-  parent_by : (o : Option Id) → IfSome o (λ q. is_known ks q ≡ true) → option_and_then (number_in (ks ++ more)) o ≡ option_and_then (number_in ks) o
+  pub parent_by : (o : Option Id) → IfSome o (λ q. is_known ks q ≡ true) → option_and_then (number_in (ks ++ more)) o ≡ option_and_then (number_in ks) o
   parent_by None h = refl
   parent_by (Some q) h = number_by q (number_in ks q) refl (number_is_some ks (apart_back ks own) q ∙ h)
 

@@ -1,82 +1,46 @@
 -- The links of nodes lead to the last change of a path, by its number.
-use Rattle.std.proofs.Common.{◌≡◌, ℕ, zero, suc, ◌<◌, Bool, true, false, cond, List, [], ◌∷◌, ◌++◌, length, map as list_map, reverse, drop, drop-cons, get_or, add-one, ◌+◌, append_assoc, refl, sym, ap, subst, ◌∙◌, arith, ⊎_elim}
-use Rattle.std.specs.Prelude.{Option, Some, None, IfSome, is_some, slice_get, filter_map, Result, Ok, Err, ◌==◌, not}
+use Rattle.std.proofs.Common.{◌≡◌, ℕ, zero, suc, ◌<◌, Bool, true, false, cond, List, [], ◌∷◌, ◌++◌, length, map as list_map, drop, drop-cons, get_or, add-one, ◌+◌, append_assoc, refl, sym, ap, subst, ◌∙◌}
+use Rattle.std.specs.Prelude.{Option, Some, None, is_some, filter_map, Result, Ok, Err, ◌==◌, not}
 use Rattle.std.specs.List.{All, AllByRecursion, cons_option}
 use Rattle.std.specs.Option.{option_and_then, option_map_or}
 use Rattle.std.specs.FinMap as map
-use Rattle.std.proofs.lemmas.Bool.{cases_eq}
 use Rattle.std.proofs.lemmas.List.Elements.{All-filter, All-from_recursion, recursion_from_All}
-use Rattle.std.proofs.lemmas.List.{length-map, length-reverse}
-use Rattle.byte_fields.specs.Bytes.{Id, is_bytes}
+use Rattle.std.proofs.lemmas.List.{length-map}
+use Rattle.byte_fields.specs.Bytes.{Id}
 use Rattle.byte_fields.proofs.Booleans.{same_some}
-use Rattle.byte_fields.proofs.Lists.{get_next}
 use Rattle.changeset_model.specs.Path.{Path}
-use Rattle.changeset_model.specs.Changeset.{File, id_of, set_at}
+use Rattle.changeset_model.specs.Changeset.{File, id_of}
 use Rattle.history_model.specs.History.{Known, is_known}
-use Rattle.history_model.specs.Chain.{changesets, first_parent}
-use Rattle.history_model.specs.Past.{Past, Begin, At, past, past_on}
-use Rattle.history_model.specs.Tree.{tree_of}
-use Rattle.history_model.proofs.Pasts.{past_is_its_line, tree_of-past_on}
-use Rattle.manifest_model.specs.Unode.{Unode, UnodeEntry, UnodeFile, UnodeDir, linknode_of, unode}
-use Rattle.manifest_model.specs.NodeReading.{deleted_of, unode_of}
-use Rattle.manifest_model.specs.Deleted.{DeletedNode, deleted, deleted_at as deleted_in, deleted_bytes, last_deletion, path_log}
-use Rattle.manifest_model.proofs.Links.{none_some, tree_on, tree_on-cons, unode_kept, unode_made, was_there}
-use Rattle.manifest_model.proofs.Nodes.{unode_is_read}
-use Rattle.manifest_laws.specs.Changes.{tree_at, files_in}
-use Rattle.manifest_laws.proofs.Rules.{file_kept, found_has}
-use Rattle.manifest_model.proofs.Links.{file_at-files}
-use Rattle.unode.specs.Views.{file_in, file_of}
+use Rattle.history_model.specs.Past.{Past, Begin}
+use Rattle.history_model.specs.Tree.{files_in, is_dir, tree_of}
+use Rattle.manifest_model.specs.Unode.{Unode, UnodeEntry, UnodeFile, UnodeDir, linknode_of}
+use Rattle.manifest_model.specs.NodeReading.{deleted_of}
+use Rattle.manifest_model.specs.Merged.{unode_at as unode_of}
+use Rattle.manifest_model.specs.Deleted.{DeletedNode, deleted, deleted_at as deleted_in, deleted_bytes, last_deletion}
 use Rattle.deleted_node.proofs.Spelled.{deleted_is_read}
 use Rattle.deleted_node.proofs.Within.{link_is, nothing_without}
-use Rattle.ancestry.proofs.Lines.{reverse-cons, slice_get-push_other}
 use Rattle.reply_model.specs.Reply.{Absent, AbsentChangeset, NoPath, refuse_if, ◌>>=◌}
 use Rattle.node_table.specs.Table.{Table, is_settled}
 use Rattle.node_table.specs.declared.roots.Roots.{Roots}
-use Rattle.changeset_store.specs.Store.{number_in, known_at, changeset_at, parent_at}
-use Rattle.changeset_store.specs.Numbers.{number_among, parents_among}
-use Rattle.changeset_store.proofs.Ancestors.{length-parents}
-use Rattle.changeset_store.proofs.Numbering.{in_range}
-use Rattle.changeset_store.proofs.Parents.{parents_at, parent_is}
+use Rattle.changeset_store.specs.Store.{number_in, known_at, changeset_at, parent_at, second_parent_at}
+use Rattle.changeset_store.specs.Pasts.{past_at, past_at_some}
 use Rattle.changeset_store.proofs.Places.{known_at-changeset}
 use Rattle.path_log.specs.Line.{IsEarlier, last_logged, line_within, line, logged}
 use Rattle.path_log.specs.Pasts.{TellsPasts, id_in, last_past}
 use Rattle.path_log.proofs.Links.{last_is}
-use Rattle.path_log.proofs.Logs.{deleted_is_last, last_is_linknode}
+use Rattle.path_log.proofs.Logs.{deleted_is_last}
 use Rattle.path_log.proofs.Numbers.{last_by_numbers, log_by_numbers}
-use Rattle.manifest_store.specs.Lines.{line_at, IsStore}
 use Rattle.manifest_store.specs.Manifests.{AreManifests}
 use Rattle.manifest_store.specs.Nodes.{entry_id, deleted_entry_under, file_under, unode_entry_under, walk}
 use Rattle.manifest_store.specs.Reads.{logged_ids, path_log_at}
-use Rattle.manifest_store.specs.PathLines.{has_file_at, is_logged_at, past_at}
+use Rattle.manifest_store.specs.PathLines.{has_file_at, is_logged_at, link_at}
 use Rattle.manifest_store.proofs.GoneNodes.{gone_got, gone_missing}
 use Rattle.manifest_store.proofs.Held.{un_node}
-use Rattle.manifest_store.proofs.Lines.{are_known, apart_back, its_number, known_here, line_step, links, own_id}
-use Rattle.manifest_store.proofs.Reading.{un_found, un_got, un_missing, un_no_file}
-
--- ---- a first parent is below its child
-
-place_below : (ks : List Known) (n : ℕ) (p : Option ℕ) → slice_get (reverse (parents_among ks)) n ≡ Some p → n < length ks → IfSome p (λ q. q < n)
-place_below [] n p e less = absurd (omega arith)
-place_below (k ∷ older) n p e less =
-    let mine = option_and_then (number_among older) (first_parent k.changeset) in
-    let rest = reverse (parents_among older) in
-    let len : length rest ≡ length older = length-reverse (parents_among older) ∙ length-parents older in
-    let here : slice_get (rest ++ mine ∷ []) n ≡ Some p = ap (λ l. slice_get l n) (sym (reverse-cons mine (parents_among older))) ∙ e in
-    ⊎_elim
-    (λ same. subst (λ p. IfSome p (λ q. q < n)) (same_some mine p (sym (get_next rest mine) ∙ ap (slice_get (rest ++ mine ∷ [])) (len ∙ same) ∙ here)) (subst (λ m. IfSome mine (λ q. q < m)) same (mine_below (first_parent k.changeset))))
-    (λ other. place_below older n p (sym (slice_get-push_other rest mine n (λ h. other (sym len ∙ h))) ∙ here) (omega arith))
-    (cases_eq (length older) n)
-  where
-    mine_below : (o : Option Id) → IfSome (option_and_then (number_among older) o) (λ q. q < length older)
-    mine_below None = tt
-    mine_below (Some x) = in_range older x
-
-module _ (ks : List Known) (s : IsStore ks) where
-  parent_lower : (n q : ℕ) → n < length ks → parent_at ks n ≡ Some q → q < n
-  parent_lower n q less e =
-      let back : n < length (reverse ks) = let same = length-reverse ks in omega arith in
-      let found = (parents_at (reverse ks) (apart_back ks s) s.parents n back).0 in
-      subst (λ p. IfSome p (λ q. q < n)) (parent_is ks (links ks) (are_known ks s) n _ less found ∙ e) (place_below (reverse ks) n _ found back)
+use Rattle.manifest_store.proofs.Earlier.{parent_lower}
+use Rattle.manifest_store.proofs.Lines.{its_number, known_here, own_id}
+use Rattle.manifest_store.proofs.Makers.{held_node}
+use Rattle.manifest_store.proofs.Pasts.{past_step}
+use Rattle.manifest_store.proofs.Reading.{un_found, un_missing, un_no_file}
 
 -- ids that are told one by one
 pub ids_more : (f : ℕ → Id) (ns : List ℕ) (i d : ℕ) → i < length ns → (ids new : List Id) (x : Id) (total : List Id) → ids ++ list_map f (drop i ns) ≡ total → new ≡ ids ++ x ∷ [] → x ≡ f (get_or ns i d) → new ++ list_map f (drop (i + 1) ns) ≡ total
@@ -89,10 +53,6 @@ ids_more f ns i d less ids new x total so_far grows is =
 
 -- ---- numbers stand for pasts
 
-pub parent_past : (ks : List Known) (o : Option ℕ) → past_on (option_map_or (line_at ks) o []) ≡ option_map_or (past_at ks) o Begin
-parent_past ks None = refl
-parent_past ks (Some q) = refl
-
 deleted_told : (past : Past) (p : Path) → deleted_in past p ≡ cond (is_some (tree_of past p)) None (id_in (last_past past p))
 deleted_told past p = by (tree_of past p) refl
   where
@@ -100,28 +60,15 @@ deleted_told past p = by (tree_of past p) refl
     by (Some f) e = ap (λ o. cond (is_some o) None (last_deletion past p)) e
     by None e = deleted_is_last past p e
 
-file_of_unode : (l : List Known) (p : Path) (f : File) → tree_on l p ≡ Some f → file_of (unode l p) ≡ Some (unode l p)
-file_of_unode [] p f e = absurd (none_some f e)
-file_of_unode (c ∷ older) p f e = by (file_of_unode older p) (set_at c.changeset p) refl
-  where
-    by : ((f : File) → tree_on older p ≡ Some f → file_of (unode older p) ≡ Some (unode older p)) → (o : Option File) → set_at c.changeset p ≡ o → file_of (unode (c ∷ older) p) ≡ Some (unode (c ∷ older) p)
-    by later (Some g) s = let made = unode_made c older p f g e s in ap file_of made ∙ ap Some (sym made)
-    by later None s =
-        let kept = unode_kept c older p f e s in
-        ap file_of kept ∙ later f (was_there (changesets (reverse older)) c.changeset p f s (sym (tree_on-cons c older p) ∙ e)) ∙ ap Some (sym kept)
-
 module _ (ks : List Known) (t : Table) (a : AreManifests ks t) where
   pub earlier : IsEarlier (is_settled t) (parent_at ks)
   earlier n q may e = (parent_lower ks a.store n q (a.numbered n may) e, a.parents n q may e)
 
-  past_step : (n : ℕ) → is_settled t n ≡ true → past_at ks n ≡ At (known_at ks n) (option_map_or (past_at ks) (parent_at ks n) Begin) Begin
-  past_step n may = ap past_on (line_step ks a.store n (a.numbered n may)) ∙ ap (λ q. At (known_at ks n) q Begin) (parent_past ks (parent_at ks n))
-
   tells : TellsPasts (is_settled t) (parent_at ks) (past_at ks)
-  tells n may = (known_at ks n, Begin, past_step n may)
+  tells n may = (known_at ks n, past_at_some ks (second_parent_at ks n), past_step ks a.store n (a.numbered n may))
 
   id_there : (n : ℕ) → is_settled t n ≡ true → id_in (past_at ks n) ≡ Some (known_at ks n).id
-  id_there n may = ap id_in (past_step n may)
+  id_there n may = ap id_in (past_step ks a.store n (a.numbered n may))
 
   module _ (n : ℕ) (settled : is_settled t n ≡ true) (p : Path) where
     abbrev last_number : Option ℕ
@@ -137,49 +84,40 @@ module _ (ks : List Known) (t : Table) (a : AreManifests ks t) where
             let may = (last_is (is_settled t) (parent_at ks) earlier (is_logged_at ks p) n m settled e).may in
             ap (option_and_then (number_in ks)) (id_there m may) ∙ its_number ks a.store m (a.numbered m may)
 
-    pub link_by : (b : Bool) (x : Option Id) → x ≡ cond b (id_in (last_past (past_at ks n) p)) None → option_and_then (number_in ks) x ≡ cond b last_number None
-    link_by true x e = ap (option_and_then (number_in ks)) e ∙ number_of_last
-    link_by false x e = ap (option_and_then (number_in ks)) e
-
     pub gone_by : (b : Bool) (x : Option Id) → x ≡ cond b None (id_in (last_past (past_at ks n) p)) → option_and_then (number_in ks) x ≡ cond b None last_number
     gone_by true x e = ap (option_and_then (number_in ks)) e
     gone_by false x e = ap (option_and_then (number_in ks)) e ∙ number_of_last
 
     -- ---- by the nodes of the changeset
 
-    abbrev l : List Known
-    l = line_at ks n
+    abbrev q : Past
+    q = past_at ks n
 
-    has_as : (o : Option File) → tree_at l p ≡ o → has_file_at ks p n ≡ is_some o
-    has_as o e = ap is_some (tree_of-past_on l p ∙ e)
+    -- who made the unode of a file
+    abbrev link_if : Bool → Option Id
+    link_if b = cond b (Some (link_at ks p n)) None
 
     module _ (r : Roots) (at : Some r ≡ map.get t.roots n) where
-      pub no_setter : None ≡ walk (unode_entry_under t.nodes) (UnodeDir r.unode) p → None ≡ cond (has_file_at ks p n) (id_in (last_past (past_at ks n) p)) None
-      no_setter e = sym (ap (λ b. cond b (id_in (last_past (past_at ks n) p)) None) (has_as None (un_missing ks t a n settled r at p e)))
+      pub no_setter : None ≡ walk (unode_entry_under t.nodes) (UnodeDir r.unode) p → None ≡ link_if (has_file_at ks p n)
+      no_setter e = sym (ap (λ o. link_if (is_some o)) (un_missing ks t a n settled r at p e))
 
-      pub dir_setter : (id : Id) → Some (UnodeDir id) ≡ walk (unode_entry_under t.nodes) (UnodeDir r.unode) p → None ≡ cond (has_file_at ks p n) (id_in (last_past (past_at ks n) p)) None
-      dir_setter id e = sym (ap (λ b. cond b (id_in (last_past (past_at ks n) p)) None) (has_as None (un_no_file ks t a n settled r at p id e)))
+      pub dir_setter : (id : Id) → Some (UnodeDir id) ≡ walk (unode_entry_under t.nodes) (UnodeDir r.unode) p → None ≡ link_if (has_file_at ks p n)
+      dir_setter id e = sym (ap (λ o. link_if (is_some o)) (un_no_file ks t a n settled r at p id e))
 
       module _ (id : Id) (e : Some (UnodeFile id) ≡ walk (unode_entry_under t.nodes) (UnodeDir r.unode) p) where
-        found : (f : File) × (tree_at l p ≡ Some f) × (id ≡ un_node l p)
+        found : (is_dir (files_in q) p ≡ false) × (f : File) × (tree_of q p ≡ Some f) × (id ≡ un_node q p)
         found = un_found ks t a n settled r at p id e
 
-        pub node_there : file_under t.nodes id ≡ Some (unode l p)
-        node_there =
-            let right = a.right n (a.numbered n settled) in
-            let content = found_has (λ f. is_bytes 32 f.content ≡ true) p (files_in l) found.0 right.counted.with_ids (file_at-files (changesets (reverse l)) p ∙ found.1) in
-            ap (option_and_then (λ bytes. file_in (unode_of bytes))) (un_got ks t a n settled r at p id true e)
-            ∙ ap file_in (unode_is_read (unode l p) (file_kept l p found.0 right.ids content found.1))
-            ∙ file_of_unode l p found.0 found.1
+        node_there : file_under t.nodes id ≡ Some (unode_of q p)
+        node_there = ap (file_under t.nodes) found.3 ∙ held_node ks t a p n settled (found.1, found.2)
 
         pub setter_there : None ≡ file_under t.nodes id → ⊥
         setter_there gone = absurd (cc (gone ∙ node_there))
 
-        pub setter_is : (u : Unode) → Some u ≡ file_under t.nodes id → Some (linknode_of u) ≡ cond (has_file_at ks p n) (id_in (last_past (past_at ks n) p)) None
+        pub setter_is : (u : Unode) → Some u ≡ file_under t.nodes id → Some (linknode_of u) ≡ link_if (has_file_at ks p n)
         setter_is u here =
-            ap (λ v. Some (linknode_of v)) (same_some u (unode l p) (here ∙ node_there))
-            ∙ sym (last_is_linknode l p found.0 found.1)
-            ∙ sym (ap (λ b. cond b (id_in (last_past (past_at ks n) p)) None) (has_as (Some found.0) found.1))
+            ap (λ v. Some (linknode_of v)) (same_some u (unode_of q p) (here ∙ node_there))
+            ∙ sym (ap (λ o. link_if (is_some o)) found.2)
 
       -- ---- by its deleted nodes
 
@@ -227,7 +165,6 @@ module _ (ks : List Known) (t : Table) (a : AreManifests ks t) where
     ids_are =
         sym (ids_by logged_numbers (recursion_from_All (λ m. is_settled t m ≡ true) logged_numbers are_settled))
         ∙ log_by_numbers (is_settled t) (parent_at ks) (past_at ks) p earlier tells n settled
-        ∙ ap (λ past. path_log past p) (sym (past_is_its_line ks (known_at ks n).id a.store.one_parent))
 
     pub as_many : length logged_numbers ≡ length (logged_ids ks n p)
     as_many = sym (length-map logged_numbers (λ m. id_of (changeset_at ks m))) ∙ ap length ids_are

@@ -1,43 +1,33 @@
 -- What is read of a settled changeset is what the definitions say.
-use Rattle.std.proofs.Common.{◌≡◌, ℕ, ◌<◌, ◌≤◌, Bool, true, false, not, cond, ◌||◌, List, [], ◌∷◌, length, map, reverse, refl, sym, ap, subst, ◌∙◌, arith}
-use Rattle.std.specs.Prelude.{Option, Some, None, is_some, option_map, bytes_eq, Result, Ok, Err}
-use Rattle.std.specs.List.{AllByRecursion}
-use Rattle.std.specs.Option.{option_and_then, option_map_or}
+use Rattle.std.proofs.Common.{◌≡◌, ℕ, ◌<◌, Bool, true, false, not, cond, ◌||◌, List, length, refl, sym, ap, ◌∙◌}
+use Rattle.std.specs.Prelude.{Option, Some, None, is_some, option_map, Result, Ok, Err}
 use Rattle.std.specs.FinMap as map
-use Rattle.std.proofs.lemmas.List.{length-reverse}
-use Rattle.byte_fields.specs.Bytes.{Id, is_bytes}
-use Rattle.changeset_model.specs.Path.{Path}
-use Rattle.changeset_model.specs.Changeset.{File, set_at}
-use Rattle.history_model.specs.History.{Known, is_known}
-use Rattle.history_model.specs.Chain.{changesets, first_parent, line_among, line}
-use Rattle.history_model.specs.Past.{HaveOneParent}
-use Rattle.history_model.specs.Tree.{files_of, is_file, is_dir}
-use Rattle.manifest_model.specs.Fsnode.{fsnode, fsnode_bytes}
-use Rattle.manifest_model.specs.Unode.{Unode, UnodeEntry, UnodeFile, UnodeDir, linknode_of, unode, unode_bytes, unode_id}
-use Rattle.manifest_model.specs.NodeReading.{unode_of}
-use Rattle.manifest_model.specs.Merged.{history_of}
-use Rattle.manifest_model.proofs.Links.{file_at-files, unode_made, was_there, tree_on-cons}
-use Rattle.manifest_model.proofs.Nodes.{unode_is_read}
-use Rattle.manifest_laws.specs.Changes.{tree_at, files_in}
+use Rattle.byte_fields.specs.Bytes.{Id}
 use Rattle.byte_fields.proofs.Booleans.{same_some}
-use Rattle.manifest_laws.proofs.Rules.{file_kept, found_has}
-use Rattle.unode.specs.Views.{file_in, file_of}
-use Rattle.unode.specs.History.{IsLine, HasLine, file_unodes}
-use Rattle.unode.proofs.Pasts.{file_line, file_links, file_unodes_few}
+use Rattle.changeset_model.specs.Path.{Path}
+use Rattle.changeset_model.specs.Changeset.{File}
+use Rattle.history_model.specs.History.{Known, is_known}
+use Rattle.history_model.specs.Past.{Past, Begin, At, past}
+use Rattle.history_model.specs.Tree.{files_of, files_in, tree_of, is_file, is_dir}
+use Rattle.manifest_model.specs.Fsnode.{fsnode, fsnode_bytes}
+use Rattle.manifest_model.specs.Unode.{UnodeEntry, UnodeFile, UnodeDir, unode_bytes}
+use Rattle.manifest_model.specs.Merged.{unode_at as unode_of, history_of}
+use Rattle.manifest_model.proofs.Deletions.{file_at-files_in}
+use Rattle.merge_laws.proofs.Trees.{no_file_at}
 use Rattle.reply_model.specs.Reply.{Absent, AbsentChangeset, NoPath, NotADir, NotAFile, refuse_if, ◌>>=◌}
 use Rattle.node_table.specs.Table.{Nodes, Table, is_settled}
 use Rattle.node_table.specs.declared.roots.Roots.{Roots}
-use Rattle.changeset_store.specs.Store.{known_at, parent_at}
-use Rattle.derive_step.specs.Jobs.{IsRight, roots_on, all_nodes_on}
-use Rattle.derive_step.proofs.Laws.{alone}
+use Rattle.changeset_store.specs.Store.{known_at}
+use Rattle.changeset_store.specs.Pasts.{past_at}
+use Rattle.derive_step.specs.Pasts.{roots_of, all_nodes_of}
 use Rattle.derive_step.proofs.Members.{has_contains}
-use Rattle.derive_step.proofs.AllNodes.{has_fsnode, has_dir, has_file}
-use Rattle.manifest_store.specs.Lines.{line_at}
-use Rattle.manifest_store.specs.Manifests.{AreManifests, HoldsAll}
-use Rattle.manifest_store.specs.Nodes.{entry_id, file_under, fs_entry_under, unode_entry_under, walk}
+use Rattle.derive_step.proofs.PastNodes.{has_fsnode, has_dir_node, old_file}
+use Rattle.manifest_store.specs.Manifests.{AreManifests, HoldsAll, IsRight}
+use Rattle.manifest_store.specs.Histories.{IsFileNode}
+use Rattle.manifest_store.specs.Nodes.{entry_id, fs_entry_under, unode_entry_under, walk}
 use Rattle.manifest_store.specs.Reads.{fsnode_by, unode_by, history_by, fsnode_at, unode_at, history_at}
-use Rattle.manifest_store.proofs.Lines.{known_here, apart_back, line_step, parent_in}
-use Rattle.manifest_store.proofs.Histories.{files_on_line, unode_on_line, history_on_line}
+use Rattle.manifest_store.proofs.Lines.{known_here}
+use Rattle.manifest_store.proofs.NodesApart.{settled_apart}
 use Rattle.manifest_store.proofs.Held.{fs_node, un_node, fs_place, un_place, fs_walked, un_walked}
 
 -- ---- what an entry tells
@@ -63,229 +53,139 @@ module _ (x : Id) (leaf : File → Id) where
 
 -- ---- what is read of a known changeset
 
-module _ (ks : List Known) (x : Id) (one : HaveOneParent ks) (there : is_known ks x ≡ true) (p : Path) where
-  abbrev fs_by : Bool → Bool → Bool → List (Path × File) → Result (List ℕ) Absent
-  fs_by k f d files = (refuse_if (not k) (AbsentChangeset x) >>= (λ _. refuse_if (not (f || d)) NoPath)) >>= (λ _. refuse_if f NotADir >>= (λ _. Ok (fsnode_bytes (fsnode files p))))
+module _ (ks : List Known) (x : Id) (there : is_known ks x ≡ true) (p : Path) where
+  abbrev found_if : Bool → Bool → Bool → Result (Unit {0}) Absent
+  found_if k f d = refuse_if (not k) (AbsentChangeset x) >>= (λ _. refuse_if (not (f || d)) NoPath)
 
-  abbrev un_by : Bool → Bool → Bool → Unode → Result (List ℕ) Absent
-  un_by k f d n = (refuse_if (not k) (AbsentChangeset x) >>= (λ _. refuse_if (not (f || d)) NoPath)) >>= (λ _. Ok (unode_bytes n))
+  fs_as : (f d : Bool) → is_file (files_of ks x) p ≡ f → is_dir (files_of ks x) p ≡ d → fsnode_by ks x p ≡ (found_if true f d >>= (λ _. refuse_if f NotADir >>= (λ _. Ok (fsnode_bytes (fsnode (files_of ks x) p)))))
+  fs_as f d ef ed = λ i. found_if (there i) (ef i) (ed i) >>= (λ _. refuse_if (ef i) NotADir >>= (λ _. Ok (fsnode_bytes (fsnode (files_of ks x) p))))
 
-  abbrev past_by : Bool → Bool → Bool → List Id → Result (List Id) Absent
-  past_by k f d ids = (refuse_if (not k) (AbsentChangeset x) >>= (λ _. refuse_if (not (f || d)) NoPath)) >>= (λ _. refuse_if d NotAFile >>= (λ _. Ok ids))
+  un_as : (f d : Bool) → is_file (files_of ks x) p ≡ f → is_dir (files_of ks x) p ≡ d → unode_by ks x p ≡ (found_if true f d >>= (λ _. Ok (unode_bytes (unode_of (past ks x) p))))
+  un_as f d ef ed = λ i. found_if (there i) (ef i) (ed i) >>= (λ _. Ok (unode_bytes (unode_of (past ks x) p)))
 
-  abbrev known_line : List Known
-  known_line = line ks x
+  past_as : (f d : Bool) → is_file (files_of ks x) p ≡ f → is_dir (files_of ks x) p ≡ d → history_by ks x p ≡ (found_if true f d >>= (λ _. refuse_if d NotAFile >>= (λ _. Ok (history_of ks x p))))
+  past_as f d ef ed = λ i. found_if (there i) (ef i) (ed i) >>= (λ _. refuse_if (ed i) NotAFile >>= (λ _. Ok (history_of ks x p)))
 
-  same_file : (f : Bool) → is_file (files_in known_line) p ≡ f → is_file (files_of ks x) p ≡ f
-  same_file f e = ap (λ files. is_file files p) (files_on_line ks x one) ∙ e
+-- ---- of a past whose nodes are held
 
-  same_dir : (d : Bool) → is_dir (files_in known_line) p ≡ d → is_dir (files_of ks x) p ≡ d
-  same_dir d e = ap (λ files. is_dir files p) (files_on_line ks x one) ∙ e
+file_is : (past : Past) (p : Path) (o : Option File) → tree_of past p ≡ o → is_file (files_in past) p ≡ is_some o
+file_is past p o e = ap is_some (file_at-files_in past p ∙ e)
 
-  fs_as : (f d : Bool) → is_file (files_in known_line) p ≡ f → is_dir (files_in known_line) p ≡ d → fsnode_by ks x p ≡ fs_by true f d (files_in known_line)
-  fs_as f d ef ed = λ i. fs_by (there i) (same_file f ef i) (same_dir d ed i) (files_on_line ks x one i)
+fs_held : (m : Nodes) (past : Past) → HoldsAll m past → (r : Roots) → Some r ≡ roots_of past → (p : Path) → is_dir (files_in past) p ≡ true → map.get m (fs_node past p) ≡ Some (fsnode_bytes (fsnode (files_in past) p))
+fs_held m Begin held r e p dir = absurd cc
+fs_held m (At c first second) held r e p dir = held _ (has_contains (all_nodes_of (At c first second)) (fsnode_bytes (fsnode (files_in (At c first second)) p)) (has_fsnode c first second p dir))
 
-  un_as : (f d : Bool) → is_file (files_in known_line) p ≡ f → is_dir (files_in known_line) p ≡ d → unode_by ks x p ≡ un_by true f d (unode known_line p)
-  un_as f d ef ed = λ i. un_by (there i) (same_file f ef i) (same_dir d ed i) (unode_on_line ks x one p i)
+dir_held : (m : Nodes) (past : Past) → HoldsAll m past → (r : Roots) → Some r ≡ roots_of past → (p : Path) → is_dir (files_in past) p ≡ true → map.get m (un_node past p) ≡ Some (unode_bytes (unode_of past p))
+dir_held m Begin held r e p dir = absurd cc
+dir_held m (At c first second) held r e p dir = held _ (has_contains (all_nodes_of (At c first second)) (unode_bytes (unode_of (At c first second) p)) (has_dir_node c first second p dir))
 
-  past_as : (f d : Bool) → is_file (files_in known_line) p ≡ f → is_dir (files_in known_line) p ≡ d → history_by ks x p ≡ past_by true f d (history_of ks x p)
-  past_as f d ef ed = λ i. past_by (there i) (same_file f ef i) (same_dir d ed i) (history_of ks x p)
+pub file_held : (m : Nodes) (past : Past) → HoldsAll m past → (p : Path) (f : File) → tree_of past p ≡ Some f → map.get m (un_node past p) ≡ Some (unode_bytes (unode_of past p))
+file_held m past held p f at = held _ (has_contains (all_nodes_of past) (unode_bytes (unode_of past p)) (old_file past p f at))
 
--- ---- of a line whose nodes are held
+-- ---- of a settled changeset
 
-pub alone_on : (l : List Known) → IsRight l → (p : Path) → is_dir (files_in l) p ≡ true → tree_at l p ≡ None
-alone_on [] right p dir = refl
-alone_on (c ∷ older) right p dir = alone c older right p dir
+module _ (ks : List Known) (t : Table) (a : AreManifests ks t) (n : ℕ) (settled : is_settled t n ≡ true) (r : Roots) (at : Some r ≡ map.get t.roots n) (p : Path) where
+  abbrev q : Past
+  q = past_at ks n
 
-file_is : (l : List Known) (p : Path) (o : Option File) → tree_at l p ≡ o → is_file (files_in l) p ≡ is_some o
-file_is l p o e = ap is_some (file_at-files (changesets (reverse l)) p ∙ e)
+  less : n < length ks
+  less = a.numbered n settled
 
-fs_held : (m : Nodes) (l : List Known) → HoldsAll m l → (r : Roots) → Some r ≡ roots_on l → (p : Path) → is_dir (files_in l) p ≡ true → map.get m (fs_node l p) ≡ Some (fsnode_bytes (fsnode (files_in l) p))
-fs_held m [] held r e p dir = absurd cc
-fs_held m (c ∷ older) held r e p dir = held (fsnode_bytes (fsnode (files_in (c ∷ older)) p)) (has_contains (all_nodes_on (c ∷ older)) (fsnode_bytes (fsnode (files_in (c ∷ older)) p)) (has_fsnode c older p dir))
+  right : IsRight (past_at ks n)
+  right = a.right n less
 
-dir_held : (m : Nodes) (l : List Known) → HoldsAll m l → (r : Roots) → Some r ≡ roots_on l → (p : Path) → is_dir (files_in l) p ≡ true → map.get m (un_node l p) ≡ Some (unode_bytes (unode l p))
-dir_held m [] held r e p dir = absurd cc
-dir_held m (c ∷ older) held r e p dir = held (unode_bytes (unode (c ∷ older) p)) (has_contains (all_nodes_on (c ∷ older)) (unode_bytes (unode (c ∷ older) p)) (has_dir c older p dir))
+  roots : Some r ≡ roots_of (past_at ks n)
+  roots = at ∙ a.roots n settled
 
-file_held : (m : Nodes) (l : List Known) → HoldsAll m l → (r : Roots) → Some r ≡ roots_on l → (p : Path) (f : File) → tree_at l p ≡ Some f → map.get m (un_node l p) ≡ Some (unode_bytes (unode l p))
-file_held m [] held r e p f at = absurd cc
-file_held m (c ∷ older) held r e p f at = held (unode_bytes (unode (c ∷ older) p)) (has_contains (all_nodes_on (c ∷ older)) (unode_bytes (unode (c ∷ older) p)) (has_file c older p f at))
+  known_one : is_known ks (known_at ks n).id ≡ true
+  known_one = known_here ks n less
 
--- ---- the past of a file
+  fs_told : walk (fs_entry_under t.nodes) (UnodeDir r.fsnode) p ≡ fs_place q p
+  fs_told = fs_walked t.nodes q right (a.held n settled) r roots p
 
--- a line is no longer than the changesets
-line_short : (ks : List Known) (x : Id) → length (line_among ks x) ≤ length ks
-line_short [] x = omega arith
-line_short (k ∷ older) x = by (line_short older) (bytes_eq k.id x)
-  where
-    rest : ((x : Id) → length (line_among older x) ≤ length older) → (o : Option Id) → length (option_map_or (line_among older) o []) ≤ length older
-    rest later None = omega arith
-    rest later (Some q) = later q
+  un_told : walk (unode_entry_under t.nodes) (UnodeDir r.unode) p ≡ un_place q p
+  un_told = un_walked t.nodes q right (a.held n settled) (settled_apart ks t a n settled) r roots p
 
-    by : ((x : Id) → length (line_among older x) ≤ length older) → (b : Bool) → length (cond b (k ∷ option_map_or (line_among older) (first_parent k.changeset) []) (line_among older x)) ≤ length (k ∷ older)
-    by later true = (let h = rest later (first_parent k.changeset) in omega arith)
-    by later false = (let h = later x in omega arith)
+  no_file : is_dir (files_in q) p ≡ true → is_file (files_in q) p ≡ false
+  no_file dir = file_is q p None (no_file_at q p right.resolved dir)
 
-abbrev AllHeld : Nodes → List Known → Type 0
-AllHeld m [] = Unit {0}
-AllHeld m (c ∷ older) = IsRight (c ∷ older) × HoldsAll m (c ∷ older) × AllHeld m older
+  -- ---- fsnodes
 
-abbrev Stand : Nodes → List Unode → Type 0
-Stand m us = AllByRecursion (λ u. file_under m (unode_id u) ≡ Some u) us
+  fs_dir_told : (id : Id) → Some (UnodeDir id) ≡ walk (fs_entry_under t.nodes) (UnodeDir r.fsnode) p → (is_dir (files_in q) p ≡ true) × (id ≡ fs_node q p)
+  fs_dir_told id e = dir_told (fs_node q p) (λ f. f.content) (is_dir (files_in q) p) (tree_of q p) id (e ∙ fs_told)
 
-all_stand : (m : Nodes) (l : List Known) (p : Path) (f : File) → AllHeld m l → tree_at l p ≡ Some f → Stand m (file_unodes l p)
-all_stand m [] p f held e = tt
-all_stand m (c ∷ older) p f held e = by (all_stand m older p) (set_at c.changeset p) refl
-  where
-    u : Unode
-    u = unode (c ∷ older) p
+  pub fs_dir : (id : Id) → Some (UnodeDir id) ≡ walk (fs_entry_under t.nodes) (UnodeDir r.fsnode) p → map.get t.nodes id ≡ Some (fsnode_bytes (fsnode (files_in q) p))
+  fs_dir id e = let d = fs_dir_told id e in ap (map.get t.nodes) d.1 ∙ fs_held t.nodes q (a.held n settled) r roots p d.0
 
-    here : (g : File) → set_at c.changeset p ≡ Some g → file_under m (unode_id (unode (c ∷ older) p)) ≡ Some (unode (c ∷ older) p)
-    here g s =
-        let made = unode_made c older p f g e s in
-        let content = found_has (λ f. is_bytes 32 f.content ≡ true) p (files_in (c ∷ older)) f held.0.counted.with_ids (file_at-files (changesets (reverse (c ∷ older))) p ∙ e) in
-        ap (option_and_then (λ bytes. file_in (unode_of bytes))) (held.1 (unode_bytes (unode (c ∷ older) p)) (has_contains (all_nodes_on (c ∷ older)) (unode_bytes (unode (c ∷ older) p)) (has_file c older p f e)))
-        ∙ ap file_in (unode_is_read (unode (c ∷ older) p) (file_kept (c ∷ older) p f held.0.ids content e))
-        ∙ ap file_of made ∙ ap Some (sym made)
+  pub fs_read : (id : Id) (bytes : List ℕ) → Some (UnodeDir id) ≡ walk (fs_entry_under t.nodes) (UnodeDir r.fsnode) p → map.get t.nodes id ≡ Some bytes → fsnode_at ks n p ≡ Ok bytes
+  fs_read id bytes e got =
+      let d = fs_dir_told id e in
+      fs_as ks (known_at ks n).id known_one p false true (no_file d.0) d.0 ∙ ap (λ b. Ok b) (same_some _ bytes (sym (fs_dir id e) ∙ got))
 
-    rest : ((f : File) → AllHeld m older → tree_at older p ≡ Some f → Stand m (file_unodes older p)) → (o : Option File) → tree_at older p ≡ o → Stand m (cond (is_some o) (file_unodes older p) [])
-    rest later None e = tt
-    rest later (Some g) e = later g held.2 e
+  pub fs_file : (id : Id) → Some (UnodeFile id) ≡ walk (fs_entry_under t.nodes) (UnodeDir r.fsnode) p → fsnode_at ks n p ≡ Err NotADir
+  fs_file id e =
+      let d = file_told (fs_node q p) (λ f. f.content) (is_dir (files_in q) p) (tree_of q p) id (e ∙ fs_told) in
+      fs_as ks (known_at ks n).id known_one p true false (file_is q p (Some d.1) d.2) d.0
 
-    by : ((f : File) → AllHeld m older → tree_at older p ≡ Some f → Stand m (file_unodes older p)) → (o : Option File) → set_at c.changeset p ≡ o → Stand m (cond (is_some o) (unode (c ∷ older) p ∷ cond (is_some (tree_at older p)) (file_unodes older p) []) (file_unodes older p))
-    by later (Some g) s = (here g s, rest later (tree_at older p) refl)
-    by later None s = later f held.2 (was_there (changesets (reverse older)) c.changeset p f s (sym (tree_on-cons c older p) ∙ e))
+  pub fs_none : None ≡ walk (fs_entry_under t.nodes) (UnodeDir r.fsnode) p → fsnode_at ks n p ≡ Err NoPath
+  fs_none e =
+      let d = none_told (fs_node q p) (λ f. f.content) (is_dir (files_in q) p) (tree_of q p) (e ∙ fs_told) in
+      fs_as ks (known_at ks n).id known_one p false false (file_is q p None d.1) d.0
 
-module _ (ks : List Known) (t : Table) (a : AreManifests ks t) where
-  held_along : (l : List Known) (n : ℕ) → n < length ks → line_at ks n ≡ l → is_settled t n ≡ true → AllHeld t.nodes l
-  held_along [] n less at h = tt
-  held_along (c ∷ older) n less at h =
-      let same : known_at ks n ∷ option_map_or (line_at ks) (parent_at ks n) [] ≡ c ∷ older = sym (line_step ks a.store n less) ∙ at in
-      let rest : option_map_or (line_at ks) (parent_at ks n) [] ≡ older = cc in
-      (subst IsRight at (a.right n less), subst (HoldsAll t.nodes) at (a.held n h), by (held_along older) (parent_at ks n) refl rest)
-    where
-      by : ((q : ℕ) → q < length ks → line_at ks q ≡ older → is_settled t q ≡ true → AllHeld t.nodes older) → (o : Option ℕ) → parent_at ks n ≡ o → option_map_or (line_at ks) o [] ≡ older → AllHeld t.nodes older
-      by later None p e = subst (AllHeld t.nodes) e tt
-      by later (Some q) p e = later q (parent_in ks a.store n q p) e (a.parents n q h p)
+  -- ---- unodes
 
-  -- ---- of a settled changeset
+  un_dir_told : (id : Id) → Some (UnodeDir id) ≡ walk (unode_entry_under t.nodes) (UnodeDir r.unode) p → (is_dir (files_in q) p ≡ true) × (id ≡ un_node q p)
+  un_dir_told id e = dir_told (un_node q p) (λ f. un_node q p) (is_dir (files_in q) p) (tree_of q p) id (e ∙ un_told)
 
-  module _ (n : ℕ) (settled : is_settled t n ≡ true) (r : Roots) (at : Some r ≡ map.get t.roots n) (p : Path) where
-    abbrev l : List Known
-    l = line_at ks n
+  pub un_found : (id : Id) → Some (UnodeFile id) ≡ walk (unode_entry_under t.nodes) (UnodeDir r.unode) p → (is_dir (files_in q) p ≡ false) × (f : File) × (tree_of q p ≡ Some f) × (id ≡ un_node q p)
+  un_found id e = file_told (un_node q p) (λ f. un_node q p) (is_dir (files_in q) p) (tree_of q p) id (e ∙ un_told)
 
-    less : n < length ks
-    less = a.numbered n settled
+  un_none_told : None ≡ walk (unode_entry_under t.nodes) (UnodeDir r.unode) p → (is_dir (files_in q) p ≡ false) × (tree_of q p ≡ None)
+  un_none_told e = none_told (un_node q p) (λ f. un_node q p) (is_dir (files_in q) p) (tree_of q p) (e ∙ un_told)
 
-    roots : Some r ≡ roots_on l
-    roots = at ∙ a.roots n settled
+  pub un_got : (id : Id) (file : Bool) → Some (cond file (UnodeFile id) (UnodeDir id)) ≡ walk (unode_entry_under t.nodes) (UnodeDir r.unode) p → map.get t.nodes id ≡ Some (unode_bytes (unode_of q p))
+  un_got id true e = let d = un_found id e in ap (map.get t.nodes) d.3 ∙ file_held t.nodes q (a.held n settled) p d.1 d.2
+  un_got id false e = let d = un_dir_told id e in ap (map.get t.nodes) d.1 ∙ dir_held t.nodes q (a.held n settled) r roots p d.0
 
-    known_one : is_known ks (known_at ks n).id ≡ true
-    known_one = known_here ks n less
+  un_there : (id : Id) (file : Bool) → Some (cond file (UnodeFile id) (UnodeDir id)) ≡ walk (unode_entry_under t.nodes) (UnodeDir r.unode) p → unode_at ks n p ≡ Ok (unode_bytes (unode_of q p))
+  un_there id true e = let d = un_found id e in un_as ks (known_at ks n).id known_one p true false (file_is q p (Some d.1) d.2) d.0
+  un_there id false e = let d = un_dir_told id e in un_as ks (known_at ks n).id known_one p false true (no_file d.0) d.0
 
-    fs_told : walk (fs_entry_under t.nodes) (UnodeDir r.fsnode) p ≡ fs_place l p
-    fs_told = fs_walked t.nodes l (a.right n less) (a.held n settled) r roots p
+  un_read : (id : Id) (file : Bool) (bytes : List ℕ) → Some (cond file (UnodeFile id) (UnodeDir id)) ≡ walk (unode_entry_under t.nodes) (UnodeDir r.unode) p → map.get t.nodes id ≡ Some bytes → unode_at ks n p ≡ Ok bytes
+  un_read id file bytes e got = un_there id file e ∙ ap (λ b. Ok b) (same_some _ bytes (sym (un_got id file e) ∙ got))
 
-    un_told : walk (unode_entry_under t.nodes) (UnodeDir r.unode) p ≡ un_place l p
-    un_told = un_walked t.nodes l (a.right n less) (a.held n settled) r roots p
+  pub un_none : None ≡ walk (unode_entry_under t.nodes) (UnodeDir r.unode) p → unode_at ks n p ≡ Err NoPath
+  un_none e = let d = un_none_told e in un_as ks (known_at ks n).id known_one p false false (file_is q p None d.1) d.0
 
-    no_file : is_dir (files_in l) p ≡ true → is_file (files_in l) p ≡ false
-    no_file dir = file_is l p None (alone_on l (a.right n less) p dir)
+  -- ---- whether a file is there
 
-    -- ---- fsnodes
+  pub un_no_file : (id : Id) → Some (UnodeDir id) ≡ walk (unode_entry_under t.nodes) (UnodeDir r.unode) p → tree_of q p ≡ None
+  un_no_file id e = no_file_at q p right.resolved (un_dir_told id e).0
 
-    pub fs_dir : (id : Id) → Some (UnodeDir id) ≡ walk (fs_entry_under t.nodes) (UnodeDir r.fsnode) p → map.get t.nodes id ≡ Some (fsnode_bytes (fsnode (files_in l) p))
-    fs_dir id e = let d = dir_told (fs_node l p) (λ f. f.content) (is_dir (files_in l) p) (tree_at l p) id (e ∙ fs_told) in ap (map.get t.nodes) d.1 ∙ fs_held t.nodes l (a.held n settled) r roots p d.0
+  pub un_missing : None ≡ walk (unode_entry_under t.nodes) (UnodeDir r.unode) p → tree_of q p ≡ None
+  un_missing e = (un_none_told e).1
 
-    pub fs_read : (id : Id) (bytes : List ℕ) → Some (UnodeDir id) ≡ walk (fs_entry_under t.nodes) (UnodeDir r.fsnode) p → map.get t.nodes id ≡ Some bytes → fsnode_at ks n p ≡ Ok bytes
-    fs_read id bytes e got =
-        let d = dir_told (fs_node l p) (λ f. f.content) (is_dir (files_in l) p) (tree_at l p) id (e ∙ fs_told) in
-        fs_as ks (known_at ks n).id a.store.one_parent known_one p false true (no_file d.0) d.0 ∙ ap (λ b. Ok b) (same_some _ bytes (sym (fs_dir id e) ∙ got))
+  -- by whatever entry is there
+  pub entry_got : (entry : UnodeEntry) (id : Id) → id ≡ entry_id entry → Some entry ≡ walk (unode_entry_under t.nodes) (UnodeDir r.unode) p → map.get t.nodes id ≡ Some (unode_bytes (unode_of q p))
+  entry_got (UnodeFile x) id same e = ap (map.get t.nodes) same ∙ un_got x true e
+  entry_got (UnodeDir x) id same e = ap (map.get t.nodes) same ∙ un_got x false e
 
-    pub fs_file : (id : Id) → Some (UnodeFile id) ≡ walk (fs_entry_under t.nodes) (UnodeDir r.fsnode) p → fsnode_at ks n p ≡ Err NotADir
-    fs_file id e =
-        let d = file_told (fs_node l p) (λ f. f.content) (is_dir (files_in l) p) (tree_at l p) id (e ∙ fs_told) in
-        fs_as ks (known_at ks n).id a.store.one_parent known_one p true false (file_is l p (Some d.1) d.2) d.0
+  pub entry_read : (entry : UnodeEntry) (id : Id) → id ≡ entry_id entry → (bytes : List ℕ) → Some entry ≡ walk (unode_entry_under t.nodes) (UnodeDir r.unode) p → map.get t.nodes id ≡ Some bytes → unode_at ks n p ≡ Ok bytes
+  entry_read (UnodeFile x) id same bytes e got = un_read x true bytes e (ap (map.get t.nodes) (sym same) ∙ got)
+  entry_read (UnodeDir x) id same bytes e got = un_read x false bytes e (ap (map.get t.nodes) (sym same) ∙ got)
 
-    pub fs_none : None ≡ walk (fs_entry_under t.nodes) (UnodeDir r.fsnode) p → fsnode_at ks n p ≡ Err NoPath
-    fs_none e =
-        let d = none_told (fs_node l p) (λ f. f.content) (is_dir (files_in l) p) (tree_at l p) (e ∙ fs_told) in
-        fs_as ks (known_at ks n).id a.store.one_parent known_one p false false (file_is l p None d.1) d.0
+  -- ---- the history of a file
 
-    -- ---- unodes
+  pub file_node : (id : Id) → Some (UnodeFile id) ≡ walk (unode_entry_under t.nodes) (UnodeDir r.unode) p → IsFileNode ks t n p id
+  file_node id e = let d = un_found id e in record { settled = settled; file = ap is_some d.2; id = d.3 }
 
-    pub un_got : (id : Id) (file : Bool) → Some (cond file (UnodeFile id) (UnodeDir id)) ≡ walk (unode_entry_under t.nodes) (UnodeDir r.unode) p → map.get t.nodes id ≡ Some (unode_bytes (unode l p))
-    un_got id true e = let d = file_told (un_node l p) (λ f. un_node l p) (is_dir (files_in l) p) (tree_at l p) id (e ∙ un_told) in ap (map.get t.nodes) d.3 ∙ file_held t.nodes l (a.held n settled) r roots p d.1 d.2
-    un_got id false e = let d = dir_told (un_node l p) (λ f. un_node l p) (is_dir (files_in l) p) (tree_at l p) id (e ∙ un_told) in ap (map.get t.nodes) d.1 ∙ dir_held t.nodes l (a.held n settled) r roots p d.0
+  pub past_read : (id : Id) (ids : List Id) → Some (UnodeFile id) ≡ walk (unode_entry_under t.nodes) (UnodeDir r.unode) p → ids ≡ history_of ks (known_at ks n).id p → history_at ks n p ≡ Ok ids
+  past_read id ids e is =
+      let d = un_found id e in
+      past_as ks (known_at ks n).id known_one p true false (file_is q p (Some d.1) d.2) d.0 ∙ ap (λ ids. Ok ids) (sym is)
 
-    un_there : (id : Id) (file : Bool) → Some (cond file (UnodeFile id) (UnodeDir id)) ≡ walk (unode_entry_under t.nodes) (UnodeDir r.unode) p → unode_at ks n p ≡ Ok (unode_bytes (unode l p))
-    un_there id true e =
-        let d = file_told (un_node l p) (λ f. un_node l p) (is_dir (files_in l) p) (tree_at l p) id (e ∙ un_told) in
-        un_as ks (known_at ks n).id a.store.one_parent known_one p true false (file_is l p (Some d.1) d.2) d.0
-    un_there id false e =
-        let d = dir_told (un_node l p) (λ f. un_node l p) (is_dir (files_in l) p) (tree_at l p) id (e ∙ un_told) in
-        un_as ks (known_at ks n).id a.store.one_parent known_one p false true (no_file d.0) d.0
+  pub past_dir : (id : Id) → Some (UnodeDir id) ≡ walk (unode_entry_under t.nodes) (UnodeDir r.unode) p → history_at ks n p ≡ Err NotAFile
+  past_dir id e = let d = un_dir_told id e in past_as ks (known_at ks n).id known_one p false true (no_file d.0) d.0
 
-    pub un_read : (id : Id) (file : Bool) (bytes : List ℕ) → Some (cond file (UnodeFile id) (UnodeDir id)) ≡ walk (unode_entry_under t.nodes) (UnodeDir r.unode) p → map.get t.nodes id ≡ Some bytes → unode_at ks n p ≡ Ok bytes
-    un_read id file bytes e got = un_there id file e ∙ ap (λ b. Ok b) (same_some _ bytes (sym (un_got id file e) ∙ got))
-
-    pub un_none : None ≡ walk (unode_entry_under t.nodes) (UnodeDir r.unode) p → unode_at ks n p ≡ Err NoPath
-    un_none e =
-        let d = none_told (un_node l p) (λ f. un_node l p) (is_dir (files_in l) p) (tree_at l p) (e ∙ un_told) in
-        un_as ks (known_at ks n).id a.store.one_parent known_one p false false (file_is l p None d.1) d.0
-
-    -- ---- whether a file is there
-
-    pub un_found : (id : Id) → Some (UnodeFile id) ≡ walk (unode_entry_under t.nodes) (UnodeDir r.unode) p → (f : File) × (tree_at l p ≡ Some f) × (id ≡ un_node l p)
-    un_found id e = let d = file_told (un_node l p) (λ f. un_node l p) (is_dir (files_in l) p) (tree_at l p) id (e ∙ un_told) in (d.1, d.2, d.3)
-
-    pub un_no_file : (id : Id) → Some (UnodeDir id) ≡ walk (unode_entry_under t.nodes) (UnodeDir r.unode) p → tree_at l p ≡ None
-    un_no_file id e = alone_on l (a.right n less) p (dir_told (un_node l p) (λ f. un_node l p) (is_dir (files_in l) p) (tree_at l p) id (e ∙ un_told)).0
-
-    pub un_missing : None ≡ walk (unode_entry_under t.nodes) (UnodeDir r.unode) p → tree_at l p ≡ None
-    un_missing e = (none_told (un_node l p) (λ f. un_node l p) (is_dir (files_in l) p) (tree_at l p) (e ∙ un_told)).1
-
-    -- by whatever entry is there
-    pub entry_got : (entry : UnodeEntry) (id : Id) → id ≡ entry_id entry → Some entry ≡ walk (unode_entry_under t.nodes) (UnodeDir r.unode) p → map.get t.nodes id ≡ Some (unode_bytes (unode l p))
-    entry_got (UnodeFile x) id same e = ap (map.get t.nodes) same ∙ un_got x true e
-    entry_got (UnodeDir x) id same e = ap (map.get t.nodes) same ∙ un_got x false e
-
-    pub entry_read : (entry : UnodeEntry) (id : Id) → id ≡ entry_id entry → (bytes : List ℕ) → Some entry ≡ walk (unode_entry_under t.nodes) (UnodeDir r.unode) p → map.get t.nodes id ≡ Some bytes → unode_at ks n p ≡ Ok bytes
-    entry_read (UnodeFile x) id same bytes e got = un_read x true bytes e (ap (map.get t.nodes) (sym same) ∙ got)
-    entry_read (UnodeDir x) id same bytes e got = un_read x false bytes e (ap (map.get t.nodes) (sym same) ∙ got)
-
-    -- ---- the history of a file
-
-    module _ (id : Id) (e : Some (UnodeFile id) ≡ walk (unode_entry_under t.nodes) (UnodeDir r.unode) p) where
-      found : (is_dir (files_in l) p ≡ false) × (f : File) × (tree_at l p ≡ Some f) × (id ≡ un_node l p)
-      found = file_told (un_node l p) (λ f. un_node l p) (is_dir (files_in l) p) (tree_at l p) id (e ∙ un_told)
-
-      pub its_line : IsLine (file_under t.nodes) (id ∷ []) (file_unodes l p)
-      its_line =
-          subst (λ (x : Id). IsLine (file_under t.nodes) (x ∷ []) (file_unodes l p)) (sym found.3)
-          (file_line (file_under t.nodes) l p found.1 found.2 (all_stand t.nodes l p found.1 (held_along l n less refl settled) found.2))
-
-      short : length l ≤ length ks
-      short =
-          let among = line_short (reverse ks) (known_at ks n).id in
-          let back = length-reverse ks in
-          omega arith
-
-      pub has_line : HasLine (file_under t.nodes) id
-      has_line = (file_unodes l p, its_line, (let few = file_unodes_few l p in let most = a.store.few in let line = short in omega arith))
-
-      pub past_read : (ids : List Id) → ids ≡ map linknode_of (file_unodes l p) → history_at ks n p ≡ Ok ids
-      past_read ids is =
-          past_as ks (known_at ks n).id a.store.one_parent known_one p true false (file_is l p (Some found.1) found.2) found.0
-          ∙ ap (λ ids. Ok ids) (history_on_line ks (known_at ks n).id p found.1 a.store.one_parent (apart_back ks a.store) found.2 ∙ sym (file_links l p found.1 found.2) ∙ sym is)
-
-    pub past_dir : (id : Id) → Some (UnodeDir id) ≡ walk (unode_entry_under t.nodes) (UnodeDir r.unode) p → history_at ks n p ≡ Err NotAFile
-    past_dir id e =
-        let d = dir_told (un_node l p) (λ f. un_node l p) (is_dir (files_in l) p) (tree_at l p) id (e ∙ un_told) in
-        past_as ks (known_at ks n).id a.store.one_parent known_one p false true (no_file d.0) d.0
-
-    pub past_none : None ≡ walk (unode_entry_under t.nodes) (UnodeDir r.unode) p → history_at ks n p ≡ Err NoPath
-    past_none e =
-        let d = none_told (un_node l p) (λ f. un_node l p) (is_dir (files_in l) p) (tree_at l p) (e ∙ un_told) in
-        past_as ks (known_at ks n).id a.store.one_parent known_one p false false (file_is l p None d.1) d.0
+  pub past_none : None ≡ walk (unode_entry_under t.nodes) (UnodeDir r.unode) p → history_at ks n p ≡ Err NoPath
+  past_none e = let d = un_none_told e in past_as ks (known_at ks n).id known_one p false false (file_is q p None d.1) d.0

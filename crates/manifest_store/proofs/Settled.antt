@@ -1,5 +1,5 @@
 -- A table after a changeset is settled, and after more changesets become known.
-use Rattle.std.proofs.Common.{◌≡◌, ◌⊎◌, inl, inr, ◌↔◌, ℕ, ◌<◌, Bool, true, false, not, ◌||◌, ◌==◌, List, [], ◌∷◌, ◌++◌, length, refl, sym, ap, subst, ◌∙◌, arith}
+use Rattle.std.proofs.Common.{◌≡◌, ◌⊎◌, inl, inr, ◌↔◌, ℕ, ◌<◌, Bool, true, false, not, ◌&&◌, ◌||◌, ◌==◌, List, [], ◌∷◌, ◌++◌, length, refl, sym, ap, subst, ◌∙◌, arith}
 use Rattle.std.specs.Prelude.{Option, Some, None, is_some, Contains, IfErr, OnOk, OnErr, Result, Ok, Err}
 use Rattle.std.specs.List.{AllByRecursion, list_any}
 use Rattle.std.specs.Option.{option_map_or}
@@ -9,29 +9,30 @@ use mathlib.Core.Bool.{true≢false}
 use Rattle.std.proofs.lemmas.Bool.{and_parts, or_left, or_right, eqb-true, eq-eqb, cond-true, cond-false, false_from_ne_true}
 use Rattle.std.proofs.lemmas.List.Folds.{list_any-append}
 use Rattle.std.proofs.lemmas.List.{length-append}
-use Rattle.std.proofs.lemmas.Option.{same_Some}
 use Rattle.std.specs.Cmp.{nat_cmp_total}
 use Rattle.std.specs.Cmp.Lexicographic.{slice_cmp}
 use Rattle.sha2.specs.Sha256.{sha256}
-use Rattle.byte_fields.specs.Bytes.{Id}
 use Rattle.history_model.specs.History.{Known}
-use Rattle.manifest_model.specs.Manifests.{manifests_on, nodes_in}
+use Rattle.history_model.specs.Past.{Past, At}
+use Rattle.manifest_model.specs.Manifests.{manifests_in, nodes_in}
 use Rattle.manifest_model.proofs.Derivations.{or_case as or_either}
-use Rattle.manifest_model.proofs.Merging.{manifests_of-line}
 use Rattle.reply_model.specs.After.{IsNode}
 use Rattle.node_table.specs.declared.fault.TableFault.{TableFault}
 use Rattle.node_table.specs.declared.fault.TableFault.TheVariants as faults
 use Rattle.node_table.specs.Faults.{OfTwo}
 use Rattle.node_table.specs.Table.{Nodes, Table, Has, IsAmong, is_settled, settled_with, with_nodes, empty_table}
-use Rattle.changeset_store.specs.Store.{known_at, parent_at}
+use Rattle.changeset_store.specs.Store.{known_at, parent_at, second_parent_at}
+use Rattle.changeset_store.specs.Pasts.{past_at, past_at_some}
 use Rattle.derive_step.specs.declared.done.Done.{Done}
-use Rattle.derive_step.specs.Jobs.{roots_on, all_nodes_on}
+use Rattle.derive_step.specs.Pasts.{roots_of, all_nodes_of}
 use Rattle.derive_step.proofs.Members.{contains_has, all_has}
-use Rattle.manifest_store.specs.Lines.{line_at, IsStore}
+use Rattle.manifest_store.specs.Lines.{IsStore}
 use Rattle.manifest_store.specs.Manifests.{AreRight, AreManifests, HoldsAll, IsSettledNode}
-use Rattle.manifest_store.specs.Jobs.{IsDoneOn, is_ready}
+use Rattle.manifest_store.specs.Jobs.{IsDoneIn, is_ready}
 use Rattle.manifest_store.specs.Settling.{IsCollision, IsNodeBeside, IsCollisionBeside}
-use Rattle.manifest_store.proofs.Lines.{known_here, line_step, line_stays, parent_stays}
+use Rattle.manifest_store.proofs.Lines.{known_here, parent_stays}
+use Rattle.manifest_store.proofs.NodesApart.{ready_parents}
+use Rattle.manifest_store.proofs.Pasts.{past_step, past_stays, second_stays}
 use Rattle.node_table.proofs.Tables.{number_tied}
 
 nat_tie : (m n : ℕ) → eq_by_cmp nat_cmp m n ≡ true → m ≡ n
@@ -51,6 +52,7 @@ of_nothing ks t e s right = subst (AreManifests ks) (sym e) (record {
   held = λ n h. absurd (true≢false (sym h));
   alone = λ bytes h. none bytes (sym (empty_has bytes) ∙ h);
   parents = λ n p h. absurd (true≢false (sym h));
+  second_parents = λ n p h. absurd (true≢false (sym h));
 })
   where
     empty_has : (bytes : List ℕ) → map.get empty_table.nodes (sha256 bytes) ≡ None
@@ -62,76 +64,74 @@ of_nothing ks t e s right = subst (AreManifests ks) (sym e) (record {
 -- ---- more is known
 
 module _ (ks more : List Known) (t : Table) (s : IsStore (ks ++ more)) (right : AreRight (ks ++ more)) (a : AreManifests ks t) where
-  stays : (n : ℕ) → is_settled t n ≡ true → line_at (ks ++ more) n ≡ line_at ks n
-  stays n h = line_stays ks more n a.store s (a.numbered n h)
+  stays : (n : ℕ) → is_settled t n ≡ true → past_at (ks ++ more) n ≡ past_at ks n
+  stays n h = past_stays ks more n a.store s (a.numbered n h)
 
   pub still : AreManifests (ks ++ more) t
   still = record {
     store = s;
     right = right;
     numbered = λ n h. (let less = a.numbered n h in let long = length-append ks more in omega arith);
-    roots = λ n h. a.roots n h ∙ ap roots_on (sym (stays n h));
+    roots = λ n h. a.roots n h ∙ ap roots_of (sym (stays n h));
     held = λ n h. subst (HoldsAll t.nodes) (sym (stays n h)) (a.held n h);
-    alone = λ bytes h. (let of = a.alone bytes h in (of.0, of.1, subst (λ l. Contains (all_nodes_on l) bytes) (sym (stays of.0 of.1)) of.2));
+    alone = λ bytes h. (let of = a.alone bytes h in (of.0, of.1, subst (λ past. Contains (all_nodes_of past) bytes) (sym (stays of.0 of.1)) of.2));
     parents = λ n p h e. a.parents n p h (sym (parent_stays ks more a.store n (a.numbered n h)) ∙ e);
+    second_parents = λ n p h e. a.second_parents n p h (sym (second_stays ks more a.store n (a.numbered n h)) ∙ e);
   }
 
 -- ---- a changeset is settled
 
--- a node of one of these lines is one of the definitions'
-pub node_of : (l : List Known) (x : Id) (bytes : List ℕ) → Contains (all_nodes_on l) bytes → Contains (nodes_in (manifests_on x l)) bytes
-node_of [] x bytes h = absurd (none h)
-  where
-    none : {b : List ℕ} → Contains [] b → ⊥
-    none h = contains_has [] _ h
-node_of (c ∷ older) x bytes h = h
+is_node : (ks : List Known) (n : ℕ) (bytes : List ℕ) → IsStore ks → n < length ks → Contains (all_nodes_of (past_at ks n)) bytes → IsNode ks bytes
+is_node ks n bytes store less h = (
+  (known_at ks n).id,
+  known_here ks n less,
+  subst (λ q. Contains (nodes_in (manifests_in (known_at ks n).id q)) bytes) (sym (past_step ks store n less)) (subst (λ q. Contains (all_nodes_of q) bytes) (past_step ks store n less) h),
+)
 
-is_node : (ks : List Known) (n : ℕ) (bytes : List ℕ) → IsStore ks → n < length ks → Contains (all_nodes_on (line_at ks n)) bytes → IsNode ks bytes
-is_node ks n bytes store less h =
-    let x = (known_at ks n).id in
-    (x, known_here ks n less, subst (λ m. Contains (nodes_in m) bytes) (sym (manifests_of-line ks x store.one_parent)) (node_of (line_at ks n) x bytes h))
+-- what the derivation says, whatever the past is
+record Tells (past first second : Past) (done : Done) : Type 0 where
+  roots : Some done.roots ≡ roots_of past
+  right : AllByRecursion (Contains (all_nodes_of past)) done.nodes.items
+  whole : (n : List ℕ) → Contains (all_nodes_of past) n → Contains done.nodes.items n ⊎ (Contains (all_nodes_of first) n ⊎ Contains (all_nodes_of second) n)
 
--- what the derivation says, whatever the line is
-record Tells (l rest : List Known) (done : Done) : Type 0 where
-  roots : Some done.roots ≡ roots_on l
-  right : AllByRecursion (Contains (all_nodes_on l)) done.nodes.items
-  whole : (n : List ℕ) → Contains (all_nodes_on l) n → Contains done.nodes.items n ⊎ Contains (all_nodes_on rest) n
+tells : (past : Past) (k : Known) (first second : Past) (done : Done) → past ≡ At k first second → IsDoneIn past done → Tells past first second done
+tells past k first second done e h =
+    let d = subst (λ (q : Past). IsDoneIn q done) e h in
+    subst (λ (q : Past). Tells q first second done) (sym e) (record { roots = d.1.roots; right = d.1.right; whole = d.1.whole })
 
-tells : (l : List Known) (k : Known) (rest : List Known) (done : Done) → l ≡ k ∷ rest → IsDoneOn l done → Tells l rest done
-tells l k rest done e h =
-    let d = subst (λ (l : List Known). IsDoneOn l done) e h in
-    subst (λ (l : List Known). Tells l rest done) (sym e) (record { roots = d.1.roots; right = d.1.right; whole = d.1.whole })
-
-module _ (ks : List Known) (t : Table) (a : AreManifests ks t) (done : Done) (less : done.number < length ks) (is_done : IsDoneOn (line_at ks done.number) done) (ready : is_ready ks t done.number ≡ true) (rooted : is_some (map.get t.roots done.number) ≡ is_settled t done.number) where
+module _ (ks : List Known) (t : Table) (a : AreManifests ks t) (done : Done) (less : done.number < length ks) (is_done : IsDoneIn (past_at ks done.number) done) (ready : is_ready ks t done.number ≡ true) (rooted : is_some (map.get t.roots done.number) ≡ is_settled t done.number) where
   abbrev n : ℕ
   n = done.number
 
   abbrev ns : List (List ℕ)
   ns = done.nodes.items
 
-  abbrev rest : List Known
-  rest = option_map_or (line_at ks) (parent_at ks n) []
+  abbrev first : Past
+  first = past_at_some ks (parent_at ks n)
 
-  parts : (not (is_settled t n) ≡ true) × (option_map_or (is_settled t) (parent_at ks n) true ≡ true)
-  parts = and_parts (not (is_settled t n)) (option_map_or (is_settled t) (parent_at ks n) true) ready
+  abbrev second : Past
+  second = past_at_some ks (second_parent_at ks n)
 
   unsettled : is_settled t n ≡ false
-  unsettled = by (is_settled t n) parts.0
+  unsettled = by (is_settled t n) (and_parts (not (is_settled t n)) (option_map_or (is_settled t) (parent_at ks n) true && option_map_or (is_settled t) (second_parent_at ks n) true) ready).0
     where
       by : (b : Bool) → not b ≡ true → b ≡ false
       by true h = absurd (true≢false (sym h))
       by false h = refl
 
-  told : Tells (line_at ks n) rest done
-  told = tells (line_at ks n) (known_at ks n) rest done (line_step ks a.store n less) is_done
+  abbrev Settled : Option ℕ → Type 0
+  Settled o = (p : ℕ) → o ≡ Some p → is_settled t p ≡ true
 
-  -- the nodes of the parent are there
-  rest_held : HoldsAll t.nodes rest
-  rest_held = by (parent_at ks n) parts.1
-    where
-      by : (o : Option ℕ) → option_map_or (is_settled t) o true ≡ true → HoldsAll t.nodes (option_map_or (line_at ks) o [])
-      by None h bytes c = absurd (contains_has [] bytes c)
-      by (Some p) h bytes c = a.held p h bytes c
+  both : Settled (parent_at ks n) × Settled (second_parent_at ks n)
+  both = ready_parents ks t a n ready
+
+  told : Tells (past_at ks n) first second done
+  told = tells (past_at ks n) (known_at ks n) first second done (past_step ks a.store n less) is_done
+
+  -- the nodes of the parents are there
+  parent_held : (o : Option ℕ) → Settled o → HoldsAll t.nodes (past_at_some ks o)
+  parent_held None h bytes c = absurd (contains_has [] bytes c)
+  parent_held (Some p) h bytes c = a.held p (h p refl) bytes c
 
   abbrev grown : Nodes → Table
   grown nodes = record { nodes = nodes; roots = map.insert t.roots n done.roots; settled = t.settled ++ n ∷ [] }
@@ -172,44 +172,42 @@ module _ (ks : List Known) (t : Table) (a : AreManifests ks t) (done : Done) (le
       store = a.store;
       right = a.right;
       numbered = cases (λ m. m < length ks) a.numbered less;
-      roots = cases (λ m. map.get after.roots m ≡ roots_on (line_at ks m)) (λ m h. old_roots m h ∙ a.roots m h) (new_roots ∙ told.roots);
-      held = cases (λ m. HoldsAll nodes (line_at ks m)) (λ m h bytes c. (has bytes).1 (inl (a.held m h bytes c))) (λ bytes c. of_new bytes (told.whole bytes c));
+      roots = cases (λ m. map.get after.roots m ≡ roots_of (past_at ks m)) (λ m h. old_roots m h ∙ a.roots m h) (new_roots ∙ told.roots);
+      held = cases (λ m. HoldsAll nodes (past_at ks m)) (λ m h bytes c. (has bytes).1 (inl (a.held m h bytes c))) (λ bytes c. of_new bytes (told.whole bytes c));
       alone = λ bytes h. origin bytes ((has bytes).0 h);
-      parents = λ m p h e. settled_more p (cases (λ m. parent_at ks m ≡ Some p → is_settled t p ≡ true) (λ m h. a.parents m p h) (λ e. own_parent (parent_at ks n) parts.1 p e) m h e);
+      parents = λ m p h e. settled_more p (cases (λ m. parent_at ks m ≡ Some p → is_settled t p ≡ true) (λ m h. a.parents m p h) (λ e. both.0 p e) m h e);
+      second_parents = λ m p h e. settled_more p (cases (λ m. second_parent_at ks m ≡ Some p → is_settled t p ≡ true) (λ m h. a.second_parents m p h) (λ e. both.1 p e) m h e);
     }
       where
-        of_new : (bytes : List ℕ) → Contains ns bytes ⊎ Contains (all_nodes_on rest) bytes → Has nodes bytes
+        of_new : (bytes : List ℕ) → Contains ns bytes ⊎ (Contains (all_nodes_of first) bytes ⊎ Contains (all_nodes_of second) bytes) → Has nodes bytes
         of_new bytes (inl c) = (has bytes).1 (inr c)
-        of_new bytes (inr c) = (has bytes).1 (inl (rest_held bytes c))
+        of_new bytes (inr (inl c)) = (has bytes).1 (inl (parent_held (parent_at ks n) both.0 bytes c))
+        of_new bytes (inr (inr c)) = (has bytes).1 (inl (parent_held (second_parent_at ks n) both.1 bytes c))
 
         origin : (bytes : List ℕ) → IsAmong t.nodes ns bytes → IsSettledNode ks after bytes
         origin bytes (inl h) = let of = a.alone bytes h in (of.0, settled_more of.0 of.1, of.2)
-        origin bytes (inr c) = (n, settled_now, all_has (Contains (all_nodes_on (line_at ks n))) ns bytes told.right (contains_has ns bytes c))
-
-        own_parent : (o : Option ℕ) → option_map_or (is_settled t) o true ≡ true → (p : ℕ) → o ≡ Some p → is_settled t p ≡ true
-        own_parent None h p e = absurd cc
-        own_parent (Some q) h p e = subst (λ q. is_settled t q ≡ true) (same_Some q p e) h
+        origin bytes (inr c) = (n, settled_now, all_has (Contains (all_nodes_of (past_at ks n))) ns bytes told.right (contains_has ns bytes c))
 
   beside_nodes : (bytes : List ℕ) → IsAmong t.nodes ns bytes → IsNodeBeside ks t n bytes
   beside_nodes bytes (inl h) = inl (a.alone bytes h)
-  beside_nodes bytes (inr c) = inr (all_has (Contains (all_nodes_on (line_at ks n))) ns bytes told.right (contains_has ns bytes c))
+  beside_nodes bytes (inr c) = inr (all_has (Contains (all_nodes_of (past_at ks n))) ns bytes told.right (contains_has ns bytes c))
 
-  pub collided_beside : (fault : TableFault) → OfTwo fault t.nodes ns → IsCollisionBeside ks t n fault
+  collided_beside : (fault : TableFault) → OfTwo fault t.nodes ns → IsCollisionBeside ks t n fault
   collided_beside (faults.Collision id) h = (h.0, h.1, beside_nodes h.0 h.3, beside_nodes h.1 h.4, h.2, h.5, h.6)
   collided_beside faults.Memory h = tt
 
   among_nodes : (bytes : List ℕ) → IsAmong t.nodes ns bytes → IsNode ks bytes
   among_nodes bytes (inl h) = let of = a.alone bytes h in is_node ks of.0 bytes a.store (a.numbered of.0 of.1) of.2
-  among_nodes bytes (inr c) = is_node ks n bytes a.store less (all_has (Contains (all_nodes_on (line_at ks n))) ns bytes told.right (contains_has ns bytes c))
+  among_nodes bytes (inr c) = is_node ks n bytes a.store less (all_has (Contains (all_nodes_of (past_at ks n))) ns bytes told.right (contains_has ns bytes c))
 
-  pub collided : (fault : TableFault) → OfTwo fault t.nodes ns → IsCollision ks fault
+  collided : (fault : TableFault) → OfTwo fault t.nodes ns → IsCollision ks fault
   collided (faults.Collision id) h = (h.0, h.1, among_nodes h.0 h.3, among_nodes h.1 h.4, h.2, h.5, h.6)
   collided faults.Memory h = tt
 
-  pub is_grown : (new : Table) → new ≡ settled_with t n done.roots ns → new ≡ grown (with_nodes t.nodes ns)
+  is_grown : (new : Table) → new ≡ settled_with t n done.roots ns → new ≡ grown (with_nodes t.nodes ns)
   is_grown new e = e ∙ cond-false (is_some (map.get t.roots n)) t (grown (with_nodes t.nodes ns)) (rooted ∙ unsettled)
 
-  pub after_settling : (new : Table) → new ≡ settled_with t n done.roots ns → (is_settled t n ≡ false → (b : List ℕ) → Has new.nodes b ↔ IsAmong t.nodes ns b) → AreManifests ks new
+  after_settling : (new : Table) → new ≡ settled_with t n done.roots ns → (is_settled t n ≡ false → (b : List ℕ) → Has new.nodes b ↔ IsAmong t.nodes ns b) → AreManifests ks new
   after_settling new e has =
       let is = is_grown new e in
       subst (AreManifests ks) (sym is) (are_after (with_nodes t.nodes ns) (subst (λ (t' : Table). (b : List ℕ) → Has t'.nodes b ↔ IsAmong t.nodes ns b) is (has unsettled)))

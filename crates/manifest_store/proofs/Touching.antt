@@ -1,10 +1,9 @@
--- The directories above edits, as the edits are gone through; and what a job has of its parent.
-use Rattle.std.proofs.Common.{◌≡◌, ◌⊎◌, inl, inr, ℕ, suc, ◌<◌, ◌≤◌, ◌+◌, Bool, true, false, not, cond, ◌&&◌, ◌||◌, ◌==◌, List, [], ◌∷◌, ◌++◌, length, drop, drop-cons, get_or, refl, sym, ap, subst, ◌∙◌, arith, Bor}
-use Rattle.std.specs.Prelude.{Option, Some, None, is_some, MatchOption, IfSome, nat_lt}
+-- The directories above edits, as the edits are gone through.
+use Rattle.std.proofs.Common.{◌≡◌, ◌⊎◌, inl, inr, ℕ, suc, ◌<◌, ◌≤◌, ◌+◌, Bool, true, false, not, cond, ◌&&◌, ◌||◌, ◌==◌, List, [], ◌∷◌, ◌++◌, length, drop, drop-cons, get_or, sym, ap, subst, ◌∙◌, arith, Bor}
+use Rattle.std.specs.Prelude.{Option, Some, None, is_some, IfSome, nat_lt}
 use Rattle.std.specs.List.{list_any}
-use Rattle.std.specs.Option.{option_and_then, option_map_or, option_copied}
+use Rattle.std.specs.Option.{option_and_then, option_copied}
 use Rattle.std.specs.FinMap as map
-use Rattle.std.specs.Arc.{arc_value}
 use mathlib.Core.Bool.{true≢false}
 use Rattle.std.proofs.lemmas.Bool.{and_parts, ne_eqb, ltb-true}
 use Rattle.std.proofs.lemmas.List.{drop_all}
@@ -12,27 +11,16 @@ use Rattle.changeset_model.specs.Path.{Path, is_prefix, is_strict_prefix}
 use Rattle.changeset_model.specs.Changeset.{FileChange}
 use Rattle.bonsai.specs.declared.edit.Edit.{Edit}
 use Rattle.bonsai.specs.View.{edits_view}
-use Rattle.history_model.specs.History.{Known}
-use Rattle.manifest_model.specs.Unode.{is_renewed}
 use Rattle.manifest_model.proofs.Derivations.{or_case as or_either}
 use Rattle.byte_fields.proofs.Booleans.{same_some}
-use Rattle.node_table.specs.Table.{Nodes, Table, is_settled}
+use Rattle.node_table.specs.Table.{Nodes, Table}
 use Rattle.node_table.specs.declared.roots.Roots.{Roots}
-use Rattle.changeset_store.specs.Store.{known_at, changeset_at, parent_at}
-use Rattle.changeset_store.proofs.Places.{known_at-changeset}
 use Rattle.derive_step.specs.declared.job.Parent.{Parent}
-use Rattle.derive_step.specs.declared.job.Job.{Job}
 use Rattle.derive_step.specs.Touched.{is_above}
-use Rattle.derive_step.specs.Views.{first_of, second_of, Before, before_seen, nodes_before, roots_before}
-use Rattle.derive_step.specs.Jobs.{IsRight, IsJobOf, nodes_on, roots_on}
-use Rattle.manifest_store.specs.Lines.{line_at}
-use Rattle.manifest_store.specs.Manifests.{AreManifests, HoldsAll}
+use Rattle.derive_step.specs.Views.{Before, before_seen, nodes_before}
 use Rattle.manifest_store.specs.Nodes.{dir_under, dir_from, dir_ids}
 use Rattle.manifest_store.specs.Dirs.{IsFull, IsMore}
-use Rattle.manifest_store.specs.Parents.{root_in, IsParentIn, IsParentOf}
-use Rattle.manifest_store.specs.Jobs.{AreDeletionsOf, IsJobOn, is_ready}
-use Rattle.manifest_store.proofs.Lines.{line_step, own_id}
-use Rattle.manifest_store.proofs.Held.{root_there, dirs_are}
+use Rattle.manifest_store.specs.Parents.{root_in, IsParentIn}
 use Rattle.manifest_store.proofs.Gathered.{Dirs}
 use Rattle.manifest_laws.proofs.Reach.{prefix_push as prefix_snoc}
 
@@ -108,57 +96,3 @@ parent_is t n es p r at under same full = record {
         let deep : (length (x ∷ d) == 0) ≡ false = ne_eqb (length (x ∷ d)) 0 (λ e. omega arith) in
         full (x ∷ d) ((λ i. list_any (λ e. not (deep i) && is_strict_prefix (x ∷ d) e.0) es) ∙ sym (ap (λ b. b || list_any (λ e. is_strict_prefix (x ∷ d) e.0) es) deep) ∙ h)
         ∙ sym (ap (option_and_then (λ b. dir_from t.nodes b (x ∷ d))) root)
-
-pub no_parent : (t : Table) (n : ℕ) (es : List (Path × FileChange)) → root_in t n ≡ None → IsParentIn t n es None
-no_parent t n es none = record {
-  roots = sym (ap (λ o. cond (is_some o) (map.get t.roots n) None) none);
-  nodes = λ d h. sym (ap (option_and_then (λ b. dir_from t.nodes b d)) none);
-}
-
--- ---- a job
-
-record Shows (m : Nodes) (l : List Known) (o : Option Roots) : Type 0 where
-  roots : cond (is_some (option_and_then (λ r. dir_under m (dir_ids r)) o)) o None ≡ roots_on l
-  nodes : (d : Path) → option_and_then (λ b. dir_from m b d) (option_and_then (λ r. dir_under m (dir_ids r)) o) ≡ nodes_on l d
-
-shown : (m : Nodes) (l : List Known) → IsRight l → HoldsAll m l → (o : Option Roots) → o ≡ roots_on l → Shows m l o
-shown m [] right held o e = subst (Shows m []) (sym e) (record { roots = refl; nodes = λ d. refl })
-shown m (c ∷ older) right held o e =
-    let there = root_there m c older right held in
-    subst (Shows m (c ∷ older)) (sym e) (record {
-      roots = ap (λ x. cond (is_some x) (roots_on (c ∷ older)) None) there;
-      nodes = λ d. ap (option_and_then (λ b. dir_from m b d)) there ∙ dirs_are m c older right held d [] refl;
-    })
-
-module _ (ks : List Known) (t : Table) (a : AreManifests ks t) (n : ℕ) (less : n < length ks) (ready : is_ready ks t n ≡ true) (job : Job) (commit : arc_value job.commit ≡ changeset_at ks n) (alone : second_of job.parents ≡ None) (parent : IsParentOf ks t n (changeset_at ks n).changes (first_of job.parents)) (moves : AreDeletionsOf (line_at ks n) job.deletions) where
-  abbrev k : Known
-  k = known_at ks n
-
-  job_by : (o : Option ℕ) → parent_at ks n ≡ o → option_map_or (is_settled t) o true ≡ true → MatchOption o (first_of job.parents ≡ None) (λ p. IsParentIn t p (changeset_at ks n).changes (first_of job.parents)) → AreDeletionsOf (k ∷ option_map_or (line_at ks) o []) job.deletions → IsJobOf k (option_map_or (line_at ks) o []) job
-  job_by None e settled none of = record {
-    right = subst IsRight (line_step ks a.store n less ∙ ap (λ o. k ∷ option_map_or (line_at ks) o []) e) (a.right n less);
-    changeset = commit ∙ sym (known_at-changeset ks n);
-    id = own_id ks a.store n less;
-    alone = alone;
-    roots = ap roots_before none;
-    nodes = λ d h. ap (λ p. nodes_before p d) none;
-    files = of.files;
-    held = of.held;
-  }
-  job_by (Some p) e settled has of =
-      let shows = shown t.nodes (line_at ks p) (a.right p (a.numbered p settled)) (a.held p settled) (map.get t.roots p) (a.roots p settled) in
-      record {
-        right = subst IsRight (line_step ks a.store n less ∙ ap (λ o. k ∷ option_map_or (line_at ks) o []) e) (a.right n less);
-        changeset = commit ∙ sym (known_at-changeset ks n);
-        id = own_id ks a.store n less;
-        alone = alone;
-        roots = has.roots ∙ shows.roots;
-        nodes = λ d h. has.nodes d (ap (λ c. is_renewed c d) (sym (known_at-changeset ks n)) ∙ h) ∙ shows.nodes d;
-        files = of.files;
-        held = of.held;
-      }
-
-  pub job_is : IsJobOn (line_at ks n) job
-  job_is =
-      let P : List Known → Type 0 = λ l. IsJobOn l job in
-      subst P (sym (line_step ks a.store n less)) (job_by (parent_at ks n) refl (and_parts (not (is_settled t n)) (option_map_or (is_settled t) (parent_at ks n) true) ready).1 parent (subst (λ (l : List Known). AreDeletionsOf l job.deletions) (line_step ks a.store n less) moves))

@@ -2,6 +2,7 @@ pub mod Lines
 pub mod Manifests
 pub mod Jobs
 pub mod Reads
+pub mod Histories
 pub mod Settling
 pub mod Nodes
 pub mod Dirs
@@ -9,4 +10,8 @@ pub mod Parents
 pub mod PathLines
 pub mod Moves
 pub mod Levels
+pub mod Brought
 pub mod Holding
+pub mod Apart
+pub mod Merging
+pub mod Deciding

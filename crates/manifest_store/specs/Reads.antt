@@ -2,7 +2,7 @@
 --     fsnode_at ks n d, unode_at ks n p      of the changeset of a number: the bytes of the fsnode of a directory, and of the unode of a path
 --     deleted_at ks n p      the bytes of the deleted node of a path
 --     path_log_at ks n p      of a changeset, its first parent and so on those that set a path or have another file there than their first parent, newest first;  logged_ids ks n p      these, if any
---     history_at ks n p      the changesets that set a file, newest first
+--     history_at ks n p      the changesets that made the unode of a file, or one that this reaches through parents, newest first
 --     IsAbsence fault read      what is absent, or want of memory
 use Rattle.std.specs.Prelude.{◌≡◌, ◌==◌, ℕ, not, length, List, [], Option, None, Some, Result, Ok, Err}
 use Rattle.std.specs.Borrow.{Bor}

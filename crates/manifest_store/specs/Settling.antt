@@ -10,8 +10,8 @@ use Rattle.reply_model.specs.After.{NodesCollide}
 use Rattle.node_table.specs.Table.{Table}
 use Rattle.node_table.specs.declared.fault.TableFault.{TableFault}
 use Rattle.node_table.specs.declared.fault.TableFault.TheVariants as faults
-use Rattle.derive_step.specs.Jobs.{all_nodes_on}
-use Rattle.manifest_store.specs.Lines.{line_at}
+use Rattle.changeset_store.specs.Pasts.{past_at}
+use Rattle.derive_step.specs.Pasts.{all_nodes_of}
 use Rattle.manifest_store.specs.Manifests.{IsSettledNode}
 
 abbrev pub IsCollision : List Known → TableFault → Type 0
@@ -19,7 +19,7 @@ IsCollision ks (faults.Collision id) = NodesCollide ks id
 IsCollision ks faults.Memory = Unit {0}
 
 abbrev pub IsNodeBeside : List Known → Table → ℕ → List ℕ → Type 0
-IsNodeBeside ks t n bytes = IsSettledNode ks t bytes ⊎ Contains (all_nodes_on (line_at ks n)) bytes
+IsNodeBeside ks t n bytes = IsSettledNode ks t bytes ⊎ Contains (all_nodes_of (past_at ks n)) bytes
 
 abbrev pub CollideBeside : List Known → Table → ℕ → Id → Type 0
 CollideBeside ks t n x = (a b : List ℕ) × IsNodeBeside ks t n a × IsNodeBeside ks t n b × (a ≢ b) × (sha256 a ≡ x) × (sha256 b ≡ x)

@@ -1,5 +1,5 @@
 //! The nodes of the parent in the directories that a changeset touches.
-ghost use Rattle.std.specs.Prelude.{◌≡◌, ◌↔◌, ◌++◌, ◌∷◌, [], true, is_some, option_map, Some, IfOk, OnOk, IsTrue};
+ghost use Rattle.std.specs.Prelude.{◌≡◌, ◌↔◌, ◌++◌, ◌∷◌, [], true, is_some, option_map, Some, IfOk, IfSome, OnOk, IsTrue};
 ghost use Rattle.std.specs.List.{list_any};
 ghost use Rattle.std.specs.Option.{option_and_then, option_copied};
 ghost use Rattle.bonsai.specs.View.{edits_view};
@@ -16,22 +16,24 @@ use crate::nodes::{child_ids, dir_under};
 use crate::place::{front_of, parted};
 use bonsai::Edit;
 use derive_step::{DirIds, DirNodes, Parent, text_above};
-use node_table::{NodeTable, Roots};
+use marked_table::MarkedTable;
+use node_table::Roots;
 use repo_path::{RepoPath, has_elements, path_of};
 use std::alloc::{AllocError, Global};
 use std::collections::BTreeMap;
 
 /// Nodes of directories other than the root.
-type Dirs = BTreeMap<RepoPath, DirNodes>;
+pub(crate) type Dirs = BTreeMap<RepoPath, DirNodes>;
 
 /// Of a settled changeset: the nodes of the root, and of the directories above edits that are there.
 pub(crate) fn parent_nodes(
     alloc: Global,
-    table: &NodeTable,
+    table: &MarkedTable,
     number: u32,
     edits: &[Edit],
 ) -> Result<Option<Parent>, AllocError>
-    ensures { IfOk result (λ parent. IsParentIn table.now number (edits_view edits.now) parent) }
+    ensures nodes { IfOk result (λ parent. IsParentIn table.now number (edits_view edits.now) parent) }
+    ensures dirs { IfOk result (λ parent. IfSome parent (λ p. AreDirs table.now.nodes (before_seen p.root) p.dirs)) }
 {
     let Some(roots) = table.roots(number) else {
         return Ok(None);
@@ -57,13 +59,14 @@ fn ids_of(roots: &Roots) -> DirIds
 // Adds the directories above edits. Neighbours often lie in one directory.
 fn add_all_above(
     alloc: Global,
-    table: &NodeTable,
+    table: &MarkedTable,
     root: &DirNodes,
     edits: &[Edit],
     dirs: &mut Dirs,
 ) -> Result<(), AllocError>
     requires { AreDirs table.now.nodes (before_seen root.now) dirs.old }
-    ensures { OnOk result ((d : Path) → list_any (λ e. is_above d e.0) (edits_view edits.now) ≡ true → IsFull table.now.nodes (before_seen root.now) dirs.new d) }
+    ensures dirs { OnOk result (AreDirs table.now.nodes (before_seen root.now) dirs.new) }
+    ensures full { OnOk result ((d : Path) → list_any (λ e. is_above d e.0) (edits_view edits.now) ≡ true → IsFull table.now.nodes (before_seen root.now) dirs.new d) }
 {
     let mut last = None;
     for edit in edits {
@@ -91,7 +94,7 @@ fn is_same(last: Option<&str>, dir: &str) -> bool
 // Adds a directory and those above it, down from the root as far as they are there.
 fn add_above(
     alloc: Global,
-    table: &NodeTable,
+    table: &MarkedTable,
     root: &DirNodes,
     dir: &str,
     dirs: &mut Dirs,
@@ -119,7 +122,7 @@ fn add_above(
 // Adds a directory in the one above it, and tells whether it is there.
 fn add_dir(
     alloc: Global,
-    table: &NodeTable,
+    table: &MarkedTable,
     root: &DirNodes,
     above: Option<&RepoPath>,
     name: &str,
@@ -144,8 +147,12 @@ fn add_dir(
     Ok(true)
 }
 
-// What was gathered of a directory, or of the root.
-fn nodes_at<'a>(root: &'a DirNodes, dirs: &'a Dirs, dir: Option<&RepoPath>) -> Option<&'a DirNodes>
+/// What was gathered of a directory, or of the root.
+pub(crate) fn nodes_at<'a>(
+    root: &'a DirNodes,
+    dirs: &'a Dirs,
+    dir: Option<&RepoPath>,
+) -> Option<&'a DirNodes>
     ensures { before_of result ≡ found (before_seen root.now) dirs.now (dir_of dir.entry) }
 {
     match dir {
@@ -160,7 +167,7 @@ fn nodes_at<'a>(root: &'a DirNodes, dirs: &'a Dirs, dir: Option<&RepoPath>) -> O
 // The nodes of a directory in another one.
 fn child_under(
     alloc: Global,
-    table: &NodeTable,
+    table: &MarkedTable,
     nodes: Option<&DirNodes>,
     name: &str,
 ) -> Result<Option<DirNodes>, AllocError>
@@ -169,7 +176,7 @@ fn child_under(
     let Some(nodes) = nodes else {
         return Ok(None);
     };
-    match child_ids(nodes, name) {
+    match child_ids(nodes, name.as_bytes()) {
         Some(ids) => dir_under(alloc, table, &ids),
         None => Ok(None),
     }

@@ -7,7 +7,8 @@ ghost use Rattle.manifest_store.specs.Nodes.{deleted_entry_under};
 ghost use Rattle.manifest_store.specs.Holding.{AreOf, IsMore, IsHere, AreOnWay};
 
 use crate::place::parted;
-use node_table::{Node, NodeTable};
+use marked_table::MarkedTable;
+use node_table::Node;
 use object_id::Id;
 use repo_path::RepoPath;
 use std::alloc::{AllocError, Global};
@@ -16,7 +17,7 @@ use std::collections::BTreeMap;
 /// Holds the deleted nodes at paths and above them, down from the root as far as there are any.
 pub(crate) fn hold_ways(
     alloc: Global,
-    table: &NodeTable,
+    table: &MarkedTable,
     root: &Id,
     paths: &[RepoPath],
     nodes: &mut BTreeMap<Id, Node>,
@@ -36,7 +37,7 @@ pub(crate) fn hold_ways(
 
 fn hold_way(
     alloc: Global,
-    table: &NodeTable,
+    table: &MarkedTable,
     root: &Id,
     path: &str,
     nodes: &mut BTreeMap<Id, Node>,
@@ -62,18 +63,17 @@ fn hold_way(
 }
 
 // What a deleted node has under a name.
-fn id_in(table: &NodeTable, id: &Id, name: &str) -> Option<Id>
+fn id_in(table: &MarkedTable, id: &Id, name: &str) -> Option<Id>
     ensures { option_map UnodeDir result ≡ deleted_entry_under table.now.nodes id.now name.now }
 {
-    let bytes = table.get(id)?;
-    let entry = deleted_node::entry_in(bytes, name)?;
+    let entry = table.deleted_entry(id, name)?;
     Some(entry.id)
 }
 
 // Holds the node of an id, if there is one.
 fn hold(
     alloc: Global,
-    table: &NodeTable,
+    table: &MarkedTable,
     id: &Id,
     nodes: &mut BTreeMap<Id, Node>,
 ) -> Result<(), AllocError>

@@ -2,6 +2,9 @@
 //! derived of one put in, and the reads of a settled changeset.
 #![tactic(auto)]
 
+mod apart;
+mod brought;
+mod decided;
 mod deletions;
 mod dirs;
 pub mod fault;
@@ -11,6 +14,7 @@ mod job;
 pub mod laws;
 mod links;
 mod logs;
+mod merging;
 mod moves;
 mod nodes;
 mod place;

@@ -13,8 +13,8 @@ ghost use Rattle.manifest_store.specs.Nodes.{fsnode_under as fsnode_in_table, ma
 
 use derive_step::{DirIds, DirNodes};
 use fsnode::{FsChild, FsEntry, Fsnode};
+use marked_table::MarkedTable;
 use node_fields::NodeFault;
-use node_table::NodeTable;
 use object_id::Id;
 use std::alloc::{AllocError, Global};
 use unode::{Unode, UnodeChild, UnodeEntry, UnodeManifest};
@@ -22,7 +22,7 @@ use unode::{Unode, UnodeChild, UnodeEntry, UnodeManifest};
 /// The fsnode under an id.
 pub(crate) fn fsnode_under(
     alloc: Global,
-    table: &NodeTable,
+    table: &MarkedTable,
     id: &Id,
 ) -> Result<Option<Fsnode>, AllocError>
     ensures { IfOk result (λ node. option_map fsnode_seen node ≡ fsnode_in_table table.now.nodes id.now) }
@@ -40,7 +40,7 @@ pub(crate) fn fsnode_under(
 /// The unode of a directory under an id.
 pub(crate) fn manifest_under(
     alloc: Global,
-    table: &NodeTable,
+    table: &MarkedTable,
     id: &Id,
 ) -> Result<Option<UnodeManifest>, AllocError>
     ensures { IfOk result (λ node. option_map manifest_seen node ≡ manifest_in_table table.now.nodes id.now) }
@@ -58,7 +58,7 @@ pub(crate) fn manifest_under(
 /// Both nodes of a directory.
 pub(crate) fn dir_under(
     alloc: Global,
-    table: &NodeTable,
+    table: &MarkedTable,
     ids: &DirIds,
 ) -> Result<Option<DirNodes>, AllocError>
     ensures { IfOk result (λ nodes. option_map before_seen nodes ≡ dir_in_table table.now.nodes ids.now) }
@@ -77,7 +77,7 @@ pub(crate) fn dir_under(
 }
 
 /// The ids of the nodes of a directory in this one.
-pub(crate) fn child_ids(nodes: &DirNodes, name: &str) -> Option<DirIds>
+pub(crate) fn child_ids(nodes: &DirNodes, name: &[u8]) -> Option<DirIds>
     ensures { result ≡ ids_of_child (before_seen nodes.now) name.now }
 {
     let FsEntry::Directory { id, .. } = fs_entry(&nodes.fsnode, name)? else {
@@ -90,10 +90,10 @@ pub(crate) fn child_ids(nodes: &DirNodes, name: &str) -> Option<DirIds>
 }
 
 /// The entry of a name in an fsnode.
-pub(crate) fn fs_entry(node: &Fsnode, name: &str) -> Option<FsEntry>
+pub(crate) fn fs_entry(node: &Fsnode, name: &[u8]) -> Option<FsEntry>
     ensures { option_map fs_entry_seen result ≡ fs_entry_at (fsnode_seen node.now) name.now }
 {
-    fs_entry_among(&node.entries, name.as_bytes())
+    fs_entry_among(&node.entries, name)
 }
 
 fn fs_entry_among(children: &[FsChild], name: &[u8]) -> Option<FsEntry>
@@ -108,10 +108,10 @@ fn fs_entry_among(children: &[FsChild], name: &[u8]) -> Option<FsEntry>
 }
 
 /// The entry of a name in the unode of a directory.
-pub(crate) fn unode_entry(node: &UnodeManifest, name: &str) -> Option<UnodeEntry>
+pub(crate) fn unode_entry(node: &UnodeManifest, name: &[u8]) -> Option<UnodeEntry>
     ensures { option_map unode_entry_seen result ≡ unode_entry_at (manifest_seen node.now) name.now }
 {
-    unode_entry_among(&node.entries, name.as_bytes())
+    unode_entry_among(&node.entries, name)
 }
 
 fn unode_entry_among(children: &[UnodeChild], name: &[u8]) -> Option<UnodeEntry>

@@ -2,19 +2,20 @@
 ghost use Rattle.std.specs.Prelude.{◌≡◌, ◌≤◌, ◌&&◌, ◌||◌, ◌∷◌, ◌++◌, [], ℕ, suc, List, Some, None, if◌then◌else◌, length, IfOk, OnOk};
 ghost use Rattle.std.specs.List.{AllByRecursion};
 ghost use Rattle.changeset_model.specs.Path.{Path, is_path, is_prefix, is_strict_prefix, elements};
-ghost use Rattle.history_model.specs.History.{Known};
+ghost use Rattle.history_model.specs.Past.{Past};
+ghost use Rattle.history_model.specs.Tree.{files_in};
 ghost use Rattle.manifest_model.specs.Fsnode.{fsnode};
-ghost use Rattle.manifest_laws.specs.Changes.{files_in};
 ghost use Rattle.manifest_laws.specs.Entries.{fs_entry_at};
 ghost use Rattle.fsnode.specs.Parts.{child_seen};
-ghost use Rattle.derive_step.specs.Jobs.{IsRight};
-ghost use Rattle.manifest_store.specs.Moves.{HasLine, IsDirectory, Adds, has_file};
+ghost use Rattle.manifest_store.specs.Manifests.{IsRight};
+ghost use Rattle.manifest_store.specs.Moves.{HasPast, IsDirectory, Adds, has_file};
+ghost use Rattle.manifest_store.specs.Reads.{dir_of};
 ghost use Rattle.manifest_store.specs.Levels.{AreDirectories, AreDeep, is_reached};
 
 use crate::nodes::fsnode_under;
 use fsnode::{FsChild, FsEntry};
+use marked_table::MarkedTable;
 use node_fields::Name;
-use node_table::NodeTable;
 use object_id::Id;
 use repo_path::{LONGEST_PATH, PathFault, RepoPath};
 use std::alloc::{AllocError, Global};
@@ -30,12 +31,12 @@ pub(crate) struct Directory {
 /// takes a byte at least, so that no directory lies below the last turn's level.
 pub(crate) fn add_files_under(
     alloc: Global,
-    table: &NodeTable,
+    table: &MarkedTable,
     dir: &RepoPath,
     id: &Id,
     gone: &mut Vec<RepoPath>,
 ) -> Result<(), AllocError>
-    ensures { (line : List Known) → HasLine table.now.nodes line → IsDirectory line dir.now id.now → OnOk result (Adds (λ p. has_file line p && is_strict_prefix dir.now p) gone.old.items gone.new.items) }
+    ensures { (past : Past) → HasPast table.now.nodes past → IsDirectory past dir.now id.now → OnOk result (Adds (λ p. has_file past p && is_strict_prefix dir.now p) gone.old.items gone.new.items) }
 {
     let mut level = Vec::new(alloc);
     level.push(Directory {
@@ -54,12 +55,12 @@ pub(crate) fn add_files_under(
 // Adds the files directly in these directories, and gives the directories in them.
 fn level_under(
     alloc: Global,
-    table: &NodeTable,
+    table: &MarkedTable,
     level: &[Directory],
     gone: &mut Vec<RepoPath>,
 ) -> Result<Vec<Directory>, AllocError>
-    ensures files { (line : List Known) → HasLine table.now.nodes line → AreDirectories line level.now → IfOk result (λ next. (p : Path) → is_reached line gone.new.items next.items p ≡ is_reached line gone.old.items level.now p) }
-    ensures directories { (line : List Known) → HasLine table.now.nodes line → AreDirectories line level.now → IfOk result (λ next. AreDirectories line next.items) }
+    ensures files { (past : Past) → HasPast table.now.nodes past → AreDirectories past level.now → IfOk result (λ next. (p : Path) → is_reached past gone.new.items next.items p ≡ is_reached past gone.old.items level.now p) }
+    ensures directories { (past : Past) → HasPast table.now.nodes past → AreDirectories past level.now → IfOk result (λ next. AreDirectories past next.items) }
     ensures deeper { (n : ℕ) → AreDeep n level.now → IfOk result (λ next. AreDeep (suc n) next.items) }
 {
     let mut next = Vec::new(alloc);
@@ -71,13 +72,13 @@ fn level_under(
 
 fn add_children(
     alloc: Global,
-    table: &NodeTable,
+    table: &MarkedTable,
     dir: &Directory,
     left: &mut Vec<Directory>,
     gone: &mut Vec<RepoPath>,
 ) -> Result<(), AllocError>
-    ensures files { (line : List Known) → HasLine table.now.nodes line → IsDirectory line dir.now.path dir.now.id → OnOk result ((p : Path) → is_reached line gone.new.items left.new.items p ≡ (is_reached line gone.old.items left.old.items p || (has_file line p && is_strict_prefix dir.now.path p))) }
-    ensures directories { (line : List Known) → HasLine table.now.nodes line → IsDirectory line dir.now.path dir.now.id → AreDirectories line left.old.items → OnOk result (AreDirectories line left.new.items) }
+    ensures files { (past : Past) → HasPast table.now.nodes past → IsDirectory past dir.now.path dir.now.id → OnOk result ((p : Path) → is_reached past gone.new.items left.new.items p ≡ (is_reached past gone.old.items left.old.items p || (has_file past p && is_strict_prefix dir.now.path p))) }
+    ensures directories { (past : Past) → HasPast table.now.nodes past → IsDirectory past dir.now.path dir.now.id → AreDirectories past left.old.items → OnOk result (AreDirectories past left.new.items) }
     ensures deeper { (n : ℕ) → n ≤ length dir.now.path → AreDeep (suc n) left.old.items → OnOk result (AreDeep (suc n) left.new.items) }
 {
     let Some(node) = fsnode_under(alloc, table, &dir.id)? else {
@@ -96,11 +97,11 @@ fn add_child(
     left: &mut Vec<Directory>,
     gone: &mut Vec<RepoPath>,
 ) -> Result<(), AllocError>
-    ensures files { (line : List Known) → IsRight line → fs_entry_at (fsnode (files_in line) dir.now) (child_seen child.now).0 ≡ Some (child_seen child.now).1 → OnOk result ((p : Path) → is_reached line gone.new.items left.new.items p ≡ (is_reached line gone.old.items left.old.items p || (has_file line p && is_prefix (dir.now ++ child.now.name ∷ []) p))) }
-    ensures directories { (line : List Known) → IsRight line → fs_entry_at (fsnode (files_in line) dir.now) (child_seen child.now).0 ≡ Some (child_seen child.now).1 → AreDirectories line left.old.items → OnOk result (AreDirectories line left.new.items) }
+    ensures files { (past : Past) → IsRight past → fs_entry_at (fsnode (files_in past) dir.now) (child_seen child.now).0 ≡ Some (child_seen child.now).1 → OnOk result ((p : Path) → is_reached past gone.new.items left.new.items p ≡ (is_reached past gone.old.items left.old.items p || (has_file past p && is_prefix (dir.now ++ child.now.name ∷ []) p))) }
+    ensures directories { (past : Past) → IsRight past → fs_entry_at (fsnode (files_in past) dir.now) (child_seen child.now).0 ≡ Some (child_seen child.now).1 → AreDirectories past left.old.items → OnOk result (AreDirectories past left.new.items) }
     ensures deeper { (n : ℕ) → n ≤ length dir.now → AreDeep (suc n) left.old.items → OnOk result (AreDeep (suc n) left.new.items) }
 {
-    let Some(path) = path_in(alloc, dir, &child.name)? else {
+    let Some(path) = path_in(alloc, Some(dir), &child.name)? else {
         return Ok(());
     };
     match child.entry {
@@ -110,9 +111,13 @@ fn add_child(
     Ok(())
 }
 
-// The path of a name in a directory, or `None` where that is too long for a path.
-fn path_in(alloc: Global, dir: &RepoPath, name: &Name) -> Result<Option<RepoPath>, AllocError>
-    ensures { IfOk result (λ path. path ≡ (if is_path (dir.now ++ name.now ∷ []) then Some (dir.now ++ name.now ∷ []) else None)) }
+/// The path of a name in a directory, or in the root where none is given; `None` where that is too long for a path.
+pub(crate) fn path_in(
+    alloc: Global,
+    dir: Option<&RepoPath>,
+    name: &Name,
+) -> Result<Option<RepoPath>, AllocError>
+    ensures { IfOk result (λ path. path ≡ (if is_path (dir_of dir.entry ++ name.now ∷ []) then Some (dir_of dir.entry ++ name.now ∷ []) else None)) }
 {
     let text = text_in(alloc, dir, name)?;
     match RepoPath::from_bytes(alloc, &text) {
@@ -122,9 +127,12 @@ fn path_in(alloc: Global, dir: &RepoPath, name: &Name) -> Result<Option<RepoPath
     }
 }
 
-fn text_in(alloc: Global, dir: &RepoPath, name: &Name) -> Result<Vec<u8>, AllocError>
-    ensures { IfOk result (λ text. elements text.items ≡ dir.now ++ name.now ∷ []) }
+fn text_in(alloc: Global, dir: Option<&RepoPath>, name: &Name) -> Result<Vec<u8>, AllocError>
+    ensures { IfOk result (λ text. elements text.items ≡ dir_of dir.entry ++ name.now ∷ []) }
 {
+    let Some(dir) = dir else {
+        return Ok(Vec::from_slice(alloc, name.as_bytes())?);
+    };
     let mut text = Vec::from_slice(alloc, dir.as_str().as_bytes())?;
     text.push(b'/')?;
     text.extend_from_slice(name.as_bytes())?;

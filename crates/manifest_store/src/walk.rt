@@ -12,7 +12,7 @@ ghost use Rattle.manifest_store.specs.Reads.{dir_of};
 use crate::place::parted;
 use deleted_node::DeletedEntry;
 use fsnode::FsEntry;
-use node_table::NodeTable;
+use marked_table::MarkedTable;
 use object_id::Id;
 use repo_path::RepoPath;
 use unode::UnodeEntry;
@@ -29,23 +29,20 @@ pub(crate) trait Tree {
 /// The fsnodes of a table.
 #[derive(Clone, Copy)]
 pub(crate) struct Fsnodes<'a> {
-    pub(crate) table: &'a NodeTable,
+    pub(crate) table: &'a MarkedTable,
 }
 
 /// The unodes of a table.
 #[derive(Clone, Copy)]
 pub(crate) struct Unodes<'a> {
-    pub(crate) table: &'a NodeTable,
+    pub(crate) table: &'a MarkedTable,
 }
 
 impl<'a> Tree for Fsnodes<'a> {
     ghost look = { λ t x n. fs_entry_under t.table.now.nodes x n };
 
     fn entry(&self, dir: &Id, name: &str) -> Option<UnodeEntry> {
-        match self.table.get(dir) {
-            Some(bytes) => entry_of_fsnode(fsnode::entry_in(bytes, name)),
-            None => None,
-        }
+        entry_of_fsnode(self.table.fs_entry(dir, name))
     }
 }
 
@@ -53,27 +50,21 @@ impl<'a> Tree for Unodes<'a> {
     ghost look = { λ t x n. unode_entry_under t.table.now.nodes x n };
 
     fn entry(&self, dir: &Id, name: &str) -> Option<UnodeEntry> {
-        match self.table.get(dir) {
-            Some(bytes) => unode::entry_in(bytes, name),
-            None => None,
-        }
+        self.table.unode_entry(dir, name)
     }
 }
 
 /// The deleted nodes of a table. Each has its entries, as a directory.
 #[derive(Clone, Copy)]
 pub(crate) struct DeletedNodes<'a> {
-    pub(crate) table: &'a NodeTable,
+    pub(crate) table: &'a MarkedTable,
 }
 
 impl<'a> Tree for DeletedNodes<'a> {
     ghost look = { λ t x n. deleted_entry_under t.table.now.nodes x n };
 
     fn entry(&self, dir: &Id, name: &str) -> Option<UnodeEntry> {
-        match self.table.get(dir) {
-            Some(bytes) => entry_of_deleted(deleted_node::entry_in(bytes, name)),
-            None => None,
-        }
+        entry_of_deleted(self.table.deleted_entry(dir, name))
     }
 }
 

@@ -3,8 +3,8 @@ use Rattle.std.proofs.Common.{◌≡◌, ℕ, true, false, cond, List, [], ◌�
 use Rattle.std.specs.Prelude.{None, Some, is_some, Ok, Contains}
 use Rattle.byte_fields.proofs.Lists.{contains_head}
 use Rattle.changeset_model.specs.Path.{Path}
-use Rattle.changeset_model.specs.Changeset.{touched_paths}
-use Rattle.history_model.specs.History.{Body, Content, Whole, Change, Book, Land, Policy, Fault, Move, Landing, Entry, holds_policy, policy_of}
+use Rattle.changeset_model.specs.Changeset.{Changeset, touched_paths}
+use Rattle.history_model.specs.History.{Body, Content, Whole, Change, Book, Land, Policy, Fault, Move, Landing, Entry, known, holds_policy, policy_of}
 use Rattle.history_model.specs.Journal.{Header}
 use Rattle.history_model.proofs.Policies.{held_has_text}
 use Rattle.history_model.proofs.Trees.{touched_paths-rewrite}
@@ -12,7 +12,7 @@ use Rattle.policy_model.specs.Rules.{Rule, is_allowed, bookmark_place, policy_pl
 use Rattle.policy_model.specs.Grammar.{parse}
 use Rattle.policy_model.specs.Held.{rules_in, denied_under}
 use Rattle.policy_model.proofs.Least.{all_allowed}
-use Rattle.reply_model.specs.Reply.{Ask, PutContent, PutWhole, PutChangeset, SetBookmark, LandDraft, SetPolicy, told, denied_at}
+use Rattle.reply_model.specs.Reply.{Ask, PutContent, PutWhole, PutChangeset, SetBookmark, LandDraft, SetPolicy, told, denied_at, unresolved_of}
 use Rattle.reply_model.specs.Legal.{MayFollow}
 use Rattle.opening_laws.proofs.Made.{MadeBy, is_made}
 
@@ -131,6 +131,26 @@ moves_as header h move m = let made = is_made header h (Book move) refl m in mov
 
 pub sets_as : (header : Header) (h : List Entry) (caller text : List ℕ) → MayFollow header h (Policy caller text) → SetsAs h caller text
 sets_as header h caller text m = let made = is_made header h (Policy caller text) refl m in set_as h made.ask caller text made.made
+
+abbrev pub change_in : Changeset → Body → Changeset
+change_in other (Content x n) = other
+change_in other (Whole x n parts) = other
+change_in other (Change c) = c
+change_in other (Book move) = other
+change_in other (Land landing) = other
+change_in other (Policy caller text) = other
+change_in other (Fault breaking) = other
+
+resolved_as : (h : List Entry) (ask : Ask) (c : Changeset) → MadeBy h ask (Change c) → unresolved_of (known h) c c.parents ≡ None
+resolved_as h (PutContent bytes) c m = absurd (let e = m.1 in cc)
+resolved_as h (PutWhole body pieces) c m = absurd (let e = m.3 in cc)
+resolved_as h (SetBookmark caller name from to) c m = absurd (let e = m.0 in cc)
+resolved_as h (LandDraft caller name draft moment) c m = absurd (let e = m.8 in cc)
+resolved_as h (SetPolicy caller text) c m = absurd (let e = m.0 in cc)
+resolved_as h (PutChangeset bytes) c m = ap (λ (c : Changeset). unresolved_of (known h) c c.parents) (ap (change_in c) m.3) ∙ m.2
+
+pub changes_resolved : (header : Header) (h : List Entry) (c : Changeset) → MayFollow header h (Change c) → unresolved_of (known h) c c.parents ≡ None
+changes_resolved header h c m = let made = is_made header h (Change c) refl m in resolved_as h made.ask c made.made
 
 -- ---- under a policy
 

@@ -10,3 +10,4 @@ pub mod Held
 pub mod Callers
 pub mod Whoever
 pub mod Denials
+pub mod Merges

@@ -182,7 +182,7 @@ next_made file header h more (PutContent given) granted b bytes whole holds part
 next_made file header h more (PutWhole given pieces) granted b bytes whole holds parts asked judged m fits p read = next_joined file header h more given pieces granted b bytes whole holds parts asked judged m p read
 next_made file header h more (PutChangeset given) granted b bytes whole holds parts asked judged m fits p read =
     let q = subst (λ b. IsPayload b bytes) m.3 p in
-    let bytes_are : bytes ≡ given = q.2 ∙ sym (what_is_uploaded given m.0 asked m.1 m.2).1 in
+    let bytes_are : bytes ≡ given = q.2 ∙ sym (what_is_uploaded given m.0 asked m.1).1 in
     next_by file header h bytes b (PutChangeset bytes) granted read (ap (ask_of file h bytes) m.3) (ap are_bytes bytes_are ∙ asked)
     (ap (λ t. judge header h (PutChangeset t)) bytes_are ∙ judged)
     (ap (λ b. payload b (drop 1 bytes)) m.3 ∙ sym q.2)

@@ -283,7 +283,7 @@ read_made header h (PutWhole given pieces) b bytes legal asked m good p =
     ∙ ap (λ b. Ok b) (sym m.3)
 read_made header h (PutChangeset given) b bytes legal asked m good p =
     let q = subst (λ b. IsPayload b bytes) m.3 p in
-    ap payload_body q.2 ∙ read_upload m.0 (what_is_uploaded given m.0 asked m.1 m.2).0 ∙ ap (λ b. Ok b) (sym m.3)
+    ap payload_body q.2 ∙ read_upload m.0 (what_is_uploaded given m.0 asked m.1).0 ∙ ap (λ b. Ok b) (sym m.3)
 read_made header h (SetBookmark caller name from to) b bytes legal asked m good p =
     let q = subst (λ b. IsPayload b bytes) m.0 p in
     ap payload_body (q.2 ∙ ap (payload (a_move name from to (told h caller))) q.1) ∙ read_book h caller name from to asked ∙ ap (λ b. Ok b) (sym m.0)

@@ -22,7 +22,6 @@ use Rattle.changeset_model.proofs.Accepting.{accepted_exactly}
 use Rattle.history_model.specs.History.{Body, Content, Whole, Change, Book, Land, Policy, Fault, Entry, Known, with_id, each_id_once, is_stored, changesets_in, known, is_known}
 use Rattle.history_model.specs.Chain.{first_of, first_parent, chain, IsLinked, changesets}
 use Rattle.history_model.specs.Bookmark.{head}
-use Rattle.history_model.specs.Past.{HaveOneParent}
 use Rattle.history_model.specs.Pushrebase.{Fork, following, fork_at, fork, most_seconds, seconds_at, offset_at, on_parent, rewrite}
 use Rattle.history_model.specs.Journal.{Header}
 use Rattle.reply_model.specs.Reply.{is_ask, is_merge, Ask, PutContent, PutWhole, PutChangeset, SetBookmark, LandDraft, SetPolicy}
@@ -70,14 +69,13 @@ digest_is bytes = is_32 _ (digest_bytes_are _ 8)
 
 pub record IsUploadable (c : Changeset) : Type 0 where
   pub keeps : is_changeset c ≡ true
-  pub one_parent : length c.parents ≤ 1
   pub no_conflict : self_conflict c ≡ None
   pub short : length (spelling c) ≤ most_encoded
 
-pub what_is_uploaded : (bytes : List ℕ) (c : Changeset) → are_bytes bytes ≡ true → decoded bytes ≡ Ok c → length c.parents ≤ 1 → IsUploadable c × (bytes ≡ spelling c)
-what_is_uploaded bytes c fits e one =
+pub what_is_uploaded : (bytes : List ℕ) (c : Changeset) → are_bytes bytes ≡ true → decoded bytes ≡ Ok c → IsUploadable c × (bytes ≡ spelling c)
+what_is_uploaded bytes c fits e =
     let a = (accepted_exactly bytes c (are_IsBytes bytes fits)).0 e in
-    (record { keeps = a.1.0; one_parent = one; no_conflict = a.2; short = subst (λ t. length t ≤ most_encoded) a.1.1 a.0 }, a.1.1)
+    (record { keeps = a.1.0; no_conflict = a.2; short = subst (λ t. length t ≤ most_encoded) a.1.1 a.0 }, a.1.1)
 
 -- and then its spelling is accepted
 pub is_decoded : (c : Changeset) → IsUploadable c → decoded (spelling c) ≡ Ok c
@@ -137,7 +135,6 @@ uploadable_on p moment c fits g has one =
     let lq : length has.0 ≡ 32 = len_32 has.0 (subst (λ ps. are_parents ps ≡ true) ps right.parents) in
     record {
       keeps = (λ i. (fits ∙ sym right.parents) i && is_author c.author && (seconds_right c.version moment c.seconds right.seconds ∙ sym right.seconds) i && (offset_right c.version c.offset right.offset ∙ sym right.offset) i && is_message c.message && are_changes c.version (length (sym ps i)) c.changes) ∙ g.keeps;
-      one_parent = omega arith;
       no_conflict = g.no_conflict;
       short = subst (λ n. n ≤ most_encoded) (sym (same_len p has.0 moment c (len_32 p fits) lq ps)) g.short;
     }
@@ -217,7 +214,7 @@ uploadable_stack header h old draft f legal all there e =
 uploadable_made : (header : Header) (h : List Entry) (ask : Ask) (body : Body) → IsLegal header h → AllUploadable h → is_ask h ask ≡ true → MadeBy h ask body → AllByRecursion IsUploadable (changesets_in body)
 uploadable_made header h (PutContent bytes) body legal all asked m = subst (λ b. AllByRecursion IsUploadable (changesets_in b)) (sym m.1) tt
 uploadable_made header h (PutWhole bytes pieces) body legal all asked m = subst (λ b. AllByRecursion IsUploadable (changesets_in b)) (sym m.3) tt
-uploadable_made header h (PutChangeset bytes) body legal all asked m = subst (λ b. AllByRecursion IsUploadable (changesets_in b)) (sym m.3) ((what_is_uploaded bytes m.0 asked m.1 m.2).0, tt)
+uploadable_made header h (PutChangeset bytes) body legal all asked m = subst (λ b. AllByRecursion IsUploadable (changesets_in b)) (sym m.3) ((what_is_uploaded bytes m.0 asked m.1).0, tt)
 uploadable_made header h (SetBookmark caller name from to) body legal all asked m = subst (λ b. AllByRecursion IsUploadable (changesets_in b)) (sym m.0) tt
 uploadable_made header h (SetPolicy caller text) body legal all asked m = subst (λ b. AllByRecursion IsUploadable (changesets_in b)) (sym m.0) tt
 uploadable_made header h (LandDraft caller name draft moment) body legal all asked m =
@@ -251,10 +248,10 @@ all_uploadable header h legal = uploadable_on_from header [] h tt tt legal
 pub uploadable_of_next : (header : Header) (h : List Entry) (body : Body) → IsLegal header h → is_stored body ≡ true → MayFollow header h body → AllByRecursion IsUploadable (changesets_in body)
 uploadable_of_next header h body legal s m = uploadable_next header h body legal (all_uploadable header h legal) m true s
 
-pub known_keep : (header : Header) (h : List Entry) (k : Known) → IsLegal header h → Contains (known h) k → (k.id ≡ id_of k.changeset) × IsTrue (is_changeset k.changeset) × (length k.changeset.parents ≤ 1) × (self_conflict k.changeset ≡ None) × (length (spelling k.changeset) ≤ most_encoded)
+pub known_keep : (header : Header) (h : List Entry) (k : Known) → IsLegal header h → Contains (known h) k → (k.id ≡ id_of k.changeset) × IsTrue (is_changeset k.changeset) × (self_conflict k.changeset ≡ None) × (length (spelling k.changeset) ≤ most_encoded)
 known_keep header h k legal at =
     let right = each_of IsRight (known h) k (known_right h (all_uploadable header h legal)) at in
-    (right.1, right.0.keeps, right.0.one_parent, right.0.no_conflict, right.0.short)
+    (right.1, right.0.keeps, right.0.no_conflict, right.0.short)
 
 -- ---- the changesets of its entries
 
@@ -264,17 +261,8 @@ Rules c = is_changeset c ≡ true
 abbrev IsClear : Changeset → Type 0
 IsClear c = self_conflict c ≡ None
 
-abbrev HasOneParent : Changeset → Type 0
-HasOneParent c = length c.parents ≤ 1
-
 pub all_rules : (header : Header) (h : List Entry) → IsLegal header h → AllByRecursion Rules (flat_map (λ e. changesets_in e.body) h)
 all_rules header h legal = weaker IsUploadable Rules (λ c u. u.keeps) (flat_map (λ e. changesets_in e.body) h) (all_uploadable header h legal)
 
 pub all_clear : (header : Header) (h : List Entry) → IsLegal header h → AllByRecursion IsClear (flat_map (λ e. changesets_in e.body) h)
 all_clear header h legal = weaker IsUploadable IsClear (λ c u. u.no_conflict) (flat_map (λ e. changesets_in e.body) h) (all_uploadable header h legal)
-
-pub all_one_parent : (header : Header) (h : List Entry) → IsLegal header h → AllByRecursion HasOneParent (flat_map (λ e. changesets_in e.body) h)
-all_one_parent header h legal = weaker IsUploadable HasOneParent (λ c u. u.one_parent) (flat_map (λ e. changesets_in e.body) h) (all_uploadable header h legal)
-
-pub known_one_parent : (header : Header) (h : List Entry) → IsLegal header h → HaveOneParent (known h)
-known_one_parent header h legal = weaker IsRight (λ k. HasOneParent k.changeset) (λ k right. right.0.one_parent) (known h) (known_right h (all_uploadable header h legal))

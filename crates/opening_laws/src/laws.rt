@@ -4,17 +4,16 @@ ghost use Rattle.std.specs.List.{AllByRecursion};
 ghost use Rattle.sha2.specs.Sha256.{sha256};
 ghost use Rattle.byte_fields.specs.Bytes.{Id, IsBytes, IsContent};
 ghost use Rattle.changeset_model.specs.Path.{Path};
-ghost use Rattle.changeset_model.specs.Changeset.{id_of, touched_paths, is_changeset, self_conflict, spelling, most_encoded};
-ghost use Rattle.history_model.specs.History.{Body, Content, Book, Land, Policy, Move, Landing, Entry, Known, is_stored, stored, known, changesets_in, policy_of};
+ghost use Rattle.changeset_model.specs.Changeset.{Changeset, id_of, touched_paths, is_changeset, self_conflict, spelling, most_encoded};
+ghost use Rattle.history_model.specs.History.{Body, Content, Change, Book, Land, Policy, Move, Landing, Entry, Known, is_stored, stored, known, changesets_in, policy_of};
 ghost use Rattle.policy_model.specs.Rules.{Rule, is_allowed, decide, IsLeastDenied, bookmark_place, policy_place};
-ghost use Rattle.history_model.specs.Past.{HaveOneParent};
 ghost use Rattle.history_model.specs.Bookmark.{head};
 ghost use Rattle.history_model.specs.Pushrebase.{Fork, fork};
 ghost use Rattle.policy_model.specs.Grammar.{parse};
 ghost use Rattle.policy_model.specs.Held.{rules_in};
 ghost use Rattle.history_model.specs.Journal.{Header, IsPayload, Stands, size};
 ghost use Rattle.history_model.specs.Payload.{payload_body};
-ghost use Rattle.reply_model.specs.Reply.{PutContent, SetBookmark, LandDraft, SetPolicy, Denied, judge};
+ghost use Rattle.reply_model.specs.Reply.{PutContent, SetBookmark, LandDraft, SetPolicy, Denied, unresolved_of, judge};
 ghost use Rattle.reply_model.specs.Legal.{MayFollow, IsLegal};
 ghost use Rattle.reply_model.specs.Opening.{opens};
 
@@ -23,18 +22,16 @@ pub fn content_stands_at_its_place()
     ensures { (header : Header) (bytes : List ℕ) (h g : List Entry) (who : ℕ) (x : Id) (n : ℕ) → Stands header bytes (h ++ record { who = who; body = Content x n } ∷ g) → IsContent x n (take n (drop (size h + 5) bytes)) }
 {}
 
-/// The known changesets of a legal history keep the rules of a changeset and what an upload must keep: one parent at most, no self-conflict, and a spelling that isn't too long. Each is known by its id.
+/// The known changesets of a legal history keep the rules of a changeset and what an upload must keep: no self-conflict, and a spelling that isn't too long. Each is known by its id.
 pub fn known_changesets_keep_the_rules()
     ensures { (header : Header) (h : List Entry) (k : Known) → IsLegal header h → Contains (known h) k →
-        (k.id ≡ id_of k.changeset) × IsTrue (is_changeset k.changeset) × (length k.changeset.parents ≤ 1) × (self_conflict k.changeset ≡ None) × (length (spelling k.changeset) ≤ most_encoded) }
+        (k.id ≡ id_of k.changeset) × IsTrue (is_changeset k.changeset) × (self_conflict k.changeset ≡ None) × (length (spelling k.changeset) ≤ most_encoded) }
 {}
 
-/// All changesets of a legal history's entries keep the rules of a changeset, set no path under another, and have one parent at most, so those that are known have no merge among them.
+/// All changesets of a legal history's entries keep the rules of a changeset, and set no path under another.
 pub fn changesets_of_entries_keep_the_rules()
     ensures rules { (header : Header) (h : List Entry) → IsLegal header h → AllByRecursion (λ c. is_changeset c ≡ true) (flat_map (λ e. changesets_in e.body) h) }
     ensures clear { (header : Header) (h : List Entry) → IsLegal header h → AllByRecursion (λ c. self_conflict c ≡ None) (flat_map (λ e. changesets_in e.body) h) }
-    ensures parents { (header : Header) (h : List Entry) → IsLegal header h → AllByRecursion (λ c. length c.parents ≤ 1) (flat_map (λ e. changesets_in e.body) h) }
-    ensures line { (header : Header) (h : List Entry) → IsLegal header h → HaveOneParent (known h) }
 {}
 
 /// The file of a legal history is within its capacity, where this has room for that of no entry.
@@ -95,4 +92,10 @@ pub fn denials_name_the_least_path()
         (text : List ℕ) × (policy_of h ≡ Some text) × IsLeastDenied (rules_in text) caller (bookmark_place name ∷ []) p × (rule ≡ decide (rules_in text) caller p) }
     ensures policies { (header : Header) (h : List Entry) (caller new : List ℕ) (p : Path) (rule : Option ℕ) → judge header h (SetPolicy caller new) ≡ Err (Denied p rule) →
         (text : List ℕ) × (policy_of h ≡ Some text) × IsLeastDenied (rules_in text) caller (policy_place ∷ []) p × (rule ≡ decide (rules_in text) caller p) }
+{}
+
+/// A changeset of two parents that may come next leaves no path unresolved between their trees. So does each of a legal history, by the trees that they have there, however far it has gone on.
+pub fn merges_are_resolved()
+    ensures next { (header : Header) (h : List Entry) (c : Changeset) → MayFollow header h (Change c) → unresolved_of (known h) c c.parents ≡ None }
+    ensures known { (header : Header) (h : List Entry) (k : Known) → IsLegal header h → Contains (known h) k → unresolved_of (known h) k.changeset k.changeset.parents ≡ None }
 {}

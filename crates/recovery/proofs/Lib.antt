@@ -11,3 +11,4 @@ pub mod WholePayloads
 pub mod PartsRead
 pub mod Joined
 pub mod Replays
+pub mod Manifests

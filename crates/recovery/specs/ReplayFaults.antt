@@ -21,7 +21,6 @@ wants_memory refusals.Down = false
 wants_memory (refusals.TooLong length) = false
 wants_memory (refusals.BadEncoding at) = false
 wants_memory (refusals.SelfConflict short long) = false
-wants_memory refusals.Merge = false
 wants_memory (refusals.BadParts length) = false
 wants_memory refusals.OldFormat = false
 wants_memory (refusals.NoPiece id) = false

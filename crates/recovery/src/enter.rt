@@ -1,5 +1,6 @@
 //! The entry of one payload.
-ghost use Rattle.std.specs.Prelude.{◌≡◌, ◌↔◌, ◌+◌, ◌++◌, ◌∷◌, ℕ, List, [], false, length, None, Some, Ok, Err, IfOk, OnOk, OnErr, IsTrue, IsSome, unwrap_or};
+ghost use Rattle.std.specs.Prelude.{◌≡◌, ◌↔◌, ◌+◌, ◌++◌, ◌∷◌, ℕ, List, [], true, false, length, None, Some, Ok, Err, IfOk, OnOk, OnErr, IsTrue, IsSome, unwrap_or};
+ghost use Rattle.std.specs.List.{AllByRecursion};
 ghost use Rattle.std.specs.Option.{option_copied};
 ghost use Rattle.sha2.specs.Sha256.{sha256};
 ghost use Rattle.disk_model.specs.Meaning.{IsLong};
@@ -7,12 +8,13 @@ ghost use Rattle.disk_model.specs.Calls.{Looked};
 ghost use Rattle.changeset_model.specs.Changeset.{spelling};
 ghost use Rattle.changeset_model.specs.Decoding.{decoded};
 ghost use Rattle.history_model.specs.History as model;
-ghost use Rattle.history_model.specs.History.{Book, Land, Policy, stored, unnumbered};
+ghost use Rattle.history_model.specs.History.{Book, Land, Policy, is_known, known, stored, unnumbered};
 ghost use Rattle.history_model.specs.Journal.{framed, is_header, payload as payload_of, size, IsPayload};
 ghost use Rattle.history_model.specs.Payload.{payload_body};
 ghost use Rattle.reply_model.specs.Legal.{IsLegal};
 ghost use Rattle.reply_model.specs.Opening.{nobody};
-ghost use Rattle.reply_model.specs.Reply.{PutContent, PutChangeset, SetBookmark, LandDraft, SetPolicy};
+ghost use Rattle.reply_model.specs.Reply.{PutContent, PutChangeset, SetBookmark, LandDraft, SetPolicy, unresolved_of};
+ghost use Rattle.manifest_store.specs.Manifests.{AreManifests};
 ghost use Rattle.repo_events.specs.Entries.{body_of, landing_of, move_of};
 ghost use Rattle.repo_machine.specs.Entering.{IsJudgedHere};
 ghost use Rattle.repo_machine.specs.Held.{HasRoom};
@@ -24,27 +26,32 @@ ghost use Rattle.recovery.specs.Settling.{Spares};
 use crate::replay_fault::ReplayFault;
 use crate::wholes::enter_whole;
 use blob_disk::Disk;
-use bonsai::{Commit, MOST_CONTENT};
+use bonsai::{Changeset, Commit, MOST_CONTENT};
+use manifest_store::ManifestStore;
 use object_id::Id;
 use repo_events::{Body, Landing, Move, decode_payload};
-use repo_machine::{Judged, Machine};
-use repo_path::{BookName, NameFault};
+use repo_machine::{Found, Judged, Machine};
+use repo_path::{BookName, NameFault, RepoPath};
+use settled_merge::{derive_parents, left_unresolved};
 use std::alloc::{AllocError, Global};
 
 /// The seat of entries that are read from a file.
 pub(crate) const NO_SEAT: u64 = 0;
 
 /// Enters what a payload stands for, if it is the entry that comes next in a journal. Nothing is entered otherwise.
-/// The parts of a whole are read from the disk, where the records before it stand.
+/// The parts of a whole are read from the disk, where the records before it stand. Before a changeset with two parents is
+/// judged, what their pasts lack of manifests is derived, also where nothing is entered then.
 pub fn enter_payload<D: Disk>(
     alloc: Global,
     disk: &mut D,
     machine: &mut Machine,
+    manifests: &mut ManifestStore,
     payload: &[u8],
 ) -> Result<(), ReplayFault>
     requires limits { IsTrue (is_header machine.old.header) }
     requires legal { IsLegal machine.old.header machine.old.history }
     requires stored { machine.old.history ≡ stored machine.old.history }
+    requires manifests { AreManifests (known machine.old.history) manifests.old }
     requires long { IsLong (D.meaning disk.old).reads (size machine.old.history) }
     ensures ok { OnOk result ((body : model.Body) × Comes (D.meaning disk.old) machine.old.header machine.old.history payload.now (Some body) × (machine.new.history ≡ machine.old.history ++ unnumbered body ∷ [])) }
     ensures bad { result ≡ Err ReplayFault.BadPayload → Comes (D.meaning disk.old) machine.old.header machine.old.history payload.now None }
@@ -53,6 +60,7 @@ pub fn enter_payload<D: Disk>(
     ensures header { machine.new.header ≡ machine.old.header }
     ensures legal { IsLegal machine.new.header machine.new.history }
     ensures stored { machine.new.history ≡ stored machine.new.history }
+    ensures manifests { AreManifests (known machine.new.history) manifests.new }
 
     // It answers `DiskFault` only where a call of the disk failed, and a crash leaves nothing else than before.
     ensures looked { Looked (D.meaning disk.old) (D.meaning disk.new) }
@@ -60,7 +68,7 @@ pub fn enter_payload<D: Disk>(
     ensures quiet { IsSome (D.meaning disk.old).quiet → is_read_fault result ≡ false }
 {
     let body = decode_payload(alloc, payload)?;
-    enter_body(alloc, disk, machine, body, payload)
+    enter_body(alloc, disk, machine, manifests, body, payload)
 }
 
 // Enters what was decoded of a payload, if it is the entry that comes next.
@@ -68,6 +76,7 @@ fn enter_body<D: Disk>(
     alloc: Global,
     disk: &mut D,
     machine: &mut Machine,
+    manifests: &mut ManifestStore,
     body: Body,
     payload: &[u8],
 ) -> Result<(), ReplayFault>
@@ -75,17 +84,20 @@ fn enter_body<D: Disk>(
     requires spelled { IsPayload (body_of body) payload.now }
     requires limits { IsTrue (is_header machine.old.header) }
     requires legal { IsLegal machine.old.header machine.old.history }
+    requires manifests { AreManifests (known machine.old.history) manifests.old }
     requires long { IsLong (D.meaning disk.old).reads (size machine.old.history) }
     ensures replays { Replays (D.meaning disk.old) machine.old.header machine.old.history payload.now result machine.new.history }
     ensures header { machine.new.header ≡ machine.old.header }
     ensures legal { IsLegal machine.new.header machine.new.history }
+    // What is entered isn't derived yet.
+    ensures manifests { AreManifests (known machine.old.history) manifests.new }
     ensures looked { Looked (D.meaning disk.old) (D.meaning disk.new) }
     ensures spares { Spares (D.meaning disk.old) (D.meaning disk.new) (is_read_fault result) }
     ensures quiet { IsSome (D.meaning disk.old).quiet → is_read_fault result ≡ false }
 {
     match body {
         Body::Content { id, length: _ } => enter_content(alloc, machine, id, content_in(payload)),
-        Body::Change(commit) => enter_changeset(alloc, machine, commit, payload),
+        Body::Change(commit) => enter_changeset(alloc, machine, manifests, commit, payload),
         Body::Book(movement) => enter_move(alloc, machine, &movement, payload),
         Body::Land(landing) => enter_landing(alloc, machine, &landing, payload),
         Body::Policy { caller, text } => enter_policy(
@@ -128,22 +140,45 @@ fn enter_content(
     enter_judged(machine, judged)
 }
 
-// Enters a changeset that may be put there.
+// Enters a changeset that may be put there. Of a merge the parents' pasts are derived first, so that only the directories in
+// which the parents differ are read. Nothing is derived of another changeset.
 fn enter_changeset(
     alloc: Global,
     machine: &mut Machine,
+    manifests: &mut ManifestStore,
     commit: Commit,
     payload: &[u8],
 ) -> Result<(), ReplayFault>
     requires spelled { payload.now ≡ spelling commit }
     requires decoded { decoded (spelling commit) ≡ Ok commit }
+    requires legal { IsLegal machine.old.header machine.old.history }
+    requires manifests { AreManifests (known machine.old.history) manifests.old }
     ensures enters { Enters machine.old.history (asked_entry machine.old.header machine.old.history (spelling commit) (PutChangeset (spelling commit))) result machine.new.history }
     ensures header { machine.new.header ≡ machine.old.header }
     ensures legal { IsLegal machine.new.header machine.new.history }
+    ensures manifests { AreManifests (known machine.old.history) manifests.new }
     ensures calm { is_read_fault result ≡ false }
 {
-    let judged = machine.judge_commit(alloc, NO_SEAT, commit, payload)?;
+    let left = left_by(alloc, machine, manifests, commit.changeset())?;
+    let found = Found::Unresolved(left);
+    let judged = machine.judge_commit(alloc, NO_SEAT, commit, payload, found)?;
     enter_judged(machine, judged)
+}
+
+// What a changeset leaves unresolved between its parents, if it has two, whose pasts are derived first.
+fn left_by(
+    alloc: Global,
+    machine: &Machine,
+    manifests: &mut ManifestStore,
+    change: &Changeset,
+) -> Result<Option<RepoPath>, AllocError>
+    requires { AreManifests (known machine.now.history) manifests.old }
+    ensures left { IfOk result (λ path. AllByRecursion (λ p. is_known (known machine.now.history) p ≡ true) change.now.parents → path ≡ unresolved_of (known machine.now.history) change.now change.now.parents) }
+    ensures manifests { AreManifests (known machine.now.history) manifests.new }
+{
+    let changesets = machine.changesets();
+    derive_parents(alloc, changesets, manifests, change)?;
+    left_unresolved(alloc, changesets, manifests, change)
 }
 
 // Enters a bookmark's move, if it is the one that the machine makes of its heads.

@@ -3,7 +3,9 @@ ghost use Rattle.std.specs.Prelude.{◌≡◌, ◌+◌, ◌<◌, ◌≤◌, leng
 ghost use Rattle.std.specs.Bool.{OnFalse, OnTrue};
 ghost use Rattle.disk_model.specs.Meaning.{IsLong};
 ghost use Rattle.disk_model.specs.Calls.{Looked};
+ghost use Rattle.history_model.specs.History.{known};
 ghost use Rattle.history_model.specs.Journal.{is_header};
+ghost use Rattle.manifest_store.specs.Manifests.{AreManifests};
 ghost use Rattle.repo_journal.specs.Scanning.{IsNext, step_at};
 ghost use Rattle.repo_journal.specs.declared.step.Step.TheVariants.{Record};
 ghost use Rattle.recovery.specs.Answers.{is_disk_fault, IsRefused};
@@ -15,6 +17,7 @@ use crate::fault::OpenFault;
 use crate::header::Header;
 use crate::{ReplayFault, enter_payload};
 use blob_disk::Disk;
+use manifest_store::ManifestStore;
 use repo_events::MOST_PAYLOAD;
 use repo_journal::{EMPTY_SIZE, Scanner, Span, Step};
 use repo_machine::Machine;
@@ -49,8 +52,11 @@ pub(crate) fn read_records<D: Disk>(
         return Err(OpenFault::Memory);
     };
     let mut machine = Machine::new(alloc, keys, header.capacity, header.version);
-    enter_all(alloc, disk, &mut scanner, &mut machine)?;
-    Ok(machine)
+    let mut manifests = ManifestStore::new(alloc);
+    match enter_all(alloc, disk, &mut scanner, &mut machine, &mut manifests) {
+        Ok(()) => Ok(machine),
+        Err(fault) => Err(fault),
+    }
 }
 
 // Enters what the records stand for, up to the closing gate.
@@ -59,8 +65,10 @@ fn enter_all<D: Disk>(
     disk: &mut D,
     scanner: &mut Scanner,
     machine: &mut Machine,
+    manifests: &mut ManifestStore,
 ) -> Result<(), OpenFault>
-    requires { IsAt (D.meaning disk.old) machine.old.header machine.old.history scanner.old.gate scanner.old }
+    requires at { IsAt (D.meaning disk.old) machine.old.header machine.old.history scanner.old.gate scanner.old }
+    requires manifests { AreManifests (known machine.old.history) manifests.old }
     ensures read { OnOk result (IsRead (D.meaning disk.new) machine.new.header machine.new.history) }
     ensures header { machine.new.header ≡ machine.old.header }
     ensures refused { IfErr result (λ e. IsTrue (D.meaning disk.old).honest → IsRefused (D.meaning disk.old).state.reads e) }
@@ -68,7 +76,7 @@ fn enter_all<D: Disk>(
     ensures spares { Spares (D.meaning disk.old) (D.meaning disk.new) (is_disk_fault result) }
     ensures quiet { IsSome (D.meaning disk.old).quiet → is_disk_fault result ≡ false }
 {
-    while enter_next(alloc, disk, scanner, machine)? {}
+    while enter_next(alloc, disk, scanner, machine, manifests)? {}
     Ok(())
 }
 
@@ -79,12 +87,15 @@ fn enter_next<D: Disk>(
     disk: &mut D,
     scanner: &mut Scanner,
     machine: &mut Machine,
+    manifests: &mut ManifestStore,
 ) -> Result<bool, OpenFault>
-    requires { IsAt (D.meaning disk.old) machine.old.header machine.old.history scanner.old.gate scanner.old }
+    requires at { IsAt (D.meaning disk.old) machine.old.header machine.old.history scanner.old.gate scanner.old }
+    requires manifests { AreManifests (known machine.old.history) manifests.old }
     ensures more { IfOk result (λ more. OnTrue more (IsAt (D.meaning disk.new) machine.new.header machine.new.history scanner.new.gate scanner.new)) }
     ensures onward { IfOk result (λ more. OnTrue more ((scanner.old.gate < scanner.new.gate) × (scanner.new.gate ≤ scanner.old.size))) }
     ensures read { IfOk result (λ more. OnFalse more (IsRead (D.meaning disk.new) machine.new.header machine.new.history)) }
     ensures header { machine.new.header ≡ machine.old.header }
+    ensures manifests { AreManifests (known machine.new.history) manifests.new }
     ensures size { scanner.new.size ≡ scanner.old.size }
     ensures refused { IfErr result (λ e. IsTrue (D.meaning disk.old).honest → IsRefused (D.meaning disk.old).state.reads e) }
     ensures looked { Looked (D.meaning disk.old) (D.meaning disk.new) }
@@ -96,7 +107,7 @@ fn enter_next<D: Disk>(
         Step::Closed => Ok(false),
         Step::Bad { at } => Err(OpenFault::Damaged { at }),
         Step::Record(span) => {
-            enter_record(alloc, disk, scanner, machine, gate, span)?;
+            enter_record(alloc, disk, scanner, machine, manifests, gate, span)?;
             Ok(true)
         }
     }
@@ -108,14 +119,17 @@ fn enter_record<D: Disk>(
     disk: &mut D,
     scanner: &mut Scanner,
     machine: &mut Machine,
+    manifests: &mut ManifestStore,
     gate: u64,
     span: Span,
 ) -> Result<(), OpenFault>
     requires before { IsAt (D.meaning disk.old) machine.old.header machine.old.history gate scanner.old }
+    requires manifests { AreManifests (known machine.old.history) manifests.old }
     requires next { IsNext gate scanner.old.size (Record span) }
     requires step { IsTrue (D.meaning disk.old).honest → step_at (D.meaning disk.old).state.reads gate ≡ Record span }
     ensures behind { OnOk result (IsAt (D.meaning disk.new) machine.new.header machine.new.history (span.at + span.length) scanner.new) }
     ensures header { machine.new.header ≡ machine.old.header }
+    ensures manifests { AreManifests (known machine.new.history) manifests.new }
     ensures gate { scanner.new.gate ≡ scanner.old.gate }
     ensures size { scanner.new.size ≡ scanner.old.size }
     ensures refused { IfErr result (λ e. IsTrue (D.meaning disk.old).honest → IsRefused (D.meaning disk.old).state.reads e) }
@@ -127,7 +141,7 @@ fn enter_record<D: Disk>(
         return Err(OpenFault::Damaged { at: gate });
     }
     scanner.hold(disk, span)?;
-    match enter_payload(alloc, disk, machine, scanner.held(span)) {
+    match enter_payload(alloc, disk, machine, manifests, scanner.held(span)) {
         Ok(()) => Ok(()),
         Err(ReplayFault::BadPayload) => Err(OpenFault::Damaged { at: gate }),
         Err(ReplayFault::DiskFault) => Err(OpenFault::DiskFault),

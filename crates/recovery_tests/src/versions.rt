@@ -10,8 +10,8 @@ use std::alloc::{AllocError, Global};
 use std::process::Abort;
 use std::test::Fail;
 
-// Where the gate behind the records of `BASE` stands.
-const GATE: u64 = 322;
+/// Where the gate behind the records of `BASE` stands.
+pub(crate) const GATE: u64 = 322;
 
 // A file of this version and of capacity 65,536, with these records behind those of `BASE`.
 fn file_of(alloc: Global, version: u8, records: [&str; 2]) -> Result<Vec<u8>, AllocError> {
@@ -25,8 +25,8 @@ fn file_of(alloc: Global, version: u8, records: [&str; 2]) -> Result<Vec<u8>, Al
     Ok(file)
 }
 
-// The file opens so.
-fn check_next(
+/// A file of this version, with these records behind those of `BASE`, opens so.
+pub(crate) fn check_next(
     rt: &impl Abort,
     alloc: Global,
     version: u8,

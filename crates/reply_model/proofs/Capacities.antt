@@ -15,7 +15,7 @@ use Rattle.history_model.specs.Pushrebase.{fork, clash, rewrite, moment_of}
 use Rattle.history_model.specs.Journal.{Header, payload_len, most_payload, size, is_full}
 use Rattle.policy_model.specs.Rules.{bookmark_place, policy_place}
 use Rattle.policy_model.specs.Grammar.{parse}
-use Rattle.reply_model.specs.Reply.{Ask, PutContent, PutWhole, PutChangeset, SetBookmark, LandDraft, SetPolicy, Refusal, Down, TooLong, OldFormat, Merge, NoParent, content_refusal, Unresolved, unresolved_of, collides, Collision, NoChangeset, Moved, NoBookmark, NoRoot, TooFarBehind, AlreadyIn, StackTooLong, MergeInStack, MergeInRange, is_merge, Clash, TooLarge, BadPolicy, Full, Granted, ContentPut, WholePut, ChangesetPut, BookmarkSet, Landed, PolicySet, Judged, ◌>>=◌, refuse_if, refuse_some, entered, accepted, parts_of, told, denial, denied_at, first_collision, most_range, most_stack, by_ask, judge}
+use Rattle.reply_model.specs.Reply.{Ask, PutContent, PutWhole, PutChangeset, SetBookmark, LandDraft, SetPolicy, Refusal, Down, TooLong, OldFormat, NoParent, content_refusal, Unresolved, unresolved_of, collides, Collision, NoChangeset, Moved, NoBookmark, NoRoot, TooFarBehind, AlreadyIn, StackTooLong, MergeInStack, MergeInRange, is_merge, Clash, TooLarge, BadPolicy, Full, Granted, ContentPut, WholePut, ChangesetPut, BookmarkSet, Landed, PolicySet, Judged, ◌>>=◌, refuse_if, refuse_some, entered, accepted, parts_of, told, denial, denied_at, first_collision, most_range, most_stack, by_ask, judge}
 
 -- refused as there is no room for what it would enter
 abbrev pub WasFull : List Entry → Result Judged Refusal → Type 0
@@ -61,12 +61,11 @@ module _ (capacity other : ℕ) (version : Version) (h : List Entry) where
       choose h (is_some (content_len h x)) _ _ _ (enters (WholePut x n) (Whole x n parts)))
   asks_alike (PutChangeset bytes) =
       through h (accepted (decoded bytes)) _ _ (λ c.
-      through h (refuse_if (nat_lt 1 (length c.parents)) Merge) _ _ (λ _.
       through h (refuse_some (find (λ p. not (is_known (known h) p)) c.parents) NoParent) _ _ (λ _.
       through h (refuse_some (first_some (λ e. content_refusal e (content_len h e.1.content)) (sets_of c)) (λ refusal. refusal)) _ _ (λ _.
       through h (refuse_some (unresolved_of (known h) c c.parents) Unresolved) _ _ (λ _.
       through h (refuse_if (collides (known h) c) (Collision (id_of c))) _ _ (λ _.
-      choose h (is_known (known h) (id_of c)) _ _ _ (enters (ChangesetPut (id_of c)) (Change c))))))))
+      choose h (is_known (known h) (id_of c)) _ _ _ (enters (ChangesetPut (id_of c)) (Change c)))))))
   asks_alike (SetBookmark caller name from to) =
       through h (refuse_some (find (λ x. not (is_known (known h) x)) (option_to_list to)) NoChangeset) _ _ (λ _.
       through h (refuse_if (not (option_eq bytes_eq (head h name) from)) (Moved (head h name))) _ _ (λ _.

@@ -16,7 +16,7 @@ use Rattle.policy_model.specs.Rules.{bookmark_place, policy_place}
 use Rattle.policy_model.specs.Grammar.{parse}
 use Rattle.std.specs.Result.{result_err}
 use Rattle.changeset_model.specs.Version.{is_second}
-use Rattle.reply_model.specs.Reply.{is_ask, Down, Merge, OldFormat, NoParent, Unresolved, unresolved_of, MergeInStack, MergeInRange, is_merge, told, parts_of, put_whole, WholePut, PutWhole, content_refusal, collides, Collision, NoChangeset, Moved, TooLarge, first_collision, NoBookmark, NoRoot, TooFarBehind, AlreadyIn, StackTooLong, Clash, most_range, most_stack, Ask, PutContent, PutChangeset, SetBookmark, LandDraft, Refusal, Granted, ContentPut, ChangesetPut, BookmarkSet, Landed, Judged, ◌>>=◌, Full, refuse_if, refuse_some, unchanged, entered, put_content, accepted, put_changeset, set_bookmark, enter_landing, land, by_ask, judge, SetPolicy, denial, denied_at, BadPolicy, PolicySet, set_policy}
+use Rattle.reply_model.specs.Reply.{is_ask, Down, OldFormat, NoParent, Unresolved, unresolved_of, MergeInStack, MergeInRange, is_merge, told, parts_of, put_whole, WholePut, PutWhole, content_refusal, collides, Collision, NoChangeset, Moved, TooLarge, first_collision, NoBookmark, NoRoot, TooFarBehind, AlreadyIn, StackTooLong, Clash, most_range, most_stack, Ask, PutContent, PutChangeset, SetBookmark, LandDraft, Refusal, Granted, ContentPut, ChangesetPut, BookmarkSet, Landed, Judged, ◌>>=◌, Full, refuse_if, refuse_some, unchanged, entered, put_content, accepted, put_changeset, set_bookmark, enter_landing, land, by_ask, judge, SetPolicy, denial, denied_at, BadPolicy, PolicySet, set_policy}
 use Rattle.reply_model.specs.Legal.{MayFollow}
 
 abbrev pub MakesStored : Result Judged Refusal → Type 0
@@ -50,12 +50,11 @@ put_content_stored header h bytes =
 put_changeset_stored : (header : Header) (h : List Entry) (bytes : List ℕ) → Stores (put_changeset header h bytes)
 put_changeset_stored header h bytes =
     through (accepted (decoded bytes)) _ (λ c.
-    through (refuse_if (nat_lt 1 (length c.parents)) Merge) _ (λ _.
     through (refuse_some (find (λ p. not (is_known (known h) p)) c.parents) NoParent) _ (λ _.
     through (refuse_some (first_some (λ e. content_refusal e (content_len h e.1.content)) (sets_of c)) (λ refusal. refusal)) _ (λ _.
     through (refuse_some (unresolved_of (known h) c c.parents) Unresolved) _ (λ _.
     through (refuse_if (collides (known h) c) (Collision (id_of c))) _ (λ _.
-    either (is_known (known h) (id_of c)) _ _ (none_made (ChangesetPut (id_of c))) (entered_stored header h (ChangesetPut (id_of c)) (Change c) refl)))))))
+    either (is_known (known h) (id_of c)) _ _ (none_made (ChangesetPut (id_of c))) (entered_stored header h (ChangesetPut (id_of c)) (Change c) refl))))))
 
 put_whole_stored : (header : Header) (h : List Entry) (body : List ℕ) (pieces : List (List ℕ)) → Stores (put_whole header h body pieces)
 put_whole_stored header h body pieces =

@@ -1,5 +1,5 @@
 -- Worked examples of copies, wholes, merges, deletions and policies, which hold by computing, digests included.
-use Rattle.std.specs.Prelude.{◌≡◌, ℕ, List, [], ◌∷◌, ◌++◌, length, take, drop, codes, Option, Some, None, Result, Ok, Err, option_map, map, ℤ, pos, refl}
+use Rattle.std.specs.Prelude.{◌≡◌, ℕ, List, [], ◌∷◌, ◌++◌, length, take, drop, codes, Option, Some, None, Result, Ok, Err, option_map, ℤ, pos, refl}
 use Rattle.std.specs.Str.{is_utf8, chars}
 use Rattle.std.specs.Option.{option_and_then}
 use Rattle.sha2.specs.Sha256.{sha256, digest_bytes, hash_after, compress, rounds, schedule, first_words}
@@ -9,17 +9,17 @@ use Rattle.changeset_model.specs.Path.{Path, elements}
 use Rattle.changeset_model.specs.Changeset.{Changeset, FileChange, Set, spelling, id_of}
 use Rattle.changeset_model.specs.Decoding.{decoded, DecodeFault}
 use Rattle.changeset_model.specs.Decoding as reading
-use Rattle.history_model.specs.History.{Body, Entry, Content, Whole, Change, Book, Land, Policy, Fault, unnumbered, known, content_len}
+use Rattle.history_model.specs.History.{Body, Entry, Content, Whole, Change, Book, Land, Policy, Fault, known, content_len}
 use Rattle.history_model.specs.Past.{past}
 use Rattle.history_model.specs.Journal.{Header, payload_len, record_len}
 use Rattle.manifest_model.specs.Unode.{unode_bytes}
 use Rattle.manifest_model.specs.Merged.{unode_at}
 use Rattle.manifest_model.specs.Deleted.{deleted, deleted_bytes, path_log}
-use Rattle.reply_model.specs.Reply.{PutContent, PutWhole, PutChangeset, unresolved_of, SetBookmark, LandDraft, SetPolicy, Refusal, Judged, ContentPut, WholePut, Landed, PolicySet, Merge, Moved, MergeInStack, MergeInRange, Denied, BadParts, NoPiece, NotAPiece, OldFormat, BadPolicy, SeenBytes, NoPolicy, seen_policy, judge}
+use Rattle.reply_model.specs.Reply.{PutContent, PutWhole, PutChangeset, SetBookmark, LandDraft, SetPolicy, Refusal, Judged, ContentPut, WholePut, Landed, PolicySet, Unresolved, Moved, MergeInStack, MergeInRange, Denied, BadParts, NoPiece, NotAPiece, OldFormat, BadPolicy, SeenBytes, NoPolicy, seen_policy, judge}
 use Rattle.history_model.specs.Tree.{files_of}
 use Rattle.policy_model.specs.Examples.{lib_policy, ann_policy}
 use Rattle.reply_model.specs.Opening.{nobody}
-use Rattle.reply_model.proofs.Examples.{by_a, on, abc, set_abc, set_nil, delete, B, X, main, starting, entry_made}
+use Rattle.reply_model.proofs.Examples.{by_a, on, abc, set_abc, set_nil, delete, B, X, main, uploads, starting, entry_made, after}
 
 -- ---- copies
 
@@ -144,12 +144,8 @@ merge_of c d changes = by_a (id_of c ∷ id_of d ∷ []) changes
 abbrev M : Changeset
 M = merge_of X Y []
 
--- a judge takes no merge yet, so these are as if it did
-abbrev uploaded : List Changeset → List Entry
-uploaded cs = map (λ c. unnumbered (Change c)) cs
-
 abbrev merged : List Entry
-merged = uploaded (B ∷ X ∷ Y ∷ X1 ∷ M ∷ [])
+merged = starting B (X ∷ Y ∷ X1 ∷ M ∷ [])
 
 merge_is_long : length (spelling M) ≡ 90
 unfolding sha256 digest_bytes hash_after compress rounds schedule first_words
@@ -159,18 +155,14 @@ merge_has_two_parents : length (unode_bytes (unode_at (past (known merged) (id_o
 unfolding is_utf8 chars lib.Utf8.encode sha256 digest_bytes hash_after compress rounds schedule first_words
 merge_has_two_parents = refl
 
-not_taken : judge second (starting B (X ∷ Y ∷ [])) (PutChangeset (spelling M)) ≡ Err Merge
-unfolding is_utf8 chars lib.Utf8.encode sha256 digest_bytes hash_after compress rounds schedule first_words
-not_taken = refl
-
-not_resolved : unresolved_of (known merged) (merge_of X X1 []) (id_of X ∷ id_of X1 ∷ []) ≡ Some (elements (codes "x"))
+not_resolved : judge second merged (PutChangeset (spelling (merge_of X X1 []))) ≡ Err (Unresolved (elements (codes "x")))
 unfolding is_utf8 chars lib.Utf8.encode sha256 digest_bytes hash_after compress rounds schedule first_words
 not_resolved = refl
 
 abbrev resolved : Changeset
 resolved = merge_of X X1 (set_abc (codes "x") ∷ [])
 
-resolved_has_two_parents : length (unode_bytes (unode_at (past (known (uploaded (B ∷ X ∷ X1 ∷ resolved ∷ []))) (id_of resolved)) (elements (codes "x")))) ≡ 164
+resolved_has_two_parents : length (unode_bytes (unode_at (past (known (starting B (X ∷ X1 ∷ resolved ∷ []))) (id_of resolved)) (elements (codes "x")))) ≡ 164
 unfolding is_utf8 chars lib.Utf8.encode sha256 digest_bytes hash_after compress rounds schedule first_words
 resolved_has_two_parents = refl
 
@@ -189,19 +181,19 @@ on_first = on X (set_nil (codes "z") ∷ [])
 abbrev on_merge : Changeset
 on_merge = on M (set_nil (codes "z") ∷ [])
 
--- where `main` is at this one
-abbrev moved : Changeset → List Entry
-moved at = uploaded (B ∷ X ∷ Y ∷ X1 ∷ M ∷ on_first ∷ on_merge ∷ []) ++ unnumbered (Book (record { name = main; from = None; to = Some (id_of at); caller = None })) ∷ []
+-- where `main` is at the merge, and where it is before it
+abbrev at_merge : List Entry
+at_merge = after merged (uploads (on_first ∷ on_merge ∷ []) ++ SetBookmark nobody main (Some (id_of B)) (Some (id_of M)) ∷ [])
 
-merge_in_range : judge second (moved M) (LandDraft nobody main (id_of on_first) 0) ≡ Err (MergeInRange (id_of M))
+merge_in_range : judge second at_merge (LandDraft nobody main (id_of on_first) 0) ≡ Err (MergeInRange (id_of M))
 unfolding is_utf8 chars lib.Utf8.encode sha256 digest_bytes hash_after compress rounds schedule first_words
 merge_in_range = refl
 
-lands_on_a_merge : judge second (moved M) (LandDraft nobody main (id_of on_merge) 0) ≡ Ok (record { granted = Landed (id_of M) (id_of on_merge ∷ []); made = Some (Land (record { name = main; old = id_of M; draft = id_of on_merge; new = on_merge ∷ []; moment = None; caller = None })) })
+lands_on_a_merge : judge second at_merge (LandDraft nobody main (id_of on_merge) 0) ≡ Ok (record { granted = Landed (id_of M) (id_of on_merge ∷ []); made = Some (Land (record { name = main; old = id_of M; draft = id_of on_merge; new = on_merge ∷ []; moment = None; caller = None })) })
 unfolding is_utf8 chars lib.Utf8.encode sha256 digest_bytes hash_after compress rounds schedule first_words
 lands_on_a_merge = refl
 
-merge_in_stack : judge second (moved B) (LandDraft nobody main (id_of on_merge) 0) ≡ Err (MergeInStack (id_of M))
+merge_in_stack : judge second (after merged (uploads (on_merge ∷ []))) (LandDraft nobody main (id_of on_merge) 0) ≡ Err (MergeInStack (id_of M))
 unfolding is_utf8 chars lib.Utf8.encode sha256 digest_bytes hash_after compress rounds schedule first_words
 merge_in_stack = refl
 

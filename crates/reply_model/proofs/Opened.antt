@@ -22,7 +22,7 @@ use Rattle.history_model.specs.Journal.{Header, is_header, mark, header_bytes, p
 use Rattle.history_model.specs.Payload.{payload_body}
 use Rattle.policy_model.specs.Rules.{bookmark_place, policy_place}
 use Rattle.policy_model.specs.Grammar.{parse}
-use Rattle.reply_model.specs.Reply.{is_ask, Merge, ids_in, is_parts_len, BadParts, OldFormat, NoPiece, NotAPiece, parts_of, WholePut, PutWhole, Unresolved, unresolved_of, MergeInStack, MergeInRange, is_merge, told, Down, TooLong, NoParent, content_refusal, collides, Collision, NoChangeset, Moved, TooLarge, first_collision, NoBookmark, NoRoot, TooFarBehind, AlreadyIn, StackTooLong, Clash, most_range, most_stack, Ask, PutContent, PutChangeset, SetBookmark, LandDraft, Refusal, Granted, ContentPut, ChangesetPut, BookmarkSet, Landed, Judged, ◌>>=◌, Full, refuse_if, refuse_some, unchanged, entered, accepted, by_ask, judge, SetPolicy, denial, denied_at, BadPolicy, PolicySet}
+use Rattle.reply_model.specs.Reply.{is_ask, ids_in, is_parts_len, BadParts, OldFormat, NoPiece, NotAPiece, parts_of, WholePut, PutWhole, Unresolved, unresolved_of, MergeInStack, MergeInRange, is_merge, told, Down, TooLong, NoParent, content_refusal, collides, Collision, NoChangeset, Moved, TooLarge, first_collision, NoBookmark, NoRoot, TooFarBehind, AlreadyIn, StackTooLong, Clash, most_range, most_stack, Ask, PutContent, PutChangeset, SetBookmark, LandDraft, Refusal, Granted, ContentPut, ChangesetPut, BookmarkSet, Landed, Judged, ◌>>=◌, Full, refuse_if, refuse_some, unchanged, entered, accepted, by_ask, judge, SetPolicy, denial, denied_at, BadPolicy, PolicySet}
 use Rattle.reply_model.specs.Legal.{MayFollow, GoesOn, IsLegal, HasParts}
 use Rattle.reply_model.specs.Opening.{OpenFault, Damaged, NotARepository, ask_of, made_by, next_entry, next_record, go_on, records, opens_with, version_in, opens}
 use Rattle.changeset_model.proofs.Accepting.{IsBytes-drop, IsBytes-take, keeping_ok, wide32, wide64, with_len_ok}
@@ -183,12 +183,11 @@ makes header h (PutContent bytes) =
 makes header h (PutChangeset bytes) =
     let ask = PutChangeset bytes in
     through (bodies h) ask (accepted (decoded bytes)) _ (λ c.
-    through (bodies h) ask (refuse_if (nat_lt 1 (length c.parents)) Merge) _ (λ _.
     through (bodies h) ask (refuse_some (find (λ p. not (is_known (known h) p)) c.parents) NoParent) _ (λ _.
     through (bodies h) ask (refuse_some (first_some (λ e. content_refusal e (content_len h e.1.content)) (sets_of c)) (λ refusal. refusal)) _ (λ _.
     through (bodies h) ask (refuse_some (unresolved_of (known h) c c.parents) Unresolved) _ (λ _.
     through (bodies h) ask (refuse_if (collides (known h) c) (Collision (id_of c))) _ (λ _.
-    either (bodies h) ask (is_known (known h) (id_of c)) _ _ (makes_none (bodies h) ask (ChangesetPut (id_of c))) (makes_entered (bodies h) ask header h (ChangesetPut (id_of c)) (Change c) tt)))))))
+    either (bodies h) ask (is_known (known h) (id_of c)) _ _ (makes_none (bodies h) ask (ChangesetPut (id_of c))) (makes_entered (bodies h) ask header h (ChangesetPut (id_of c)) (Change c) tt))))))
 makes header h (PutWhole body pieces) =
     let ask = PutWhole body pieces in
     let x = sha256 (concat pieces) in

@@ -24,7 +24,7 @@ use Rattle.policy_model.specs.Rules.{bookmark_place, policy_place}
 use Rattle.policy_model.specs.Grammar.{parse}
 use Rattle.std.specs.Result.{result_err}
 use Rattle.changeset_model.specs.Version.{is_second}
-use Rattle.reply_model.specs.Reply.{Ask, PutContent, PutWhole, PutChangeset, SetBookmark, LandDraft, Refusal, Down, TooLong, Full, Merge, NoParent, Unresolved, unresolved_of, MergeInStack, MergeInRange, is_merge, told, parts_of, WholePut, Collision, NoChangeset, Moved, NoBookmark, NoRoot, TooFarBehind, AlreadyIn, StackTooLong, Clash, TooLarge, Granted, ContentPut, ChangesetPut, BookmarkSet, Landed, Judged, ◌>>=◌, refuse_if, refuse_some, unchanged, entered, accepted, content_refusal, collides, first_collision, most_range, most_stack, by_ask, judge, SetPolicy, denial, denied_at, OldFormat, BadPolicy, PolicySet}
+use Rattle.reply_model.specs.Reply.{Ask, PutContent, PutWhole, PutChangeset, SetBookmark, LandDraft, Refusal, Down, TooLong, Full, NoParent, Unresolved, unresolved_of, MergeInStack, MergeInRange, is_merge, told, parts_of, WholePut, Collision, NoChangeset, Moved, NoBookmark, NoRoot, TooFarBehind, AlreadyIn, StackTooLong, Clash, TooLarge, Granted, ContentPut, ChangesetPut, BookmarkSet, Landed, Judged, ◌>>=◌, refuse_if, refuse_some, unchanged, entered, accepted, content_refusal, collides, first_collision, most_range, most_stack, by_ask, judge, SetPolicy, denial, denied_at, OldFormat, BadPolicy, PolicySet}
 use Rattle.reply_model.specs.Legal.{MayFollow, GoesOn, IsLegal}
 use Rattle.byte_fields.proofs.Booleans.{not_false as not_not, or_turned as or_swap, same_some as some_same}
 use Rattle.byte_fields.proofs.Lists.{option_or-assoc as or_assoc}
@@ -188,13 +188,12 @@ sound_ask header h heads (PutContent bytes) =
     either (brought h) (is_some (content_len h (sha256 bytes))) _ _ (sound_none (brought h) (ContentPut (sha256 bytes))) (sound_entered (brought h) header h (ContentPut (sha256 bytes)) (Content (sha256 bytes) (length bytes)) tt))
 sound_ask header h heads (PutChangeset bytes) =
     through (brought h) (accepted (decoded bytes)) _ (λ c _.
-    through (brought h) (refuse_if (nat_lt 1 (length c.parents)) Merge) _ (λ _ _.
     through (brought h) (refuse_some (find (λ p. not (is_known (known h) p)) c.parents) NoParent) _ (λ u e.
     through (brought h) (refuse_some (first_some (λ e. content_refusal e (content_len h e.1.content)) (sets_of c)) (λ refusal. refusal)) _ (λ _ _.
     through (brought h) (refuse_some (unresolved_of (known h) c c.parents) Unresolved) _ (λ _ _.
     through (brought h) (refuse_if (collides (known h) c) (Collision (id_of c))) _ (λ _ _.
     either (brought h) (is_known (known h) (id_of c)) _ _ (sound_none (brought h) (ChangesetPut (id_of c))) (sound_entered (brought h) header h (ChangesetPut (id_of c)) (Change c)
-    (weaker (λ p. is_known (known h) p ≡ true) (λ p. is_known (brought h) p ≡ true) (each_known (brought h)) c.parents (all_known (known h) c.parents (none_refused _ NoParent u e))))))))))
+    (weaker (λ p. is_known (known h) p ≡ true) (λ p. is_known (brought h) p ≡ true) (each_known (brought h)) c.parents (all_known (known h) c.parents (none_refused _ NoParent u e)))))))))
 sound_ask header h heads (PutWhole body pieces) =
     let x = sha256 (concat pieces) in
     let n = length (concat pieces) in

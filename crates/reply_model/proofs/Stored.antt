@@ -18,7 +18,7 @@ use Rattle.policy_model.specs.Rules.{bookmark_place, policy_place}
 use Rattle.policy_model.specs.Grammar.{parse}
 use Rattle.policy_model.specs.Held.{denied_under}
 use Rattle.std.specs.Result.{result_err}
-use Rattle.reply_model.specs.Reply.{Ask, PutContent, PutWhole, PutChangeset, SetBookmark, LandDraft, is_ask, are_pieces, ids_in, is_parts_len, BadParts, OldFormat, NoPiece, NotAPiece, parts_of, put_whole, WholePut, Down, TooLong, Full, Merge, NoParent, Unresolved, unresolved_of, MergeInStack, MergeInRange, is_merge, told, Collision, NoChangeset, Moved, NoBookmark, NoRoot, TooFarBehind, AlreadyIn, StackTooLong, Clash, TooLarge, Granted, ContentPut, ChangesetPut, BookmarkSet, Landed, Judged, ◌>>=◌, refuse_if, refuse_some, unchanged, entered, put_content, accepted, content_refusal, collides, put_changeset, set_bookmark, first_collision, most_range, most_stack, enter_landing, land, by_ask, judge, SetPolicy, denial, BadPolicy, PolicySet, set_policy}
+use Rattle.reply_model.specs.Reply.{Ask, PutContent, PutWhole, PutChangeset, SetBookmark, LandDraft, is_ask, are_pieces, ids_in, is_parts_len, BadParts, OldFormat, NoPiece, NotAPiece, parts_of, put_whole, WholePut, Down, TooLong, Full, NoParent, Unresolved, unresolved_of, MergeInStack, MergeInRange, is_merge, told, Collision, NoChangeset, Moved, NoBookmark, NoRoot, TooFarBehind, AlreadyIn, StackTooLong, Clash, TooLarge, Granted, ContentPut, ChangesetPut, BookmarkSet, Landed, Judged, ◌>>=◌, refuse_if, refuse_some, unchanged, entered, put_content, accepted, content_refusal, collides, put_changeset, set_bookmark, first_collision, most_range, most_stack, enter_landing, land, by_ask, judge, SetPolicy, denial, BadPolicy, PolicySet, set_policy}
 use Rattle.reply_model.specs.Legal.{MayFollow, GoesOn, IsLegal}
 use Rattle.reply_model.proofs.Histories.{bodies-append}
 use Rattle.reply_model.proofs.Parents.{or_none}
@@ -118,7 +118,6 @@ policy_of-stored h = last_some-stored policy_text (λ breaking. refl) h
 put_changeset-stored : (header : Header) (h : List Entry) (bytes : List ℕ) → put_changeset header (stored h) bytes ≡ put_changeset header h bytes
 put_changeset-stored header h bytes =
     (λ i. accepted (decoded bytes) >>= λ c.
-    refuse_if (nat_lt 1 (length c.parents)) Merge >>= λ _.
     refuse_some (find (λ p. not (is_known (known-stored h i) p)) c.parents) NoParent >>= λ _.
     refuse_some (first_some (λ e. content_refusal e (content_len-stored h e.1.content i)) (sets_of c)) (λ refusal. refusal) >>= λ _.
     refuse_some (unresolved_of (known-stored h i) c c.parents) Unresolved >>= λ _.

@@ -72,7 +72,6 @@ pub data Refusal : Type 0 where
   TooLong : (length : ℕ) → Refusal
   BadEncoding : (at : ℕ) → Refusal
   SelfConflict : (short long : Path) → Refusal
-  Merge : Refusal
   BadParts : (length : ℕ) → Refusal
   OldFormat : Refusal
   NoPiece : (id : Id) → Refusal
@@ -193,8 +192,6 @@ unresolved_of ks c (p ∷ q ∷ ps) = unresolved c (files_of ks p) (files_of ks 
 abbrev pub put_changeset : Header → List Entry → List ℕ → Result Judged Refusal
 put_changeset header h bytes = do
   c ← accepted (decoded bytes)
-  -- merges aren't stored yet
-  _ ← refuse_if (nat_lt 1 (length c.parents)) Merge
   _ ← refuse_some (find (λ p. not (is_known (known h) p)) c.parents) NoParent
   _ ← refuse_some (first_some (λ e. content_refusal e (content_len h e.1.content)) (sets_of c)) (λ refusal. refusal)
   _ ← refuse_some (unresolved_of (known h) c c.parents) Unresolved

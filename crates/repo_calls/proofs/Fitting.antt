@@ -17,7 +17,7 @@ use Rattle.history_model.specs.Pushrebase.{fork, clash, rewrite, on_parent, mome
 use Rattle.history_model.specs.Journal.{Header, payload_len, most_payload, size, is_full}
 use Rattle.policy_model.specs.Rules.{bookmark_place, policy_place}
 use Rattle.policy_model.specs.Grammar.{parse}
-use Rattle.reply_model.specs.Reply.{Down, Merge, NoParent, Unresolved, unresolved_of, MergeInStack, MergeInRange, is_merge, told, denial, denied_at, OldFormat, BadPolicy, parts_of, content_refusal, collides, Collision, NoChangeset, Moved, TooLarge, first_collision, NoBookmark, NoRoot, TooFarBehind, AlreadyIn, StackTooLong, Clash, most_range, most_stack, Ask, PutContent, PutWhole, PutChangeset, SetBookmark, LandDraft, SetPolicy, Refusal, Granted, ContentPut, WholePut, ChangesetPut, BookmarkSet, Landed, PolicySet, Judged, ◌>>=◌, Full, refuse_if, refuse_some, unchanged, entered, put_content, put_whole, accepted, put_changeset, set_bookmark, enter_landing, land, set_policy, by_ask, judge}
+use Rattle.reply_model.specs.Reply.{Down, NoParent, Unresolved, unresolved_of, MergeInStack, MergeInRange, is_merge, told, denial, denied_at, OldFormat, BadPolicy, parts_of, content_refusal, collides, Collision, NoChangeset, Moved, TooLarge, first_collision, NoBookmark, NoRoot, TooFarBehind, AlreadyIn, StackTooLong, Clash, most_range, most_stack, Ask, PutContent, PutWhole, PutChangeset, SetBookmark, LandDraft, SetPolicy, Refusal, Granted, ContentPut, WholePut, ChangesetPut, BookmarkSet, Landed, PolicySet, Judged, ◌>>=◌, Full, refuse_if, refuse_some, unchanged, entered, put_content, put_whole, accepted, put_changeset, set_bookmark, enter_landing, land, set_policy, by_ask, judge}
 use Rattle.repo_calls.specs.Replying.{GrantKind, ContentGrant, WholeGrant, ChangesetGrant, BookmarkGrant, LandingGrant, PolicyGrant, grant_for, IsGrant}
 
 abbrev GrantIn : GrantKind → Result Judged Refusal → Type 0
@@ -58,12 +58,11 @@ changeset_fits : (header : Header) (h : List Entry) (bytes : List ℕ) → Grant
 changeset_fits header h bytes =
     let kind : GrantKind = ChangesetGrant in
     through kind (accepted (decoded bytes)) _ (λ c _.
-    through kind (refuse_if (nat_lt 1 (length c.parents)) Merge) _ (λ _ _.
     through kind (refuse_some (find (λ p. not (is_known (known h) p)) c.parents) NoParent) _ (λ _ _.
     through kind (refuse_some (first_some (λ e. content_refusal e (content_len h e.1.content)) (sets_of c)) (λ refusal. refusal)) _ (λ _ _.
     through kind (refuse_some (unresolved_of (known h) c c.parents) Unresolved) _ (λ _ _.
     through kind (refuse_if (collides (known h) c) (Collision (id_of c))) _ (λ _ _.
-    either kind (is_known (known h) (id_of c)) _ _ (one kind (ChangesetPut (id_of c)) tt) (entering header h kind (ChangesetPut (id_of c)) (Change c) tt)))))))
+    either kind (is_known (known h) (id_of c)) _ _ (one kind (ChangesetPut (id_of c)) tt) (entering header h kind (ChangesetPut (id_of c)) (Change c) tt))))))
 
 bookmark_fits : (header : Header) (h : List Entry) (caller name : List ℕ) (from to : Option Id) → Granting BookmarkGrant (set_bookmark header h caller name from to)
 bookmark_fits header h caller name from to =

@@ -30,7 +30,6 @@ refused_true refusals.Down one other e = cc
 refused_true (refusals.TooLong n) one other e = cc
 refused_true (refusals.BadEncoding at) one other e = cc
 refused_true (refusals.SelfConflict short long) one other e = cc
-refused_true refusals.Merge one other e = cc
 refused_true (refusals.BadParts n) one other e = cc
 refused_true refusals.OldFormat one other e = cc
 refused_true (refusals.NoPiece x) one other e = cc

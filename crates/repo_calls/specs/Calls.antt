@@ -50,7 +50,6 @@ refused refusals.Down = Refuses reply.Down
 refused (refusals.TooLong length) = Refuses (reply.TooLong length)
 refused (refusals.BadEncoding at) = Refuses (reply.BadEncoding at)
 refused (refusals.SelfConflict short long) = Refuses (reply.SelfConflict short long)
-refused refusals.Merge = Refuses reply.Merge
 refused (refusals.BadParts length) = Refuses (reply.BadParts length)
 refused refusals.OldFormat = Refuses reply.OldFormat
 refused (refusals.NoPiece id) = Refuses (reply.NoPiece id)

@@ -31,7 +31,8 @@ use Rattle.repo_machine.specs.Prepared.{IsReadyTo}
 use Rattle.repo_machine.specs.declared.found.Joined.{Joined}
 use Rattle.repo_machine.specs.declared.found.Found.{Found}
 use Rattle.repo_machine.specs.declared.found.Found.TheVariants as founds
-use Rattle.repo_machine.specs.Found.{IsFoundWhole, IsFoundFor}
+use Rattle.repo_machine.specs.declared.prepared.Ready.{Ready}
+use Rattle.repo_machine.specs.Found.{IsFoundWhole, IsFoundFor, IsFoundReady}
 use Rattle.repo_machine.specs.Wholes.{pieces_judged, IsWholeOf}
 use Rattle.repo_machine.proofs.MadeReady.{refused_as}
 use Rattle.repo_machine.proofs.Pieces.{some_pieces}
@@ -101,8 +102,8 @@ module _ (header : Header) (h : List Entry) (body : List ℕ) (pieces : List (Li
   refuses_whole (Ok judged) r = tt
   refuses_whole (Err e) r = subst (λ call. RefusesCall header h call e) (sym is) (joins_with header h body pieces e (whole_joining header h body pieces whole w) r)
 
-pub found_whole : (header : Header) (h : List Entry) (call : Call) (body : List ℕ) (f : Found) (whole : Joined) → call ≡ Joins body → f ≡ founds.Joined whole → IsFoundFor header h call f → (pieces : List (List ℕ)) × IsWholeOf header h body pieces whole
-found_whole header h call body f whole is found_is found = subst (IsFoundWhole header h body) found_is (subst (λ call. IsFoundFor header h call f) is found)
+pub found_whole : (header : Header) (h : List Entry) (call : Call) (r : Ready) (body : List ℕ) (f : Found) (whole : Joined) → call ≡ Joins body → f ≡ founds.Joined whole → IsFoundReady header h call r f → (pieces : List (List ℕ)) × IsWholeOf header h body pieces whole
+found_whole header h call r body f whole is found_is found = subst (IsFoundWhole header h body) found_is (subst (λ call. IsFoundReady header h call r f) is found)
 
 -- ---- refusals that each change may have
 
@@ -111,6 +112,7 @@ one_asked header h ask e refuses = record { ask = ask; asks = refl; refuses = re
 
 joins_anyhow : (header : Header) (h : List Entry) (body : List ℕ) (f : Found) → IsFoundWhole header h body f → (e : Refusal) → ((ask : Ask) → IsRefusal (judge header h ask) e) → RefusesCall header h (Joins body) e
 joins_anyhow header h body founds.Nothing found e all = absurd found
+joins_anyhow header h body (founds.Unresolved path) found e all = absurd found
 joins_anyhow header h body (founds.Joined whole) found e all = joins_with header h body found.0 e (whole_joining header h body found.0 whole found.1) (all (PutWhole body found.0))
 
 pub refused_anyhow : (header : Header) (h : List Entry) (a : asked.Ask) (f : Found) → IsFoundFor header h (call_seen a) f → (e : Refusal) → ((ask : Ask) → IsRefusal (judge header h ask) e) → RefusesCall header h (call_seen a) e

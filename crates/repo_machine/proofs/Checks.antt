@@ -1,13 +1,12 @@
 -- What the checks of an upload find.
-use Rattle.std.proofs.Common.{◌≡◌, ℕ, ◌≤◌, ◌<◌, ◌+◌, lt-ltb, Bool, true, false, cond, not, List, ◌∷◌, drop, length, drop-cons, add-one, get_or, inl, inr, refl, sym, ap, ◌∙◌, arith}
-use Rattle.std.specs.Prelude.{Option, None, Some, Result, Ok, Err, IsErrAnd, ◌==◌, nat_lt, find, option_map}
+use Rattle.std.proofs.Common.{◌≡◌, ℕ, ◌≤◌, ◌<◌, ◌+◌, Bool, true, false, cond, not, List, ◌∷◌, drop, length, drop-cons, add-one, get_or, inl, inr, refl, sym, ap, ◌∙◌}
+use Rattle.std.specs.Prelude.{Option, None, Some, Result, Ok, Err, IsErrAnd, ◌==◌, find, option_map}
 use Rattle.std.specs.Option.{option_or}
 use Rattle.std.proofs.lemmas.Bool.{eq-eqb}
 use Rattle.std.proofs.lemmas.List.{drop_all}
 use Rattle.std.proofs.lemmas.Bool.Decides.{Decides-eqb}
 use Rattle.byte_fields.specs.Bytes.{Id}
 use Rattle.changeset_model.specs.Path.{Path}
-use Rattle.changeset_model.specs.Changeset.{Changeset}
 use Rattle.history_model.specs.History.{Known, is_known}
 use Rattle.bonsai.specs.declared.change.Change as changes
 use Rattle.bonsai.specs.declared.change.Change.TheVariants as change
@@ -22,10 +21,29 @@ use Rattle.repo_calls.specs.declared.refusal.Refusal.TheVariants as refusals
 use Rattle.repo_calls.specs.Calls.{refused}
 use Rattle.repo_machine.specs.Checking.{IsFound, Checks, parents_refusal, edit_refusal, contents_refusal}
 
-pub two_parents : (xs : List Id) (ks : List Known) (c : Changeset) → xs ≡ c.parents → 2 ≤ length xs → IsFound refusals.Merge (parents_refusal ks c)
-two_parents xs ks c are two =
-    let many : nat_lt 1 (length c.parents) ≡ true = ap (λ ps. nat_lt 1 (length ps)) (sym are) ∙ lt-ltb 1 (length xs) (omega arith) in
-    inr (reply.Merge, ap (λ b. cond b (Some reply.Merge) (option_map reply.NoParent (find (λ p. not (is_known ks p)) c.parents))) many, refl)
+parent_by : (b : Bool) (p : Id) (later : Option Id) → option_map reply.NoParent (cond (not b) (Some p) later) ≡ cond b (option_map reply.NoParent later) (Some (reply.NoParent p))
+parent_by true p later = refl
+parent_by false p later = refl
+
+module _ (ks : List Known) (ps : List Id) (i : ℕ) where
+  next_parent : (p : Id) → i < length ps → p ≡ get_or ps i p → parents_refusal ks (drop i ps) ≡ cond (is_known ks p) (parents_refusal ks (drop (i + 1) ps)) (Some (reply.NoParent p))
+  next_parent p below is =
+      ap (parents_refusal ks) (drop-cons ps i p below ∙ (λ j. sym is j ∷ drop (sym (add-one i) j) ps))
+      ∙ parent_by (is_known ks p) p (find (λ p. not (is_known ks p)) (drop (i + 1) ps))
+
+  pub fine_parent : (p : Id) → i < length ps → p ≡ get_or ps i p → is_known ks p ≡ true → parents_refusal ks (drop i ps) ≡ parents_refusal ks (drop (i + 1) ps)
+  fine_parent p below is there = next_parent p below is ∙ ap (λ b. cond b (parents_refusal ks (drop (i + 1) ps)) (Some (reply.NoParent p))) there
+
+  pub no_parent : (p : Id) → i < length ps → p ≡ get_or ps i p → is_known ks p ≡ false → parents_refusal ks (drop i ps) ≡ Some (reply.NoParent p)
+  no_parent p below is out = next_parent p below is ∙ ap (λ b. cond b (parents_refusal ks (drop (i + 1) ps)) (Some (reply.NoParent p))) out
+
+  pub no_more_parents : length ps ≤ i → parents_refusal ks (drop i ps) ≡ None
+  no_more_parents past = ap (parents_refusal ks) (drop_all i ps past)
+
+-- what the check of one parent tells is what is found
+pub found_parent : (result : Result (Unit {0}) Refusal) (e : Refusal) (p : Id) (found : Option reply.Refusal) → IsErrAnd result (λ x. x ≡ e) → e ≡ refusals.NoParent p → found ≡ Some (reply.NoParent p) → Checks result found
+found_parent (Ok done) e p found err is some = absurd err
+found_parent (Err x) e p found err is some = inr (reply.NoParent p, some, ap refused (err ∙ is))
 
 apart_test : (a b : ℕ) → (a ≡ b → ⊥) → (a == b) ≡ false
 apart_test a b apart = by (a == b) refl

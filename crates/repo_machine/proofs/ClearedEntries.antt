@@ -1,9 +1,9 @@
 -- The machine's entries without seats' numbers.
 --     unseated e, all_unseated es      the entry and the entries with the number 0
-use Rattle.std.proofs.Common.{◌≡◌, ℕ, suc, ◌+◌, Bool, cond, List, [], ◌∷◌, refl, sym, ap, subst, ◌∙◌}
+use Rattle.std.proofs.Common.{◌≡◌, ℕ, suc, ◌+◌, Bool, cond, List, [], ◌∷◌, refl, sym, ap, subst, ◌∙◌, ◌<◌, ◌≤◌, ◌++◌, length, take, get_or, set, arith}
 use Rattle.std.specs.Prelude.{Option, None, Some, IfSome}
 use Rattle.std.specs.List.{AllByRecursion}
-use Rattle.std.proofs.lemmas.List.{map-append}
+use Rattle.std.proofs.lemmas.List.{map-append, take_more, take_more_set, take_all, length-map}
 use Rattle.byte_fields.specs.Bytes.{Id}
 use Rattle.history_model.specs.History.{Known, Content, is_down, known, content_len}
 use Rattle.history_model.specs.History as model
@@ -15,6 +15,8 @@ use Rattle.repo_machine.specs.Records.{entry_of, history_of, IsWithin, is_kept, 
 use Rattle.repo_machine.specs.Seats.{cleared, unseated, all_unseated}
 use Rattle.repo_machine.proofs.Cleared.{is_down-cleared, known-cleared, content_len-cleared, head-cleared, size-cleared, IsLegal-cleared}
 use Rattle.repo_machine.proofs.Tables.{joined-cleared}
+use Rattle.std.proofs.Math.ListN.{get_or-map}
+use Rattle.std.proofs.Math.Seq.{map-set_same}
 
 history_by : (ks : List Known) (es : List Entry) → history_of ks (all_unseated es) ≡ cleared (history_of ks es)
 history_by ks [] = refl
@@ -73,3 +75,27 @@ module _ (ks : List Known) (es after : List Entry) (clears : after ≡ all_unsea
 
   pub joined_unseated : (joins : Id → Option (List Id)) → AreJoined (history_of ks es) joins → AreJoined (history_of ks after) joins
   joined_unseated joins are = subst (λ h. AreJoined h joins) (sym history_unseated) (joined-cleared (history_of ks es) joins are)
+
+pub record IsUnseatedTo (i : ℕ) (es old : List Entry) : Type 0 where
+  pub same : all_unseated es ≡ all_unseated old
+  pub front : take i es ≡ take i (all_unseated old)
+
+pub unseated_none : (es : List Entry) → IsUnseatedTo 0 es es
+unseated_none es = record { same = refl; front = refl }
+
+pub unseated_more : (i : ℕ) (es old : List Entry) (d : Entry) → i < length es → IsUnseatedTo i es old → IsUnseatedTo (i + 1) (set es i (unseated (get_or es i d))) old
+unseated_more i es old d below so_far =
+    let e = unseated (get_or es i d) in
+    let here : e ≡ get_or (all_unseated old) i (unseated d) = sym (get_or-map unseated es i d) ∙ ap (λ (l : List Entry). get_or l i (unseated d)) so_far.same in
+    let long = length-map es unseated in
+    let also : length (all_unseated es) ≡ length (all_unseated old) = ap (λ (l : List Entry). length l) so_far.same in
+    record {
+      same = map-set_same unseated es i e d refl ∙ so_far.same;
+      front = take_more_set es i e below ∙ (λ j. so_far.front j ++ here j ∷ []) ∙ sym (take_more (all_unseated old) i (unseated d) (omega arith));
+    }
+
+pub unseated_all : (i : ℕ) (es old : List Entry) → length es ≤ i → IsUnseatedTo i es old → es ≡ all_unseated old
+unseated_all i es old past so_far =
+    let long = length-map es unseated in
+    let also : length (all_unseated es) ≡ length (all_unseated old) = ap (λ (l : List Entry). length l) so_far.same in
+    sym (take_all i es past) ∙ so_far.front ∙ take_all i (all_unseated old) (omega arith)

@@ -1,38 +1,36 @@
--- What is so of each known changeset of a legal history is so of a fork's stack and range: they have no merge, and their copy sources are kept on another parent.
---     no_merges      a fork passes the check for merges
---     stack_keeps      the copy sources of its stack
-use Rattle.std.proofs.Common.{◌≡◌, ◌≤◌, le-ltb, zero, suc, ℕ, ◌+◌, Bool, true, false, cond, List, [], ◌∷◌, drop, refl, ap, ◌∙◌, length}
-use Rattle.std.specs.Prelude.{Contains, Option, None, Some, option_map, find, Ok, bytes_eq}
+-- What is so of each known changeset of a legal history is so of a fork's stack: where none of it has two parents, their copy sources are kept on another parent.
+--     stack_keeps      the copy sources of a stack without a merge
+use Rattle.std.proofs.Common.{◌≡◌, ◌≤◌, zero, suc, ℕ, ◌+◌, Bool, true, false, cond, List, [], ◌∷◌, drop, refl, length}
+use Rattle.std.specs.Prelude.{Contains, Option, None, Some, find, bytes_eq}
 use Rattle.std.specs.List.{AllByRecursion, after_first, position_or_len}
 use Rattle.std.specs.Option.{option_map_or}
+use Rattle.std.proofs.lemmas.Bool.{ltb-false}
 use Rattle.byte_fields.specs.Bytes.{Id}
 use Rattle.byte_fields.proofs.Lists.{all_reverse, weaker}
-use Rattle.bonsai.specs.Making.{KeepsOnParent, KeepOnParents}
+use Rattle.bonsai.specs.Making.{KeepOnParents}
 use Rattle.bonsai.proofs.Rules.{keeps_on_parent}
-use Rattle.changeset_model.specs.Changeset.{Changeset, id_of}
+use Rattle.changeset_model.specs.Changeset.{Changeset, is_changeset}
 use Rattle.history_model.specs.History.{Entry, Known, known}
 use Rattle.history_model.specs.Chain.{first_parent, line_among, chain, changesets}
 use Rattle.history_model.specs.Pushrebase.{following}
 use Rattle.history_model.specs.Journal.{Header}
-use Rattle.reply_model.specs.Reply.{is_merge, refuse_some, MergeInStack, MergeInRange, ◌>>=◌}
+use Rattle.reply_model.specs.Reply.{is_merge}
 use Rattle.reply_model.specs.Legal.{IsLegal}
 use Rattle.opening_laws.proofs.Rules.{known_keep}
 use Rattle.std.proofs.lemmas.List.Elements.{recursion_from_All, All-contains_itself}
 use Rattle.changeset_store.specs.declared.fork.Fork as store
 use Rattle.changeset_store.specs.Store.{known_at}
 use Rattle.changeset_store.specs.Fork.{fork_between}
-use Rattle.repo_machine.specs.Landings.{merges_checked}
 
 -- ---- what each known changeset has
 
-record IsPlain (c : Changeset) : Type 0 where
-  one_parent : length c.parents ≤ 1
-  keeps : KeepsOnParent c
+abbrev IsRuled : Changeset → Type 0
+IsRuled c = is_changeset c ≡ true
 
-all_plain : (header : Header) (h : List Entry) → IsLegal header h → AllByRecursion (λ k. IsPlain k.changeset) (known h)
-all_plain header h legal =
-    weaker (Contains (known h)) (λ k. IsPlain k.changeset)
-    (λ k at. let keep = known_keep header h k legal at in record { one_parent = keep.2; keeps = keeps_on_parent k.changeset keep.1 keep.2 })
+all_ruled : (header : Header) (h : List Entry) → IsLegal header h → AllByRecursion (λ k. IsRuled k.changeset) (known h)
+all_ruled header h legal =
+    weaker (Contains (known h)) (λ k. IsRuled k.changeset)
+    (λ k at. let keep = known_keep header h k legal at in keep.1)
     (known h) (recursion_from_All (Contains (known h)) (known h) (All-contains_itself (known h)))
 
 -- ---- a part of a chain
@@ -68,22 +66,18 @@ following_all P ks all root x =
 
 -- ---- no merge
 
-none_merges : (cs : List Changeset) → AllByRecursion IsPlain cs → find is_merge cs ≡ None
-none_merges [] all = refl
-none_merges (c ∷ cs) all = ap (λ b. cond b (Some c) (find is_merge cs)) (le-ltb 1 (length c.parents) all.0.one_parent) ∙ none_merges cs all.1
+alone_by : (c : Changeset) (found : Option Changeset) (b : Bool) → is_merge c ≡ b → cond b (Some c) found ≡ None → (length c.parents ≤ 1) × (found ≡ None)
+alone_by c found true is none = absurd cc
+alone_by c found false is none = (ltb-false 1 (length c.parents) is, none)
 
-module _ (header : Header) (h : List Entry) (legal : IsLegal header h) (f : store.Fork) where
-  stack_plain : AllByRecursion IsPlain (fork_between (known h) f).stack
-  stack_plain = following_all IsPlain (known h) (all_plain header h legal) (known_at (known h) f.root) (known_at (known h) f.draft).id
+pub first_alone : (c : Changeset) (cs : List Changeset) → find is_merge (c ∷ cs) ≡ None → (length c.parents ≤ 1) × (find is_merge cs ≡ None)
+first_alone c cs none = alone_by c (find is_merge cs) (is_merge c) refl none
 
-  range_plain : AllByRecursion IsPlain (fork_between (known h) f).range
-  range_plain = following_all IsPlain (known h) (all_plain header h legal) (known_at (known h) f.root) (known_at (known h) f.head).id
+keep_all : (cs : List Changeset) → AllByRecursion IsRuled cs → find is_merge cs ≡ None → KeepOnParents cs
+keep_all [] all none = tt
+keep_all (c ∷ cs) all none = let first = first_alone c cs none in (keeps_on_parent c all.0 first.0, keep_all cs all.1 first.1)
 
-  pub no_merges : merges_checked (fork_between (known h) f) ≡ Ok tt
-  no_merges =
-      let stack = none_merges (fork_between (known h) f).stack stack_plain in
-      let range = none_merges (fork_between (known h) f).range range_plain in
-      (λ i. refuse_some (option_map id_of (stack i)) MergeInStack >>= λ _. refuse_some (option_map id_of (range i)) MergeInRange)
-
-  pub stack_keeps : KeepOnParents (fork_between (known h) f).stack
-  stack_keeps = weaker IsPlain KeepsOnParent (λ c plain. plain.keeps) (fork_between (known h) f).stack stack_plain
+pub stack_keeps : (header : Header) (h : List Entry) → IsLegal header h → (f : store.Fork) → find is_merge (fork_between (known h) f).stack ≡ None → KeepOnParents (fork_between (known h) f).stack
+stack_keeps header h legal f none =
+    keep_all (fork_between (known h) f).stack
+    (following_all IsRuled (known h) (all_ruled header h legal) (known_at (known h) f.root) (known_at (known h) f.draft).id) none

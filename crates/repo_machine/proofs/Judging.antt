@@ -1,12 +1,12 @@
 -- The reply to a change, by what is judged.
-use Rattle.std.proofs.Common.{◌≡◌, ℕ, ◌+◌, ◌<◌, ◌≤◌, lt-ltb, le-ltb, Bool, true, false, cond, inl, inr, List, [], ◌∷◌, ◌++◌, length, refl, sym, ap, subst, ◌∙◌}
-use Rattle.std.specs.Prelude.{Option, None, Some, Result, Ok, Err, IsErrAnd, IfErr, not, is_some, find, bytes_eq}
+use Rattle.std.proofs.Common.{◌≡◌, ℕ, ◌+◌, ◌<◌, ◌≤◌, lt-ltb, le-ltb, Bool, true, false, cond, inl, inr, List, [], ◌∷◌, ◌++◌, length, refl, sym, ap, subst, ◌∙◌, suc}
+use Rattle.std.specs.Prelude.{Option, None, Some, Result, Ok, Err, IsErrAnd, IfErr, not, is_some, find, bytes_eq, ◌&&◌, slice_index}
 use Rattle.std.specs.Option.{option_eq, option_to_list}
 use Rattle.std.proofs.lemmas.List.{append-nil}
 use Rattle.sha2.specs.Sha256.{sha256}
-use Rattle.byte_fields.specs.Bytes.{Id}
+use Rattle.byte_fields.specs.Bytes.{Id, are_bytes}
 use Rattle.changeset_model.specs.Changeset.{most_content}
-use Rattle.history_model.specs.History.{Body, Content, Book, Entry, is_down, known, is_known, content_len}
+use Rattle.history_model.specs.History.{Body, Content, Book, Entry, is_down, known, is_known, content_len, Known}
 use Rattle.history_model.specs.Bookmark.{head}
 use Rattle.history_model.specs.Journal.{Header, payload_len, is_full}
 use Rattle.history_model.specs.Journal as journal
@@ -19,6 +19,12 @@ use Rattle.repo_calls.specs.Calls.{refused}
 use Rattle.repo_machine.specs.Entering.{Prevents}
 use Rattle.repo_machine.specs.Judged.{JudgedChange, IsJudged}
 use Rattle.repo_calls.specs.Refusing.{IsRefusal}
+use Rattle.history_model.specs.Repository.{Repository}
+use Rattle.reply_model.specs.Legal.{IsLegal}
+use Rattle.changeset_store.proofs.Numbering.{not_some}
+use Rattle.repo_machine.specs.Indexes.{AreIndexes}
+use Rattle.byte_fields.proofs.Booleans.{not_false as not_not}
+use Rattle.changeset_model.proofs.Spelling.{is_false as not_yes}
 
 -- ---- what is answered
 
@@ -138,3 +144,52 @@ replies_admitted header h who ask judged after is by grows = record {
   answers = (refl, is.granted);
   new_is = grows ∙ ap (λ w. h ++ entries_of w (record { entry = judged.made; fault = None })) by;
 }
+
+pub are_bytes-from : (bytes : List ℕ) → ((i : ℕ) → slice_index bytes i < 256) → are_bytes bytes ≡ true
+are_bytes-from [] all = refl
+are_bytes-from (b ∷ bytes) all = (λ i. lt-ltb b 256 (all 0) i && are_bytes-from bytes (λ i. all (suc i)) i)
+
+module _ {header : Header} {h : List Entry} {ks : List Known} {heads : List ℕ → Option Id} {lengths : Id → Option ℕ} {size : ℕ} {down : Bool} (k : AreIndexes header h ks heads lengths size down) (r : Repository) (is : ◌≡◌ {A = Repository} (record { header = header; history = h }) r) where
+  pub down_as : down ≡ is_down r.history
+  down_as = k.down_is ∙ ap (λ r. is_down r.history) is
+
+  pub legal_as : IsLegal r.header r.history
+  legal_as = subst (λ r. IsLegal r.header r.history) is k.legal
+
+  module _ (up : is_down r.history ≡ false) (bytes : List ℕ) (x : Id) (e : x ≡ sha256 bytes) (few : length bytes ≤ most_content) where
+    by_index : (known : Bool) → is_some (lengths x) ≡ known → is_some (content_len r.history (sha256 bytes)) ≡ known
+    by_index known found = (λ i. is_some (content_len (sym is i).history (sym e i))) ∙ ap is_some (sym (k.lengths_are x)) ∙ found
+
+    pub judged_known : is_some (lengths x) ≡ true → judge r.header r.history (PutContent bytes) ≡ unchanged (ContentPut x)
+    judged_known found = judged_short r.header r.history bytes true up few (by_index true found) ∙ ap (λ y. unchanged (ContentPut y)) (sym e)
+
+    pub judged_new : is_some (lengths x) ≡ false → judge r.header r.history (PutContent bytes) ≡ entered r.header r.history (ContentPut x) (Content x (length bytes))
+    judged_new found = judged_short r.header r.history bytes false up few (by_index false found) ∙ ap (λ y. entered r.header r.history (ContentPut y) (Content y (length bytes))) (sym e)
+
+    pub is_absent : is_some (lengths x) ≡ false → content_len r.history x ≡ None
+    is_absent found = not_some (content_len r.history x) (ap (λ r. is_some (content_len r.history x)) (sym is) ∙ ap is_some (sym (k.lengths_are x)) ∙ found)
+
+pub not_true : (found h from : Option Id) → found ≡ h → not (option_eq bytes_eq found from) ≡ true → option_eq bytes_eq h from ≡ false
+not_true found h from same e = ap (λ o. option_eq bytes_eq o from) (sym same) ∙ not_yes _ e
+
+module _ (header : Header) (h : List Entry) (up : is_down h ≡ false) (caller name : List ℕ) (from to found target : Option Id) (targeted : target ≡ find (λ x. not (is_known (known h) x)) (option_to_list to)) (none : target ≡ None) (head_is : found ≡ head h name) (there : not (option_eq bytes_eq found from) ≡ false) where
+  no_unknown : find (λ x. not (is_known (known h) x)) (option_to_list to) ≡ None
+  no_unknown = sym targeted ∙ none
+
+  at_head : option_eq bytes_eq (head h name) from ≡ true
+  at_head = ap (λ o. option_eq bytes_eq o from) (sym head_is) ∙ not_not _ there
+
+  pub denied_as : (e : refusal.Refusal) → IsRefusal (refuse_some (denied_at h caller (bookmark_place name ∷ [])) denial) e → IsRefusal (judge header h (SetBookmark caller name from to)) e
+  denied_as e refusal = move_refused header h caller name from to up no_unknown at_head e refusal
+
+  module _ (allowed : refuse_some (denied_at h caller (bookmark_place name ∷ [])) denial ≡ Ok tt) where
+    pub same_as : option_eq bytes_eq from to ≡ true → judge header h (SetBookmark caller name from to) ≡ unchanged BookmarkSet
+    same_as same = judged_same header h caller name from to up no_unknown at_head allowed same
+
+    pub moving_as : option_eq bytes_eq from to ≡ false → judge header h (SetBookmark caller name from to) ≡ entered header h BookmarkSet (Book (record { name = name; from = from; to = to; caller = told h caller }))
+    moving_as apart = judged_moving header h caller name from to up no_unknown at_head allowed apart
+
+-- the name and the caller are copied
+pub moved_as : (header : Header) (h : List Entry) (ask : Ask) (from to : Option Id) {copy name : List ℕ} {telling told : Option (List ℕ)} → copy ≡ name → telling ≡ told → judge header h ask ≡ entered header h BookmarkSet (Book (record { name = name; from = from; to = to; caller = told }))
+    → judge header h ask ≡ entered header h BookmarkSet (Book (record { name = copy; from = from; to = to; caller = telling }))
+moved_as header h ask from to named calls judged = judged ∙ (λ i. entered header h BookmarkSet (Book (record { name = sym named i; from = from; to = to; caller = sym calls i })))

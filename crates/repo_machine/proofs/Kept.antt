@@ -1,8 +1,15 @@
 -- The places of stored entries.
-use Rattle.std.proofs.Common.{◌≡◌, ℕ, suc, ◌+◌, Bool, true, false, cond, List, [], ◌∷◌, ◌++◌, length, refl, sym, ap, ◌∙◌, arith}
+use Rattle.std.proofs.Common.{◌≡◌, ℕ, suc, ◌+◌, Bool, true, false, cond, List, [], ◌∷◌, ◌++◌, length, refl, sym, ap, ◌∙◌, arith, map}
 use Rattle.std.proofs.lemmas.List.{append-nil}
 use Rattle.repo_machine.specs.declared.records.Entry.{Entry}
-use Rattle.repo_machine.specs.Records.{is_kept, kept_from}
+use Rattle.repo_machine.specs.Records.{is_kept, kept_from, body_of, entry_of, history_of}
+use Rattle.std.specs.Prelude.{filter, count_by}
+use Rattle.std.proofs.lemmas.List.Sums.{length-filter}
+use Rattle.history_model.specs.History.{Known}
+use Rattle.history_model.specs.History as model
+use Rattle.repo_machine.specs.declared.records.Record.{Record}
+use Rattle.repo_machine.specs.declared.records.Record.TheVariants.{Content, Whole, Change, Book, Land, Policy, Fault}
+use Rattle.repo_machine.specs.Counting.{is_content, is_landing, is_content_record, is_landing_record, is_content_entry, is_landing_entry}
 
 first_by : (b : Bool) (n m : ℕ) → n ≡ m → cond b (n ∷ []) [] ≡ cond b (m ∷ []) []
 first_by b n m same = ap (λ n. cond b (n ∷ []) []) same
@@ -24,3 +31,39 @@ module _ (es : List Entry) (kept : List ℕ) (are : kept ≡ kept_from 0 es) (e 
 
   pub kept_stays : is_kept e ≡ false → kept ≡ kept_from 0 after
   kept_stays fault = are ∙ sym (ap (kept_from 0) grows ∙ kept_push 0 es e ∙ ap (λ b. kept_from 0 es ++ cond b ((0 + length es) ∷ []) []) fault ∙ append-nil (kept_from 0 es))
+
+module _ {X Y : Type 0} (f : X → Y) (p : X → Bool) (q : Y → Bool) (same : (x : X) → p x ≡ q (f x)) where
+  length_kept : (x : X) (xs : List X) (b : Bool) → length (filter p xs) ≡ length (filter q (map f xs)) → length (cond b (x ∷ filter p xs) (filter p xs)) ≡ length (cond b (f x ∷ filter q (map f xs)) (filter q (map f xs)))
+  length_kept x xs true more = ap suc more
+  length_kept x xs false more = more
+
+  length-filter-map : (xs : List X) → length (filter p xs) ≡ length (filter q (map f xs))
+  length-filter-map [] = refl
+  length-filter-map (x ∷ xs) = length_kept x xs (p x) (length-filter-map xs) ∙ ap (λ b. length (cond b (f x ∷ filter q (map f xs)) (filter q (map f xs)))) (same x)
+
+  count_by-map : (xs : List X) → count_by p xs ≡ count_by q (map f xs)
+  count_by-map xs = sym (length-filter p xs) ∙ length-filter-map xs ∙ length-filter q (map f xs)
+
+content_by : (ks : List Known) (r : Record) → is_content_record r ≡ is_content (body_of ks r)
+content_by ks (Content id length) = refl
+content_by ks (Whole id length parts) = refl
+content_by ks (Change number) = refl
+content_by ks (Book movement) = refl
+content_by ks (Land landing) = refl
+content_by ks (Policy caller text) = refl
+content_by ks (Fault breaking) = refl
+
+landing_by : (ks : List Known) (r : Record) → is_landing_record r ≡ is_landing (body_of ks r)
+landing_by ks (Content id length) = refl
+landing_by ks (Whole id length parts) = refl
+landing_by ks (Change number) = refl
+landing_by ks (Book movement) = refl
+landing_by ks (Land landing) = refl
+landing_by ks (Policy caller text) = refl
+landing_by ks (Fault breaking) = refl
+
+pub contents_counted : (ks : List Known) (es : List Entry) → count_by is_content_entry es ≡ count_by (λ (e : model.Entry). is_content e.body) (history_of ks es)
+contents_counted ks es = count_by-map (entry_of ks) is_content_entry (λ (e : model.Entry). is_content e.body) (λ e. content_by ks e.record) es
+
+pub landings_counted : (ks : List Known) (es : List Entry) → count_by is_landing_entry es ≡ count_by (λ (e : model.Entry). is_landing e.body) (history_of ks es)
+landings_counted ks es = count_by-map (entry_of ks) is_landing_entry (λ (e : model.Entry). is_landing e.body) (λ e. landing_by ks e.record) es

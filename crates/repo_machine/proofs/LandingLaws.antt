@@ -1,33 +1,45 @@
 -- The trees after a landing.
-use Rattle.std.proofs.Common.{◌≡◌, ℕ, suc, ◌+◌, Bool, true, false, cond, not, ◌||◌, List, [], ◌∷◌, ◌++◌, map, length, drop, reverse, refl, sym, ap, subst, ◌∙◌, arith, add-one}
-use Rattle.std.specs.Prelude.{Option, None, Some, option_map, unwrap_or, Contains, bytes_eq}
-use Rattle.std.specs.List.{after_first, position_or_len, list_any, last_or}
+use Rattle.std.proofs.Common.{◌≡◌, ℕ, suc, ◌+◌, Bool, true, false, cond, not, ◌||◌, List, [], ◌∷◌, ◌++◌, map, length, drop, reverse, refl, sym, ap, subst, ◌∙◌, arith, add-one, ◌≤◌}
+use Rattle.std.specs.Prelude.{Option, None, Some, option_map, unwrap_or, Contains, bytes_eq, find, flat_map}
+use Rattle.std.specs.List.{AllByRecursion, after_first, position_or_len, list_any, last_or}
 use Rattle.std.specs.Option.{option_map_or}
 use mathlib.Core.Bool.{true≢false}
 use mathlib.Core.List.{reverse-cons}
-use Rattle.std.proofs.lemmas.List.{append_assoc, map-append, reverse-append}
+use Rattle.std.proofs.lemmas.List.{append_assoc, reverse-append, reverse-reverse}
 use Rattle.std.proofs.lemmas.Slice.Eq.{bytes_eq-Decides}
 use Rattle.byte_fields.specs.Bytes.{Id, last_of, last_that}
-use Rattle.changeset_model.specs.Path.{Path}
+use Rattle.byte_fields.proofs.Lists.{all_reverse, each_of}
+use Rattle.changeset_model.specs.Path.{Path, comparable}
 use Rattle.changeset_model.specs.Changeset.{Changeset, id_of, touched_paths}
 use Rattle.history_model.specs.History.{Entry, Known, Landing, Land, with_id, is_known, known}
 use Rattle.history_model.specs.Chain.{first_parent, line_among, line, chain, changesets}
-use Rattle.history_model.specs.Tree.{decides, tree}
-use Rattle.history_model.specs.Pushrebase.{Fork, fork, fork_at}
+use Rattle.history_model.specs.Past.{Past, Begin, At, second_of, past_among, past, push}
+use Rattle.history_model.specs.Tree.{decides, tree, tree_of}
+use Rattle.history_model.specs.Pushrebase.{Fork, fork, fork_at, on_parent, rewrite, clash}
 use Rattle.history_model.specs.Journal.{Header}
-use Rattle.history_model.proofs.Trees.{tree-landed}
-use Rattle.history_model.proofs.Touched.{unchanged_since_root}
-use Rattle.repo_machine.proofs.LastThat.{last_that_passes}
+use Rattle.history_model.proofs.Pasts.{tree_of-push}
+use Rattle.history_model.proofs.Trees.{decides-rewrite, tree-rewrite}
+use Rattle.repo_machine.proofs.Lists.{last_that_passes}
+use Rattle.reply_model.specs.Reply.{is_merge}
 use Rattle.reply_model.specs.After.{entry_by}
 use Rattle.reply_model.specs.Legal.{IsLegal}
-use Rattle.reply_model.proofs.Parents.{known_reverse}
+use Rattle.reply_model.proofs.Parents.{known_left, known_reverse}
 use Rattle.manifest_model.proofs.Derivations.{or_case}
 use Rattle.history_model.proofs.Landings.{or_left, or_true as or_right}
-use Rattle.reply_model.proofs.Lines.{AreOnce, known_once}
+use Rattle.reply_model.proofs.Lines.{AreOnce, known_once, known_grows, line_grows, past_grows}
 use Rattle.reply_model.proofs.Landed.{chain_landed}
+use Rattle.repo_machine.proofs.Forks.{first_alone}
 use Rattle.repo_machine.specs.Landings.{IsLandable, IsLanding}
 use Rattle.changeset_store.proofs.Added.{alone_after}
 use Rattle.repo_machine.proofs.KnownLanding.{known-land}
+use Rattle.changeset_model.proofs.Rising.{from_rising}
+use Rattle.history_model.proofs.Clashes.{all_apart}
+use Rattle.history_model.proofs.Touched.{nothing_decides}
+
+pub untouched_by_range : (range stack : List Changeset) → clash (touched_paths stack) (touched_paths range) ≡ None → (p : Path) → Contains (touched_paths stack) p → list_any (λ c. decides c p) range ≡ false
+untouched_by_range range stack none p touched =
+    let apart = each_of (λ l. AllByRecursion (λ r. comparable l r ≡ false) (touched_paths range)) (touched_paths stack) p (all_apart (touched_paths stack) (touched_paths range) none) touched in
+    nothing_decides p range (from_rising (λ r. comparable p r ≡ false) (flat_map (λ c. map (λ e. e.0) c.changes) range) apart)
 
 -- ---- a line, from one of its members on
 
@@ -46,10 +58,19 @@ line_known : (js : List Known) (r x : Id) → is_known (line_among js x) r ≡ t
 line_known [] r x h = h
 line_known (k ∷ older) r x h = line_known_by k older x r (line_known older r) (bytes_eq k.id x) h
 
--- the line of the member ends it, and begins with the member
+-- none has a second parent
+abbrev AreInLine : List Known → Type 0
+AreInLine ks = AllByRecursion (λ k. second_of k.changeset.parents ≡ None) ks
+
+push_last : (base : Past) (ks : List Known) (k : Known) → push base (ks ++ k ∷ []) ≡ At k (push base ks) Begin
+push_last base [] k = refl
+push_last base (j ∷ ks) k = push_last (At j base Begin) ks k
+
+-- the line of the member ends it, and begins with the member. Where those before it are no merges, they stand on its past
 record Splits (js : List Known) (x r : Id) : Type 0 where
   before : List Known
   line_is : line_among js x ≡ before ++ line_among js r
+  past_is : AreInLine before → past_among js x ≡ push (past_among js r) (reverse before)
 
 abbrev SplitsAt : List Known → Id → Type 0
 SplitsAt js r = (x : Id) → is_known (line_among js x) r ≡ true → Splits js x r
@@ -57,19 +78,48 @@ SplitsAt js r = (x : Id) → is_known (line_among js x) r ≡ true → Splits js
 skip_first : (k : Known) (older : List Known) (x : Id) (b : Bool) → bytes_eq k.id x ≡ b → line_among (k ∷ older) x ≡ cond b (k ∷ tail older k) (line_among older x)
 skip_first k older x b e = ap (λ b. cond b (k ∷ tail older k) (line_among older x)) e
 
-tail_splits : (older : List Known) (r : Id) → SplitsAt older r → (o : Option Id) → is_known (option_map_or (line_among older) o []) r ≡ true → (before : List Known) × (option_map_or (line_among older) o [] ≡ before ++ line_among older r)
+abbrev past_on : List Known → Known → Past
+past_on older k = At k (option_map_or (past_among older) (first_parent k.changeset) Begin) (option_map_or (past_among older) (second_of k.changeset.parents) Begin)
+
+skip_past : (k : Known) (older : List Known) (x : Id) (b : Bool) → bytes_eq k.id x ≡ b → past_among (k ∷ older) x ≡ cond b (past_on older k) (past_among older x)
+skip_past k older x b e = ap (λ b. cond b (past_on older k) (past_among older x)) e
+
+record TailSplits (older : List Known) (r : Id) (o : Option Id) : Type 0 where
+  before : List Known
+  line_is : option_map_or (line_among older) o [] ≡ before ++ line_among older r
+  past_is : AreInLine before → option_map_or (past_among older) o Begin ≡ push (past_among older r) (reverse before)
+
+tail_splits : (older : List Known) (r : Id) → SplitsAt older r → (o : Option Id) → is_known (option_map_or (line_among older) o []) r ≡ true → TailSplits older r o
 tail_splits older r ih None h = absurd (true≢false (sym h))
-tail_splits older r ih (Some p) h = let s = ih p h in (s.before, s.line_is)
+tail_splits older r ih (Some p) h = let s = ih p h in record { before = s.before; line_is = s.line_is; past_is = s.past_is }
+
+-- one more on a past, of which there is no second parent
+past_with : (k : Known) (older before : List Known) (base : Past) → second_of k.changeset.parents ≡ None → option_map_or (past_among older) (first_parent k.changeset) Begin ≡ push base (reverse before) → past_on older k ≡ push base (reverse (k ∷ before))
+past_with k older before base none first =
+    (λ i. At k (first i) (option_map_or (past_among older) (none i) Begin))
+    ∙ sym (push_last base (reverse before) k) ∙ ap (push base) (sym (reverse-cons k before))
 
 splits_by : (k : Known) (older : List Known) (x r : Id) → (is_known older k.id ≡ true → ⊥) → SplitsAt older r → (b c : Bool) → bytes_eq k.id x ≡ b → bytes_eq k.id r ≡ c → is_known (cond b (k ∷ tail older k) (line_among older x)) r ≡ true → Splits (k ∷ older) x r
-splits_by k older x r once ih true true is_x is_r h = record { before = []; line_is = skip_first k older x true is_x ∙ sym (skip_first k older r true is_r) }
+splits_by k older x r once ih true true is_x is_r h = record {
+  before = [];
+  line_is = skip_first k older x true is_x ∙ sym (skip_first k older r true is_r);
+  past_is = λ all. skip_past k older x true is_x ∙ sym (skip_past k older r true is_r);
+}
 splits_by k older x r once ih true false is_x is_r h =
     let s = tail_splits older r ih (first_parent k.changeset) (or_case (bytes_eq k.id r) (is_known (tail older k) r) (λ e. absurd (true≢false (sym e ∙ is_r))) (λ e. e) h) in
-    record { before = k ∷ s.0; line_is = skip_first k older x true is_x ∙ ap (λ l. k ∷ l) (s.1 ∙ ap (λ (l : List Known). s.0 ++ l) (sym (skip_first k older r false is_r))) }
+    record {
+      before = k ∷ s.before;
+      line_is = skip_first k older x true is_x ∙ ap (λ l. k ∷ l) (s.line_is ∙ ap (λ (l : List Known). s.before ++ l) (sym (skip_first k older r false is_r)));
+      past_is = λ all. skip_past k older x true is_x ∙ past_with k older s.before (past_among older r) all.0 (s.past_is all.1) ∙ ap (λ base. push base (reverse (k ∷ s.before))) (sym (skip_past k older r false is_r));
+    }
 splits_by k older x r once ih false true is_x is_r h = absurd (once (ap (is_known older) ((bytes_eq-Decides k.id r).0 is_r) ∙ line_known older r x h))
 splits_by k older x r once ih false false is_x is_r h =
     let s = ih x h in
-    record { before = s.before; line_is = skip_first k older x false is_x ∙ s.line_is ∙ ap (λ (l : List Known). s.before ++ l) (sym (skip_first k older r false is_r)) }
+    record {
+      before = s.before;
+      line_is = skip_first k older x false is_x ∙ s.line_is ∙ ap (λ (l : List Known). s.before ++ l) (sym (skip_first k older r false is_r));
+      past_is = λ all. skip_past k older x false is_x ∙ s.past_is all ∙ ap (λ base. push base (reverse s.before)) (sym (skip_past k older r false is_r));
+    }
 
 splits : (js : List Known) → AreOnce js → (r : Id) → SplitsAt js r
 splits [] once r x h = absurd (true≢false (sym h))
@@ -123,25 +173,47 @@ drop_past (x ∷ xs) y ys = drop_past xs y ys
 after_first_at : (r : Id) (xs : List Known) (y : Known) (ys : List Known) → is_known xs r ≡ false → bytes_eq y.id r ≡ true → after_first (λ k. bytes_eq k.id r) (xs ++ y ∷ ys) ≡ ys
 after_first_at r xs y ys out here = ap (λ n. drop (n + 1) (xs ++ y ∷ ys)) (place_at r xs y ys out here) ∙ ap (λ n. drop n (xs ++ y ∷ ys)) (add-one (length xs)) ∙ drop_past xs y ys
 
+cancel : (xs ys zs : List Known) → xs ++ ys ≡ xs ++ zs → ys ≡ zs
+cancel [] ys zs e = e
+cancel (x ∷ xs) ys zs e = cancel xs ys zs cc
+
+-- a known one is in its own chain
+in_own_chain : (ks : List Known) → AreOnce (reverse ks) → (r : Id) → is_known (reverse ks) r ≡ true → is_known (chain ks r) r ≡ true
+in_own_chain ks once r there =
+    let b = begins (reverse ks) once r there in
+    known_reverse (line ks r) r ∙ ap (λ ks. is_known ks r) b.line_is ∙ or_left (bytes_eq b.first.id r) (is_known b.above r) b.id_is
+
 module _ (ks : List Known) (once : AreOnce (reverse ks)) (x r : Id) (member : is_known (chain ks x) r ≡ true) where
   in_line : is_known (line ks x) r ≡ true
   in_line = sym (known_reverse (line ks x) r) ∙ member
 
-  chain_split : chain ks x ≡ chain ks r ++ after_first (λ k. bytes_eq k.id r) (chain ks x)
-  chain_split =
-      let s = splits (reverse ks) once r x in_line in
+  split : Splits (reverse ks) x r
+  split = splits (reverse ks) once r x in_line
+
+  whole : chain ks x ≡ chain ks r ++ reverse split.before
+  whole = ap reverse split.line_is ∙ reverse-append split.before (line ks r)
+
+  -- what follows the member in the chain
+  after_is : after_first (λ k. bytes_eq k.id r) (chain ks x) ≡ reverse split.before
+  after_is =
       let b = begins (reverse ks) once r (line_known (reverse ks) r x in_line) in
       let root_chain : chain ks r ≡ reverse b.above ++ b.first ∷ [] = ap reverse b.line_is ∙ reverse-cons b.first b.above in
-      let whole : chain ks x ≡ chain ks r ++ reverse s.before = ap reverse s.line_is ∙ reverse-append s.before (line ks r) in
-      let placed : chain ks x ≡ reverse b.above ++ b.first ∷ reverse s.before = whole ∙ ap (λ (l : List Known). l ++ reverse s.before) root_chain ∙ append_assoc (reverse b.above) (b.first ∷ []) (reverse s.before) in
-      whole
-      ∙ ap (λ (l : List Known). chain ks r ++ l)
-      (sym (ap (after_first (λ k. bytes_eq k.id r)) placed ∙ after_first_at r (reverse b.above) b.first (reverse s.before) (known_reverse b.above r ∙ b.above_out) b.id_is))
+      let placed : chain ks x ≡ reverse b.above ++ b.first ∷ reverse split.before = whole ∙ ap (λ (l : List Known). l ++ reverse split.before) root_chain ∙ append_assoc (reverse b.above) (b.first ∷ []) (reverse split.before) in
+      ap (after_first (λ k. bytes_eq k.id r)) placed ∙ after_first_at r (reverse b.above) b.first (reverse split.before) (known_reverse b.above r ∙ b.above_out) b.id_is
+
+  past_over : (later : List Known) → reverse split.before ≡ later → AreInLine later → past ks x ≡ push (past ks r) later
+  past_over later is all =
+      let back : AreInLine (reverse (reverse split.before)) = all_reverse (λ k. second_of k.changeset.parents ≡ None) (reverse split.before) (subst AreInLine (sym is) all) in
+      split.past_is (subst AreInLine (reverse-reverse split.before) back) ∙ ap (push (past ks r)) is
+
+  pub past_split : AreInLine (after_first (λ k. bytes_eq k.id r) (chain ks x)) → past ks x ≡ push (past ks r) (after_first (λ k. bytes_eq k.id r) (chain ks x))
+  past_split all = past_over (after_first (λ k. bytes_eq k.id r) (chain ks x)) (sym after_is) all
+
+  -- what the chain has behind that of the member
+  pub past_before : (later : List Known) → chain ks x ≡ chain ks r ++ later → AreInLine later → past ks x ≡ push (past ks r) later
+  past_before later is all = past_over later (cancel (chain ks r) (reverse split.before) later (sym whole ∙ is)) all
 
 -- ---- a fork
-
-changesets-append : (ks js : List Known) → changesets (ks ++ js) ≡ changesets ks ++ changesets js
-changesets-append ks js = map-append (λ k. k.changeset) ks js
 
 changesets-with_id : (cs : List Changeset) → changesets (map with_id cs) ≡ cs
 changesets-with_id [] = refl
@@ -159,6 +231,20 @@ root_by ks old of_draft (Some root) f e is =
 
 has_root : (ks : List Known) (old draft : Id) (f : Fork) → fork ks old draft ≡ Some f → HasRoot ks old f
 has_root ks old draft f is = root_by ks old (chain ks draft) (last_that (λ k. is_known (chain ks old) k.id) (chain ks draft)) f refl is
+
+no_second : (ps : List Id) → length ps ≤ 1 → second_of ps ≡ None
+no_second [] few = refl
+no_second (p ∷ []) few = refl
+no_second (p ∷ q ∷ ps) few = absurd (omega arith)
+
+-- where no changeset of some has two parents
+in_line_of : (ks : List Known) → find is_merge (changesets ks) ≡ None → AreInLine ks
+in_line_of [] none = tt
+in_line_of (k ∷ ks) none = let first = first_alone k.changeset (changesets ks) none in (no_second k.changeset.parents first.0, in_line_of ks first.1)
+
+rewritten_in_line : (cs : List Changeset) (head : Id) (moment : ℕ) → AreInLine (map with_id (rewrite cs head moment))
+rewritten_in_line [] head moment = tt
+rewritten_in_line (c ∷ cs) head moment = (refl, rewritten_in_line cs (id_of (on_parent head moment c)) moment)
 
 -- ---- a landing
 
@@ -187,22 +273,41 @@ module _ (header : Header) (h : List Entry) (who : ℕ) (l : Landing) (caller na
       ∙ chain_landed header h who l last.0 (subst (IsLegal header) grows legal)
       (λ c k in_new in_known. alone_after (known h) l.new able.alone c k in_new (subst (λ ks. Contains ks k) (known-land h who l) in_known)) last.1
 
-  tree_now : (p : Path) → tree (changesets (chain (known after) last.0)) p ≡ cond (list_any (λ c. decides c p) able.fork_is.stack) (tree able.fork_is.stack p) (tree (changesets (chain (known h) l.old)) p)
-  tree_now p =
-      let of_head = changesets (chain (known h) l.old) in
-      ap (λ cs. tree cs p)
-      (ap changesets chain_now ∙ changesets-append (chain (known h) l.old) (map with_id l.new) ∙ ap (λ (cs : List Changeset). of_head ++ cs) (changesets-with_id l.new ∙ able.rewritten))
-      ∙ tree-landed of_head able.fork_is.stack l.old moment p
+  old_there : is_known (known after) l.old ≡ true
+  old_there = ap (λ ks. is_known ks l.old) known_now ∙ known_grows h (entry_by who (Land l) ∷ []) l.old able.old_known
 
-  tree_before : (p : Path) → Contains (touched_paths able.fork_is.stack) p → tree (changesets (chain (known h) l.old)) p ≡ tree (changesets (chain (known h) able.fork_is.root.id)) p
+  old_chain : chain (known after) l.old ≡ chain (known h) l.old
+  old_chain = ap (λ ks. chain ks l.old) known_now ∙ ap reverse (line_grows h (entry_by who (Land l) ∷ []) l.old able.old_known)
+
+  joined : chain (known after) last.0 ≡ chain (known after) l.old ++ map with_id l.new
+  joined = chain_now ∙ ap (λ (ks : List Known). ks ++ map with_id l.new) (sym old_chain)
+
+  -- the old head's past, and the new changesets on it
+  past_now : past (known after) last.0 ≡ push (past (known h) l.old) (map with_id l.new)
+  past_now =
+      let own = in_own_chain (known after) (known_once after) l.old (known_reverse (known after) l.old ∙ old_there) in
+      past_before (known after) (known_once after) last.0 l.old (ap (λ ks. is_known ks l.old) joined ∙ known_left (chain (known after) l.old) (map with_id l.new) l.old own)
+      (map with_id l.new) joined (subst (λ (n : List Changeset). AreInLine (map with_id n)) (sym able.rewritten) (rewritten_in_line able.fork_is.stack l.old moment))
+      ∙ ap (λ base. push base (map with_id l.new)) (ap (λ ks. past ks l.old) known_now ∙ past_grows h (entry_by who (Land l) ∷ []) l.old able.old_known)
+
+  -- the new changesets decide and set what the stack does
+  tree_now : (p : Path) → tree_of (past (known after) last.0) p ≡ cond (list_any (λ c. decides c p) able.fork_is.stack) (tree able.fork_is.stack p) (tree_of (past (known h) l.old) p)
+  tree_now p =
+      let new_is : changesets (map with_id l.new) ≡ rewrite able.fork_is.stack l.old moment = changesets-with_id l.new ∙ able.rewritten in
+      ap (λ base. tree_of base p) past_now
+      ∙ tree_of-push (past (known h) l.old) (map with_id l.new) p
+      ∙ ap (λ cs. cond (list_any (λ c. decides c p) cs) (tree cs p) (tree_of (past (known h) l.old) p)) new_is
+      ∙ (λ i. cond (decides-rewrite able.fork_is.stack l.old moment p i) (tree-rewrite able.fork_is.stack l.old moment p i) (tree_of (past (known h) l.old) p))
+
+  tree_before : (p : Path) → Contains (touched_paths able.fork_is.stack) p → tree_of (past (known h) l.old) p ≡ tree_of (past (known h) able.fork_is.root.id) p
   tree_before p touched =
       let root = has_root (known h) l.old draft able.fork_is able.forks in
-      let root_chain = chain (known h) able.fork_is.root.id in
-      ap (λ cs. tree cs p)
-      (ap changesets (chain_split (known h) (known_once h) l.old able.fork_is.root.id root.in_head)
-      ∙ changesets-append root_chain (after_first (λ k. bytes_eq k.id able.fork_is.root.id) (chain (known h) l.old))
-      ∙ ap (λ (cs : List Changeset). changesets root_chain ++ cs) (sym root.range_is))
-      ∙ unchanged_since_root (changesets root_chain) able.fork_is.range able.fork_is.stack able.apart p touched
+      let since = after_first (λ k. bytes_eq k.id able.fork_is.root.id) (chain (known h) l.old) in
+      let line : AreInLine since = in_line_of since (ap (find is_merge) (sym root.range_is) ∙ able.range_in_line) in
+      ap (λ base. tree_of base p) (past_split (known h) (known_once h) l.old able.fork_is.root.id root.in_head line)
+      ∙ tree_of-push (past (known h) able.fork_is.root.id) since p
+      ∙ ap (λ cs. cond (list_any (λ c. decides c p) cs) (tree cs p) (tree_of (past (known h) able.fork_is.root.id) p)) (sym root.range_is)
+      ∙ ap (λ b. cond b (tree able.fork_is.range p) (tree_of (past (known h) able.fork_is.root.id) p)) (untouched_by_range able.fork_is.range able.fork_is.stack able.apart p touched)
 
   pub lands : (old : Id) (ids : List Id) → old ≡ l.old → ids ≡ map id_of l.new → IsLanding (known h) (known after) old draft ids
   lands old ids same are = subst (λ old. IsLanding (known h) (known after) old draft ids) (sym same) (record {

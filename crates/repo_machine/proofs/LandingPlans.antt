@@ -22,9 +22,9 @@ use Rattle.repo_calls.specs.Refusing.{IsRefusal}
 use Rattle.repo_machine.specs.Landings.{IsLandingRefusal, forking, lengths_checked, merges_checked, policy_checked, paths_checked}
 use Rattle.changeset_store.proofs.KnownOnce.{is_known-once}
 use Rattle.repo_machine.proofs.Uploading.{known_as}
-use Rattle.repo_machine.proofs.Forks.{no_merges, stack_keeps}
-use Rattle.repo_machine.proofs.Putting.{legal_as}
-use Rattle.repo_machine.proofs.LandingSteps.{is_short, stack_in_line, range_in_line, none_refused, fork_refused, lengths_refused, policy_refused, paths_refused}
+use Rattle.repo_machine.proofs.Forks.{stack_keeps}
+use Rattle.repo_machine.proofs.Judging.{legal_as}
+use Rattle.repo_machine.proofs.LandingSteps.{is_short, stack_in_line, range_in_line, none_refused, fork_refused, lengths_refused, merges_refused, policy_refused, paths_refused}
 use Rattle.reply_model.proofs.Parents.{head_known as from_some}
 
 fork_some_by : (there : Bool) (draft : Id) (found : Option Fork) (f : Fork) → (refuse_if (not there) (reply.NoChangeset draft) >>= λ _. ok_or found reply.NoRoot) ≡ Ok f → found ≡ Some f
@@ -61,12 +61,17 @@ module _ {header : Header} {h : List Entry} {ks : List Known} {heads : List ℕ 
         lengths_refused_as e refusal moment =
             lengths_refused r.header r.history caller name draft moment up old at (fork_between (known r.history) f) forks_as e (subst (λ ks. IsRefusal (lengths_checked (fork_between ks f)) e) (known_as k r is) refusal)
 
-        module _ (short : lengths_checked (fork_between ks f) ≡ Ok tt) where
+        pub merges_refused_as : lengths_checked (fork_between ks f) ≡ Ok tt → (e : Refusal) → IsRefusal (merges_checked (fork_between ks f)) e → IsLandingRefusal r.header r.history caller name draft e
+        merges_refused_as short e refusal moment =
+            merges_refused r.header r.history caller name draft moment up old at (fork_between (known r.history) f) forks_as
+            (subst (λ ks. lengths_checked (fork_between ks f) ≡ Ok tt) (known_as k r is) short) e (subst (λ ks. IsRefusal (merges_checked (fork_between ks f)) e) (known_as k r is) refusal)
+
+        module _ (short : lengths_checked (fork_between ks f) ≡ Ok tt) (line : merges_checked (fork_between ks f) ≡ Ok tt) where
           short_as : lengths_checked (fork_between (known r.history) f) ≡ Ok tt
           short_as = subst (λ ks. lengths_checked (fork_between ks f) ≡ Ok tt) (known_as k r is) short
 
           in_line : merges_checked (fork_between (known r.history) f) ≡ Ok tt
-          in_line = no_merges r.header r.history (legal_as k r is) f
+          in_line = subst (λ ks. merges_checked (fork_between ks f) ≡ Ok tt) (known_as k r is) line
 
           pub policy_refused_as : (e : Refusal) → IsRefusal (policy_checked r.history caller (fork_between ks f)) e → IsLandingRefusal r.header r.history caller name draft e
           policy_refused_as e refusal moment =
@@ -100,6 +105,7 @@ module _ {header : Header} {h : List Entry} {ks : List Known} {heads : List ℕ 
               }
 
         -- the copy sources of the stack are kept on the head
-        pub stack_keeps_as : (stack : List Changeset) → stack ≡ (fork_between ks f).stack → KeepOnParents stack
-        stack_keeps_as stack stack_is =
-            subst KeepOnParents (sym (stack_is ∙ ap (λ ks. (fork_between ks f).stack) (known_as k r is))) (stack_keeps r.header r.history (legal_as k r is) f)
+        pub stack_keeps_as : merges_checked (fork_between ks f) ≡ Ok tt → (stack : List Changeset) → stack ≡ (fork_between ks f).stack → KeepOnParents stack
+        stack_keeps_as line stack stack_is =
+            subst KeepOnParents (sym (stack_is ∙ ap (λ ks. (fork_between ks f).stack) (known_as k r is)))
+            (stack_keeps r.header r.history (legal_as k r is) f (stack_in_line (fork_between (known r.history) f) (subst (λ ks. merges_checked (fork_between ks f) ≡ Ok tt) (known_as k r is) line)))

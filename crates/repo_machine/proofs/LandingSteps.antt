@@ -132,6 +132,16 @@ range_in_line f e = (line_by (find is_merge f.stack) (find is_merge f.range) e).
 pub in_line_again : (f : Fork) → find is_merge f.stack ≡ None → find is_merge f.range ≡ None → merges_checked f ≡ Ok tt
 in_line_again f stack range = (λ i. refuse_some (option_map id_of (stack i)) reply.MergeInStack >>= λ _. refuse_some (option_map id_of (range i)) reply.MergeInRange)
 
+-- the two checks, as they are made
+pub merge_in_stack : (f : Fork) (x : Id) → option_map id_of (find is_merge f.stack) ≡ Some x → IsRefusal (merges_checked f) (refusals.MergeInStack x)
+merge_in_stack f x some = inr (reply.MergeInStack x, ap (λ o. refuse_some o reply.MergeInStack >>= λ _. refuse_some (option_map id_of (find is_merge f.range)) reply.MergeInRange) some, refl)
+
+pub merge_in_range : (f : Fork) (x : Id) → option_map id_of (find is_merge f.stack) ≡ None → option_map id_of (find is_merge f.range) ≡ Some x → IsRefusal (merges_checked f) (refusals.MergeInRange x)
+merge_in_range f x none some = inr (reply.MergeInRange x, (λ i. refuse_some (none i) reply.MergeInStack >>= λ _. refuse_some (some i) reply.MergeInRange), refl)
+
+pub no_merge_in : (f : Fork) → option_map id_of (find is_merge f.stack) ≡ None → option_map id_of (find is_merge f.range) ≡ None → merges_checked f ≡ Ok tt
+no_merge_in f stack range = (λ i. refuse_some (stack i) reply.MergeInStack >>= λ _. refuse_some (range i) reply.MergeInRange)
+
 -- ---- the payload
 
 pub too_large : (l : model.Landing) (n : ℕ) → n ≡ payload_len (Land l) → most_payload < n → IsRefusal (payload_checked l) (refusals.TooLarge n)
@@ -208,9 +218,17 @@ module _ (header : Header) (h : List Entry) (caller name : List ℕ) (draft : Id
       lengths_refused refusal (inl memory) = inl memory
       lengths_refused refusal (inr (r, is, same)) = inr (r, judged_fork ∙ ap (λ x. x >>= λ _. after_lengths old f) is, same)
 
+      module _ (short : lengths_checked f ≡ Ok tt) where
+        judged_lengths : judge header h ask ≡ after_lengths old f
+        judged_lengths = judged_fork ∙ ap (λ x. x >>= λ _. after_lengths old f) short
+
+        pub merges_refused : (refusal : Refusal) → IsRefusal (merges_checked f) refusal → IsRefusal (judge header h ask) refusal
+        merges_refused refusal (inl memory) = inl memory
+        merges_refused refusal (inr (r, is, same)) = inr (r, judged_lengths ∙ ap (λ x. x >>= λ _. after_merges old f) is, same)
+
       module _ (short : lengths_checked f ≡ Ok tt) (in_line : merges_checked f ≡ Ok tt) where
         judged_merges : judge header h ask ≡ after_merges old f
-        judged_merges = judged_fork ∙ ap (λ x. x >>= λ _. after_lengths old f) short ∙ ap (λ x. x >>= λ _. after_merges old f) in_line
+        judged_merges = judged_lengths short ∙ ap (λ x. x >>= λ _. after_merges old f) in_line
 
         pub policy_refused : (refusal : Refusal) → IsRefusal (policy_checked h caller f) refusal → IsRefusal (judge header h ask) refusal
         policy_refused refusal (inl memory) = inl memory

@@ -1,14 +1,16 @@
 -- The least clash as more changesets are looked at.
-use Rattle.std.proofs.Common.{◌≡◌, ℕ, zero, suc, ◌+◌, ◌-◌, ◌*◌, ◌^◌, ◌<◌, ◌≤◌, ◌⊎◌, inl, inr, List, [], ◌∷◌, ◌++◌, take, map, length, refl, sym, ap, subst, ◌∙◌, arith, ⊎_elim, mul-add}
-use Rattle.std.specs.Prelude.{Option, None, Some, Contains, slice_index_or}
+use Rattle.std.proofs.Common.{◌≡◌, ℕ, zero, suc, Bool, true, false, ◌+◌, ◌-◌, ◌*◌, ◌^◌, ◌<◌, ◌≤◌, ◌⊎◌, inl, inr, List, [], ◌∷◌, ◌++◌, take, map, length, refl, sym, ap, subst, ◌∙◌, arith, ⊎_elim, mul-add}
+use Rattle.std.specs.Prelude.{Option, None, Some, Contains, slice_index_or, is_some, not}
+use mathlib.Core.Bool.{true≢false}
 use Rattle.std.proofs.lemmas.Bool.{cases_lt}
 use Rattle.std.proofs.lemmas.List.{length-append, length-map, append-nil, append_assoc, map_more, take_all}
 use Rattle.std.proofs.Math.Pow.{pow_mono}
-use Rattle.std.proofs.lemmas.Grind.{pow_more}
+use Rattle.std.proofs.lemmas.Grind.{pow_more, flat_map-append}
+use Rattle.std.proofs.Math.Nat.{mul-le-mul_left}
 use Rattle.bonsai.specs.declared.edit.Edit.{Edit}
 use Rattle.std.proofs.lemmas.List.Elements.{Contains-append_left, Contains-append_right, Contains-append_cases}
 use Rattle.byte_fields.proofs.Lists.{each_of}
-use Rattle.changeset_model.specs.Path.{Path}
+use Rattle.changeset_model.specs.Path.{Path, comparable}
 use Rattle.changeset_model.specs.Changeset.{Changeset}
 use Rattle.history_model.specs.History.{Known}
 use Rattle.changeset_store.specs.Store.{changeset_at}
@@ -16,6 +18,7 @@ use Rattle.changeset_store.specs.Fork.{IsAncestor, following_at}
 use Rattle.path_conflict.specs.Best.{IsBest}
 use Rattle.path_conflict.specs.declared.lesser.Met.{Met}
 use Rattle.repo_machine.specs.Clashes.{edited_paths}
+use Rattle.repo_machine.specs.Looked.{HasLooked}
 use Rattle.ancestry.proofs.Powers.{twice}
 
 -- ---- in any order
@@ -91,15 +94,6 @@ one_more digits before now then i first second = further digits before now then 
 
 -- ---- changesets, newest first
 
--- what was looked at from the last changeset down to this number
-pub record HasLooked (ks : List Known) (outer : List Path) (size ancestor last number : ℕ) (least : Option Met) (before now : ℕ) : Type 0 where
-  pub ancestor_is : IsAncestor ks ancestor number
-  pub looked : List Changeset
-  pub whole : following_at ks ancestor last ≡ following_at ks ancestor number ++ looked
-  pub best : IsBest outer (edited_paths looked) least
-  pub counted : before ≤ now
-  pub cost : (digits : ℕ) → size < 2 ^ digits → now ≤ before + (digits + 3) * length (edited_paths looked)
-
 pub none_looked : (ks : List Known) (outer : List Path) (size ancestor last before : ℕ) → IsAncestor ks ancestor last → HasLooked ks outer size ancestor last last None before before
 none_looked ks outer size ancestor last before is = record {
   ancestor_is = is;
@@ -133,5 +127,40 @@ looked_further ks outer size ancestor last number earlier least least' before no
           subst (λ n. then ≤ before + (digits + 3) * n) (sym long) (further (digits + 3) before now then (length (edited_paths h.looked)) (length edits) (h.cost digits fits) (cost digits fits));
     }
 
-pub looked_at_all : (ks : List Known) (outer : List Path) (size ancestor last number : ℕ) (least : Option Met) (before now : ℕ) (h : HasLooked ks outer size ancestor last number least before now) → following_at ks ancestor number ≡ [] → h.looked ≡ following_at ks ancestor last
-looked_at_all ks outer size ancestor last number least before now h none = sym (h.whole ∙ ap (λ cs. cs ++ h.looked) none)
+-- ---- the end of a search
+
+pub is_none_same : (o : Option Met) (b : Bool) → is_some o ≡ not b → b ≡ true → o ≡ None
+is_none_same None b is none = refl
+is_none_same (Some m) b is none = absurd (true≢false (is ∙ ap not none))
+
+pub none_follow : (ks : List Known) (outer : List Path) (ancestor number : ℕ) → following_at ks ancestor number ≡ [] → IsBest outer (edited_paths (following_at ks ancestor number)) None
+none_follow ks outer ancestor number none l r in_left in_right = absurd (each_of (λ _. ⊥) [] r tt (subst (λ cs. Contains (edited_paths cs) r) none in_right))
+
+edited_both : (xs ys : List Changeset) → edited_paths (xs ++ ys) ≡ edited_paths xs ++ edited_paths ys
+edited_both xs ys = flat_map-append (λ c. map (λ e. e.0) c.changes) xs ys
+
+module _ (ks : List Known) (outer : List Path) (size ancestor last number : ℕ) (least : Option Met) (before now : ℕ) (h : HasLooked ks outer size ancestor last number least before now) where
+  pub long_enough : length (edited_paths h.looked) ≤ length (edited_paths (following_at ks ancestor last))
+  long_enough =
+      let long = ap (λ cs. length (edited_paths cs)) h.whole ∙ ap length (edited_both (following_at ks ancestor number) h.looked) ∙ length-append (edited_paths (following_at ks ancestor number)) (edited_paths h.looked) in
+      omega arith
+
+  pub looked_cost : (digits : ℕ) → size < 2 ^ digits → now ≤ before + (digits + 3) * length (edited_paths (following_at ks ancestor last))
+  looked_cost digits fits =
+      let up = mul-le-mul_left (digits + 3) long_enough in
+      let cost = h.cost digits fits in
+      omega arith
+
+  -- where the rest is known to have none
+  pub none_left : least ≡ None → IsBest outer (edited_paths (following_at ks ancestor number)) None → IsBest outer (edited_paths (following_at ks ancestor last)) None
+  none_left is none l r in_left in_right =
+      by (Contains-append_cases (edited_paths (following_at ks ancestor number)) (edited_paths h.looked) r
+      (subst (λ ps. Contains ps r) (ap edited_paths h.whole ∙ edited_both (following_at ks ancestor number) h.looked) in_right))
+    where
+      by : Contains (edited_paths (following_at ks ancestor number)) r ⊎ Contains (edited_paths h.looked) r → comparable l r ≡ false
+      by (inl first) = none l r in_left first
+      by (inr then) = (let best : IsBest outer (edited_paths h.looked) None = subst (IsBest outer (edited_paths h.looked)) is h.best in best l r in_left then)
+
+  -- where nothing is left
+  pub best_of_all : following_at ks ancestor number ≡ [] → IsBest outer (edited_paths (following_at ks ancestor last)) least
+  best_of_all none = subst (λ cs. IsBest outer (edited_paths cs) least) (sym (h.whole ∙ ap (λ cs. cs ++ h.looked) none)) h.best

@@ -19,7 +19,7 @@ use Rattle.repo_machine.specs.Judged.{Frames}
 use Rattle.repo_machine.specs.Faults.{fault_refusal}
 use Rattle.repo_machine.specs.Prepared.{IsRefusedAs, IsReadyChangeset}
 use Rattle.repo_machine.proofs.Judging.{judged_long, refused_down}
-use Rattle.repo_machine.proofs.Putting.{are_bytes-from}
+use Rattle.repo_machine.proofs.Judging.{are_bytes-from}
 use Rattle.repo_machine.proofs.Uploading.{fault_refused}
 
 pub too_long : (bytes : List ℕ) (n : ℕ) → n ≡ length bytes → most_content < n → IsRefusedAs (PutContent bytes) (refusals.TooLong n)

@@ -89,7 +89,6 @@ denial_passes refusals.Down path rule same = absurd cc
 denial_passes (refusals.TooLong length) path rule same = absurd cc
 denial_passes (refusals.BadEncoding at) path rule same = absurd cc
 denial_passes (refusals.SelfConflict short long) path rule same = absurd cc
-denial_passes refusals.Merge path rule same = absurd cc
 denial_passes (refusals.BadParts length) path rule same = absurd cc
 denial_passes refusals.OldFormat path rule same = absurd cc
 denial_passes (refusals.NoPiece id) path rule same = absurd cc
@@ -192,6 +191,7 @@ module _ (header : Header) (h : List Entry) (r : RebasedLanding) (w : WasPlanned
             some = (let same = long in let some = plan_now.some in omega arith);
             few = (let same = long in let few = plan_now.few in omega arith);
             allowed = ap (denied_at h r.caller) (sym (touched_is ∙ plan_now.touched_is ∙ ap touched_paths plan_now.stack_is)) ∙ allowed;
+            range_in_line = plan_now.range_in_line;
             apart = plan_now.apart;
             alone = alone;
             judged = judged_entered;

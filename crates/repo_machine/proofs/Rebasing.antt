@@ -2,8 +2,8 @@
 --     is_recorded      it keeps what a rebased landing keeps ready
 --     told_fits      where the payload that tells no caller isn't too long, the length of the other has 32 bits
 --     has_frame      the length of its record, whether it tells who asked or not
-use Rattle.std.proofs.Common.{◌≡◌, ◌≤◌, ◌<◌, ◌+◌, ◌^◌, ℕ, Bool, true, false, cond, List, [], length, length-append, map, refl, sym, ap, subst, ◌∙◌, arith}
-use Rattle.std.specs.Prelude.{Option, None, Some, ◌&&◌, ◌==◌, not, nat_lt, position, take, is_none}
+use Rattle.std.proofs.Common.{◌≡◌, ◌≤◌, ◌<◌, ◌+◌, ◌^◌, ℕ, Bool, true, false, cond, List, [], length, length-append, map, refl, sym, ap, subst, ◌∙◌, arith, ◌∷◌, drop}
+use Rattle.std.specs.Prelude.{Option, None, Some, ◌&&◌, ◌==◌, not, nat_lt, position, take, is_none, ◌||◌, slice_index_or}
 use Rattle.std.specs.Option.{option_or}
 use Rattle.std.specs.Int.{w8}
 use Rattle.std.proofs.lemmas.Bool.{le-ltb, ltb-false}
@@ -21,6 +21,12 @@ use Rattle.repo_machine.specs.Plans.{PlannedLanding, RebasedLanding, rebased_of,
 use Rattle.repo_machine.specs.Recorded.{IsRecorded, telling}
 use Rattle.repo_calls.proofs.Fitting.{length-rewrite}
 use Rattle.repo_machine.proofs.MadeReady.{frame_length}
+use Rattle.std.specs.Arc.{arc_value}
+use Rattle.std.specs.declared.sync.Arc.{Arc}
+use Rattle.std.specs.List.{list_any}
+use Rattle.std.proofs.lemmas.List.{drop_more, drop_all}
+use Rattle.changeset_model.specs.Version.{is_second}
+use Rattle.changeset_store.specs.Shared.{values}
 
 abbrev landing_for : RebasedLanding → Option (List ℕ) → model.Body
 landing_for r caller = model.Land (landing_in r caller)
@@ -89,3 +95,19 @@ module _ (plan : PlannedLanding) (at : ℕ) (l : LandMade) (made : landing_made 
     told_is = told_is ∙ (λ i. payload_len (model.Land (telling (sym made i) (sym calls i))));
     frames = λ short. subst (λ (m : model.Landing). Frames (Some (model.Land m)) frame) (λ i. telling (sym made i) (sym calls i)) (frames short);
   }
+
+abbrev pub dates : List Changeset → Bool
+dates cs = list_any (λ c. is_second c.version) cs
+
+module _ {Z : Type 0} (stack : List (Arc Changeset Z)) (i : ℕ) where
+  next : (c : Arc Changeset Z) → i < length stack → c ≡ slice_index_or stack i c → dates (values (drop i stack)) ≡ (is_second (arc_value c).version || dates (values (drop (i + 1) stack)))
+  next c less is = ap (λ (left : List (Arc Changeset Z)). dates (values left)) (drop_more stack i c less ∙ ap (λ c. c ∷ drop (i + 1) stack) (sym is))
+
+  pub one_passed : (c : Arc Changeset Z) → i < length stack → c ≡ slice_index_or stack i c → is_second (arc_value c).version ≡ false → dates (values (drop i stack)) ≡ dates (values stack) → dates (values (drop (i + 1) stack)) ≡ dates (values stack)
+  one_passed c less is first so_far = sym (next c less is ∙ ap (λ b. b || dates (values (drop (i + 1) stack))) first) ∙ so_far
+
+  pub one_found : (c : Arc Changeset Z) (moment : ℕ) → i < length stack → c ≡ slice_index_or stack i c → is_second (arc_value c).version ≡ true → dates (values (drop i stack)) ≡ dates (values stack) → Some moment ≡ moment_of (values stack) moment
+  one_found c moment less is second so_far = sym (ap (λ b. cond b (Some moment) None) (sym so_far ∙ next c less is ∙ ap (λ b. b || dates (values (drop (i + 1) stack))) second))
+
+  pub none_at_all : (moment : ℕ) → length stack ≤ i → dates (values (drop i stack)) ≡ dates (values stack) → None ≡ moment_of (values stack) moment
+  none_at_all moment past so_far = sym (ap (λ b. cond b (Some moment) None) (sym so_far ∙ ap (λ (left : List (Arc Changeset Z)). dates (values left)) (drop_all i stack past)))

@@ -1,13 +1,15 @@
 -- A plan that is made again.
 use Rattle.std.proofs.Common.{◌≡◌, ℕ, Bool, true, false, List, ◌++◌, map, ◌⊎◌, refl, sym, ap, subst, ◌∙◌, ⊎_elim}
 use Rattle.std.specs.List.{after_first}
-use Rattle.std.specs.Prelude.{Option, None, Some, Contains, option_map, bytes_eq}
+use Rattle.std.specs.Prelude.{Option, None, Some, Contains, find, option_map, bytes_eq}
+use Rattle.std.specs.Option.{option_or}
+use Rattle.std.proofs.lemmas.List.Folds.{find-append}
 use mathlib.Core.List.{IsPrefix}
 use Rattle.std.proofs.lemmas.List.Elements.{Contains-append_right, Contains-append_cases}
 use Rattle.std.proofs.lemmas.Grind.{flat_map-append}
 use Rattle.byte_fields.specs.Bytes.{Id}
 use Rattle.changeset_model.specs.Path.{Path, comparable, rising, IsRising}
-use Rattle.changeset_model.specs.Changeset.{Changeset, touched_paths}
+use Rattle.changeset_model.specs.Changeset.{Changeset, id_of, touched_paths}
 use Rattle.changeset_model.proofs.Rising.{touched_paths_rise, Contains-rising, IsRising-rising}
 use Rattle.changeset_store.specs.declared.fork.Fork as store
 use Rattle.changeset_store.specs.Store.{number_in, known_at}
@@ -18,9 +20,9 @@ use Rattle.history_model.specs.Pushrebase.{Fork, fork, fork_at, clash, IsLeastCl
 use Rattle.history_model.proofs.Clashes.{clash_is_least, no_clash}
 use Rattle.path_conflict.proofs.Kept.{only_clash}
 use Rattle.reply_model.specs.Reply as reply
-use Rattle.reply_model.specs.Reply.{refuse_some}
+use Rattle.reply_model.specs.Reply.{◌>>=◌, refuse_some, is_merge}
 use Rattle.reply_model.proofs.Lines.{known_grows}
-use Rattle.repo_machine.specs.Landings.{paths_checked}
+use Rattle.repo_machine.specs.Landings.{merges_checked, paths_checked}
 use Rattle.repo_machine.specs.Clashes.{edited_paths, apart_checked}
 use Rattle.repo_machine.specs.Plans.{PlannedLanding, IsPlan}
 use Rattle.repo_machine.specs.Again.{WasPlan, since, GoesOn, IsPlannedHead}
@@ -125,6 +127,15 @@ module _ (h : List Entry) (ks : List Known) (known_are : ks ≡ known h) (plan :
 
   pub touched_again : plan.touched ≡ touched_paths (fork_between ks f).stack
   touched_again = w.planned.touched_is ∙ ap touched_paths stack_again
+
+  -- no merge was in the stack, nor in the range before
+  pub merges_again : merges_checked (fork_between ks f) ≡ refuse_some (option_map id_of (find is_merge (following_at ks n f.head))) reply.MergeInRange
+  merges_again =
+      let stack : find is_merge (fork_between ks f).stack ≡ None = ap (λ (f : Fork). find is_merge f.stack) (sym planned_fork) ∙ w.planned.stack_in_line in
+      let before : find is_merge (following_at ks f.root n) ≡ None = ap (λ (f : Fork). find is_merge f.range) (sym planned_fork) ∙ w.planned.range_in_line in
+      let range : find is_merge (fork_between ks f).range ≡ find is_merge (following_at ks n f.head) =
+      ap (find is_merge) p.goes_on ∙ find-append is_merge (following_at ks f.root n) (following_at ks n f.head) ∙ ap (λ o. option_or o (find is_merge (following_at ks n f.head))) before in
+      (λ i. refuse_some (option_map id_of (stack i)) reply.MergeInStack >>= λ _. refuse_some (option_map id_of (range i)) reply.MergeInRange)
 
   apart_before : clash plan.touched (rising (edited_paths (following_at ks f.root n))) ≡ None
   apart_before = ap (λ ps. clash ps (rising (edited_paths (following_at ks f.root n)))) touched_again ∙ ap (λ (f : Fork). clash (touched_paths f.stack) (touched_paths f.range)) (sym planned_fork) ∙ w.planned.apart

@@ -1,9 +1,9 @@
 -- What an upload is checked for.
 --     Checks result found      what a check returned is the refusal that is found, or that none is, unless memory ran out
---     parents_refusal ks c      that there are two parents, or one that isn't known
+--     parents_refusal ks ps      of these parents, the first that isn't known
 --     contents_refusal lengths es      of the contents that are set: the first that isn't stored, or that has another length
 --     collision_refusal ks c      that another changeset is known by its id
-use Rattle.std.specs.Prelude.{◌≡◌, ◌⊎◌, ℕ, not, nat_lt, if◌then◌else◌, List, length, find, Option, None, Some, option_map, Result, Ok, Err}
+use Rattle.std.specs.Prelude.{◌≡◌, ◌⊎◌, ℕ, not, if◌then◌else◌, List, find, Option, None, Some, option_map, Result, Ok, Err}
 use Rattle.byte_fields.specs.Bytes.{Id, first_some}
 use Rattle.changeset_model.specs.Path.{Path}
 use Rattle.changeset_model.specs.Changeset.{FileChange, Set, Delete, Changeset, id_of}
@@ -21,8 +21,8 @@ abbrev pub Checks : Result (Unit {0}) Refusal → Option reply.Refusal → Type 
 Checks (Ok done) found = found ≡ None
 Checks (Err e) found = IsFound e found
 
-abbrev pub parents_refusal : List Known → Changeset → Option reply.Refusal
-parents_refusal ks c = if nat_lt 1 (length c.parents) then Some reply.Merge else option_map reply.NoParent (find (λ p. not (is_known ks p)) c.parents)
+abbrev pub parents_refusal : List Known → List Id → Option reply.Refusal
+parents_refusal ks ps = option_map reply.NoParent (find (λ p. not (is_known ks p)) ps)
 
 abbrev pub edit_refusal : (Id → Option ℕ) → Path × FileChange → Option reply.Refusal
 edit_refusal lengths (p, Set f copied) = reply.content_refusal (p, f) (lengths f.content)

@@ -11,8 +11,8 @@ use Rattle.changeset_model.specs.Changeset.{Changeset, id_of, touched_paths}
 use Rattle.history_model.specs.History as model
 use Rattle.history_model.specs.History.{Known, Entry, Land, with_id, known, is_known}
 use Rattle.history_model.specs.Bookmark.{head}
-use Rattle.history_model.specs.Chain.{chain, changesets}
-use Rattle.history_model.specs.Tree.{decides, tree}
+use Rattle.history_model.specs.Past.{past}
+use Rattle.history_model.specs.Tree.{decides, tree, tree_of}
 use Rattle.history_model.specs.Pushrebase.{fork, clash, rewrite, moment_of}
 use Rattle.history_model.specs.Pushrebase as pushrebase
 use Rattle.history_model.specs.Journal.{Header, payload_len, most_payload}
@@ -74,6 +74,7 @@ pub record IsLandable (header : Header) (h : List Entry) (caller name : List ℕ
   pub some : 0 < length landing.new
   pub few : length landing.new ≤ most_stack
   pub allowed : denied_at h caller (touched_paths fork_is.stack) ≡ None
+  pub range_in_line : find is_merge fork_is.range ≡ None
   pub apart : clash (touched_paths fork_is.stack) (touched_paths fork_is.range) ≡ None
   pub alone : AreAlone (known h) landing.new
   pub judged : judge header h (LandDraft caller name draft moment) ≡ entered header h (reply.Landed landing.old (map id_of landing.new)) (Land landing)
@@ -84,11 +85,11 @@ pub record IsLanded (header : Header) (h : List Entry) (caller name : List ℕ) 
   pub made_is : judged.made ≡ Some (Land landing)
   pub granted_is : judged.granted ≡ reply.Landed landing.old (map id_of landing.new)
 
--- The new head's tree has what the stack sets where a member of it decides, and else what the old head's has. At each path that the stack touches the old head's tree has what the root's has.
+-- The new head's tree has what the stack sets where a member of it decides, and else what the old head's has. At each path that the stack touches the old head's tree has what the root's has. There may be merges in the pasts of the root, and so of the old head.
 pub record IsLanding (before after : List Known) (old draft : Id) (ids : List Id) : Type 0 where
   pub fork_is : pushrebase.Fork
   pub forks : fork before old draft ≡ Some fork_is
   pub new_head : Id
   pub new_head_is : last_of ids ≡ Some new_head
-  pub applied : (p : Path) → tree (changesets (chain after new_head)) p ≡ cond (list_any (λ c. decides c p) fork_is.stack) (tree fork_is.stack p) (tree (changesets (chain before old)) p)
-  pub unchanged : (p : Path) → Contains (touched_paths fork_is.stack) p → tree (changesets (chain before old)) p ≡ tree (changesets (chain before fork_is.root.id)) p
+  pub applied : (p : Path) → tree_of (past after new_head) p ≡ cond (list_any (λ c. decides c p) fork_is.stack) (tree fork_is.stack p) (tree_of (past before old) p)
+  pub unchanged : (p : Path) → Contains (touched_paths fork_is.stack) p → tree_of (past before old) p ≡ tree_of (past before fork_is.root.id) p

@@ -21,3 +21,5 @@ pub mod Asked
 pub mod Policies
 pub mod Wholes
 pub mod Found
+pub mod Touches
+pub mod Looked

@@ -109,7 +109,6 @@ PassesPlan refusals.Down = Unit {0}
 PassesPlan (refusals.TooLong length) = ⊥
 PassesPlan (refusals.BadEncoding at) = ⊥
 PassesPlan (refusals.SelfConflict short long) = ⊥
-PassesPlan refusals.Merge = ⊥
 PassesPlan (refusals.BadParts length) = ⊥
 PassesPlan refusals.OldFormat = ⊥
 PassesPlan (refusals.NoPiece id) = ⊥

@@ -1,5 +1,5 @@
 //! The paths that a stack touches, against those of the changesets that a head has since. No list of the latter is made.
-ghost use Rattle.std.specs.Prelude.{◌≡◌, ℕ, ◌+◌, ◌*◌, ◌^◌, ◌<◌, ◌≤◌, ◌++◌, List, length, map, IfOk};
+ghost use Rattle.std.specs.Prelude.{◌≡◌, ℕ, ◌+◌, ◌*◌, ◌^◌, ◌<◌, ◌≤◌, ◌++◌, [], List, length, map, IfOk};
 ghost use Rattle.changeset_model.specs.Path.{Path, IsRising};
 ghost use Rattle.changeset_model.specs.Changeset.{touched_paths};
 ghost use Rattle.changeset_store.specs.Fork.{IsAncestor, IsFork, following_at, fork_between};
@@ -8,7 +8,10 @@ ghost use Rattle.path_conflict.specs.Best.{IsBest};
 ghost use Rattle.repo_calls.specs.Refusing.{Gives};
 ghost use Rattle.repo_machine.specs.Landings.{paths_checked};
 ghost use Rattle.repo_machine.specs.Clashes.{edited_paths, apart_checked};
+ghost use Rattle.repo_machine.specs.Looked.{HasLooked};
+ghost use Rattle.repo_machine.specs.Touches.{Covers};
 
+use crate::touches::{earlier_from, may_clash_since};
 use ancestry::Steps;
 use bonsai::Edit;
 use changeset_store::{ChangesetStore, Fork};
@@ -18,6 +21,7 @@ use repo_calls::Refusal;
 use repo_path::RepoPath;
 use std::alloc::{AllocError, Global};
 use std::sync::ledger::Ledger;
+use touch_index::TouchIndex;
 
 /// The paths that the stack touches.
 pub(crate) fn touched_paths_of(
@@ -37,11 +41,13 @@ pub(crate) fn touched_paths_of(
 /// of two paths. There are at most three more than the binary digits of the number of these paths for each edit of the range.
 pub(crate) fn check_touched<L: Ledger>(
     store: &ChangesetStore,
+    touches: &TouchIndex,
     alloc: Global,
     touched: &[RepoPath],
     fork: &Fork,
     steps: &mut Steps<L>,
 ) -> Result<(), Refusal>
+    requires covers { Covers touches.now store.now.known }
     requires fork { IsFork store.now.known fork.now }
     requires touched { touched.now ≡ touched_paths (fork_between store.now.known fork.now).stack }
     ensures apart { Gives (λ done. done) (paths_checked (fork_between store.now.known fork.now)) result }
@@ -50,18 +56,28 @@ pub(crate) fn check_touched<L: Ledger>(
         steps.new ≤ steps.old + (digits + 3) * length (edited_paths f.range) }
 {
     let paths = borrowed(alloc, touched)?;
-    check_apart(store, alloc, paths.as_slice(), fork.root, fork.head, steps)
+    check_apart(
+        store,
+        touches,
+        alloc,
+        paths.as_slice(),
+        fork.root,
+        fork.head,
+        steps,
+    )
 }
 
 /// Refuses rising paths of which one clashes with a path that the changesets touch which follow an ancestor in a chain.
 pub(crate) fn check_apart<L: Ledger>(
     store: &ChangesetStore,
+    touches: &TouchIndex,
     alloc: Global,
     paths: &[&RepoPath],
     ancestor: u32,
     last: u32,
     steps: &mut Steps<L>,
 ) -> Result<(), Refusal>
+    requires covers { Covers touches.now store.now.known }
     requires rising { IsRising (paths_of paths.now) }
     requires ancestor { IsAncestor store.now.known ancestor last }
     ensures apart { Gives (λ done. done) (apart_checked (paths_of paths.now) (following_at store.now.known ancestor last)) result }
@@ -70,7 +86,15 @@ pub(crate) fn check_apart<L: Ledger>(
         steps.new ≤ steps.old + (digits + 3) * length (edited_paths (following_at store.now.known ancestor last)) }
 {
     let outer = outermost(alloc, paths)?;
-    match least_since(store, outer.as_slice(), ancestor, last, steps) {
+    match least_since(
+        store,
+        touches,
+        alloc,
+        outer.as_slice(),
+        ancestor,
+        last,
+        steps,
+    ) {
         Some(met) => {
             let left = outer[met.place].copy(alloc)?;
             let right = met.path.copy(alloc)?;
@@ -80,14 +104,18 @@ pub(crate) fn check_apart<L: Ledger>(
     }
 }
 
-// The least clash with the paths that the changesets touch which follow an ancestor. They are looked at newest first.
+// The least clash with the paths that the changesets touch which follow an ancestor. Those that aren't indexed are looked at, and
+// then the others, if the index doesn't rule them all out.
 fn least_since<'a, L: Ledger>(
     store: &'a ChangesetStore,
+    touches: &TouchIndex,
+    alloc: Global,
     outer: &[&RepoPath],
     ancestor: u32,
     last: u32,
     steps: &mut Steps<L>,
 ) -> Option<Met<'a>>
+    requires covers { Covers touches.now store.now.known }
     requires ancestor { IsAncestor store.now.known ancestor last }
     requires rising { IsRising (paths_of outer.now) }
     requires apart { AreApart (paths_of outer.now) }
@@ -96,14 +124,53 @@ fn least_since<'a, L: Ledger>(
     ensures cost { (digits : ℕ) → length outer.now < 2 ^ digits →
         steps.new ≤ steps.old + (digits + 3) * length (edited_paths (following_at store.now.known ancestor last)) }
 {
-    let mut least = None;
-    let mut number = last;
-    'range: while let Some(earlier) = store.previous(ancestor, number) {
+    let none = Seen {
+        least: None,
+        number: last,
+    };
+    let late = seen_down_to(store, outer, ancestor, none, touches.indexed(), steps);
+    if late.least.is_none()
+        && !may_clash_since(store, touches, alloc, outer, ancestor, late.number)
+    {
+        return None;
+    }
+    seen_down_to(store, outer, ancestor, late, 0, steps).least
+}
+
+// What was looked at in a chain: the least clash with it, and the number of the changeset that comes next.
+#[derive(Clone, Copy)]
+struct Seen<'a> {
+    least: Option<Met<'a>>,
+    number: u32,
+}
+
+// Looks further, newest first, at what follows an ancestor, but at no changeset below a number.
+fn seen_down_to<'a, L: Ledger>(
+    store: &'a ChangesetStore,
+    outer: &[&RepoPath],
+    ancestor: u32,
+    seen: Seen<'a>,
+    from: u32,
+    steps: &mut Steps<L>,
+) -> Seen<'a>
+    requires ancestor { IsAncestor store.now.known ancestor seen.number }
+    requires rising { IsRising (paths_of outer.now) }
+    requires apart { AreApart (paths_of outer.now) }
+    ensures looked { (last before : ℕ) → HasLooked store.now.known (paths_of outer.now) (length outer.now) ancestor last seen.entry.number seen.entry.least before steps.old →
+        HasLooked store.now.known (paths_of outer.now) (length outer.now) ancestor last result.number result.least before steps.new }
+    ensures ancestor { IsAncestor store.now.known ancestor result.number }
+    ensures down { from ≤ result.number → following_at store.now.known ancestor result.number ≡ [] }
+{
+    let Seen {
+        mut least,
+        mut number,
+    } = seen;
+    'range: while let Some(earlier) = earlier_from(store, ancestor, number, from) {
         let edits = store.at(number).changeset().edits();
         least = least_with(outer, least, edits, steps);
         number = earlier;
     }
-    least
+    Seen { least, number }
 }
 
 // The least clash with what was looked at so far and the paths of some edits.

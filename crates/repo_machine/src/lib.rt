@@ -29,6 +29,7 @@ pub mod reads;
 pub mod rebased;
 mod records;
 pub mod seats;
+mod touches;
 pub mod uploads;
 pub mod wholes;
 
@@ -38,5 +39,5 @@ pub use found::{Found, Joined};
 pub use judged::Judged;
 pub use machine::Machine;
 pub use plan::Plan;
-pub use prepared::{Prepared, prepare};
+pub use prepared::{Prepared, Wanted, prepare};
 pub use rebased::Rebased;

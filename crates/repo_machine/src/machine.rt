@@ -18,6 +18,7 @@ use std::alloc::Global;
 use std::collections::BTreeMap;
 use std::hash::RandomState;
 use std::marker::Model;
+use touch_index::TouchIndex;
 
 /// The bytes of an empty journal: a header of 16 and the closing gate.
 pub(crate) const EMPTY_SIZE: u64 = 17;
@@ -35,6 +36,8 @@ pub struct Machine {
     pub(crate) kept: Vec<usize>,
     pub(crate) contents: ContentTable,
     pub(crate) changesets: ChangesetStore,
+    // What of them touches which paths. It may lack the last of them.
+    pub(crate) touches: TouchIndex,
     // Each bookmark that was ever named, with its head if it has one.
     pub(crate) heads: BTreeMap<BookName, Option<Id>>,
     // The policy that is held.
@@ -59,6 +62,7 @@ impl Model for Machine {
     ghost use Rattle.repo_machine.specs.Records.{history_of, kept_from, IsWithin};
     ghost use Rattle.repo_machine.specs.Indexes.{AreIndexes, AreAt, AreJoined};
     ghost use Rattle.repo_machine.specs.Policies.{IsHeld};
+    ghost use Rattle.repo_machine.specs.Touches.{Covers};
 
     ghost view = { λ m. record {
       header = record { capacity = m.capacity; version = version_view m.version };
@@ -79,7 +83,8 @@ impl Model for Machine {
         AreAt (history_of m.changesets.known m.entries.items) (places m.contents) ×
         (m.kept.items ≡ kept_from 0 m.entries.items) ×
         IsHeld (history_of m.changesets.known m.entries.items) m.held ×
-        AreJoined (history_of m.changesets.known m.entries.items) (joined m.contents) };
+        AreJoined (history_of m.changesets.known m.entries.items) (joined m.contents) ×
+        Covers m.touches m.changesets.known };
 }
 
 impl Machine {
@@ -99,6 +104,7 @@ impl Machine {
             kept: Vec::new(alloc),
             contents: ContentTable::new(alloc, keys),
             changesets: ChangesetStore::new(alloc, keys),
+            touches: TouchIndex::new(alloc, keys),
             heads: BTreeMap::new(alloc),
             held: None,
         }

@@ -10,7 +10,7 @@ ghost use Rattle.history_model.specs.Pushrebase.{Fork as Parted, fork as parting
 ghost use Rattle.reply_model.specs.Legal.{IsLegal};
 ghost use Rattle.repo_machine.specs.Clashes.{edited_paths};
 ghost use Rattle.repo_calls.specs.Refusing.{Gives};
-ghost use Rattle.repo_machine.specs.Landings.{IsLandingRefusal, forking, lengths_checked};
+ghost use Rattle.repo_machine.specs.Landings.{IsLandingRefusal, forking, lengths_checked, merges_checked};
 ghost use Rattle.repo_machine.specs.Plans.{IsPlan, IsAllowed};
 
 use crate::clashes::{check_touched, touched_paths_of};
@@ -105,9 +105,17 @@ impl Machine {
         };
         let fork = fork_from(&self.changesets, &old, &draft)?;
         check_lengths(&self.changesets, &fork)?;
+        check_merges(&self.changesets, &fork)?;
         let touched = touched_paths_of(&self.changesets, alloc, &fork)?;
         check_landing(self.rules(), alloc, caller, touched.as_slice())?;
-        check_touched(&self.changesets, alloc, touched.as_slice(), &fork, steps)?;
+        check_touched(
+            &self.changesets,
+            &self.touches,
+            alloc,
+            touched.as_slice(),
+            &fork,
+            steps,
+        )?;
         let stack = self.changesets.shared_stack(alloc, &fork)?;
         let touched = Arc::new(alloc, touched)?;
         let caller = caller.copy(alloc)?;
@@ -179,4 +187,18 @@ pub(crate) fn check_lengths(store: &ChangesetStore, fork: &Fork) -> Result<(), R
         return Err(Refusal::StackTooLong { count });
     }
     Ok(())
+}
+
+// Refuses a stack, and then a range, in which a changeset has two parents.
+fn check_merges(store: &ChangesetStore, fork: &Fork) -> Result<(), Refusal>
+    requires { IsFork store.now.known fork.now }
+    ensures { Gives (λ done. done) (merges_checked (fork_between store.now.known fork.now)) result }
+{
+    if let Some(id) = store.merge_in_stack(fork) {
+        return Err(Refusal::MergeInStack { id });
+    }
+    match store.merge_in_range(fork) {
+        Some(id) => Err(Refusal::MergeInRange { id }),
+        None => Ok(()),
+    }
 }

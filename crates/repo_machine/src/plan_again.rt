@@ -1,18 +1,21 @@
 //! Plans of landings that are made again, once the bookmark has another head.
-ghost use Rattle.std.specs.Prelude.{◌≡◌, ℕ, ◌+◌, ◌*◌, ◌^◌, ◌<◌, ◌≤◌, [], true, false, length, Some, IfOk, IfErr, IfSome, IfNone, OnOk};
+ghost use Rattle.std.specs.Prelude.{◌≡◌, ℕ, ◌+◌, ◌*◌, ◌^◌, ◌<◌, ◌≤◌, [], true, false, length, find, Some, option_map, IfOk, IfErr, IfSome, IfNone, OnOk};
 ghost use Rattle.byte_fields.specs.Bytes.{Id as ModelId};
 ghost use Rattle.changeset_model.specs.Path.{IsRising};
+ghost use Rattle.changeset_model.specs.Changeset.{id_of};
 ghost use Rattle.changeset_store.specs.Store.{number_in, known_at};
 ghost use Rattle.changeset_store.specs.Fork.{IsAncestor, IsFork, following_at, fork_between};
 ghost use Rattle.history_model.specs.Bookmark.{head as head_of};
 ghost use Rattle.history_model.specs.History.{is_known, is_down, known};
 ghost use Rattle.history_model.specs.Pushrebase.{fork as parting};
 ghost use Rattle.reply_model.specs.Legal.{IsLegal};
+ghost use Rattle.reply_model.specs.Reply.{MergeInRange, is_merge, refuse_some};
 ghost use Rattle.repo_machine.specs.Again.{WasPlan, since, GoesOn, IsPlannedHead};
 ghost use Rattle.repo_machine.specs.Clashes.{edited_paths, apart_checked};
 ghost use Rattle.repo_calls.specs.Refusing.{Gives};
 ghost use Rattle.repo_machine.specs.Landings.{IsLandingRefusal};
 ghost use Rattle.repo_machine.specs.Plans.{IsPlan, IsAllowed};
+ghost use Rattle.repo_machine.specs.Touches.{Covers};
 
 use crate::clashes::{borrowed, check_apart};
 use crate::machine::Machine;
@@ -24,6 +27,7 @@ use object_id::Id;
 use repo_calls::Refusal;
 use std::alloc::Global;
 use std::sync::ledger::Ledger;
+use touch_index::TouchIndex;
 
 impl Machine {
     /// Plans a landing again, as it would be planned now. Where the bookmark's head went on from the planned one, and the
@@ -57,8 +61,17 @@ impl Machine {
             return self.plan_counted(alloc, &plan.caller, &plan.name, plan.draft, steps);
         };
         check_lengths(&self.changesets, &fork)?;
+        check_new_merges(&self.changesets, planned, fork.head)?;
         check_landing(self.rules(), alloc, &plan.caller, plan.touched.as_slice())?;
-        check_new(&self.changesets, alloc, &plan, planned, fork.head, steps)?;
+        check_new(
+            &self.changesets,
+            &self.touches,
+            alloc,
+            &plan,
+            planned,
+            fork.head,
+            steps,
+        )?;
         Ok(plan.on(head))
     }
 }
@@ -84,15 +97,28 @@ fn planned_head(store: &ChangesetStore, plan: &Plan, fork: &Fork) -> Option<u32>
     Some(planned.head)
 }
 
+// Refuses a merge among the changesets that follow the planned head. There was none before it, and none in the stack.
+fn check_new_merges(store: &ChangesetStore, planned: u32, head: u32) -> Result<(), Refusal>
+    requires { IsAncestor store.now.known planned head }
+    ensures { Gives (λ done. done) (refuse_some (option_map id_of (find is_merge (following_at store.now.known planned head))) MergeInRange) result }
+{
+    match store.oldest_merge(planned, head) {
+        Some(id) => Err(Refusal::MergeInRange { id }),
+        None => Ok(()),
+    }
+}
+
 // Refuses a plan of which a path clashes with one that the changesets touch which follow the planned head.
 fn check_new<L: Ledger>(
     store: &ChangesetStore,
+    touches: &TouchIndex,
     alloc: Global,
     plan: &Plan,
     planned: u32,
     head: u32,
     steps: &mut Steps<L>,
 ) -> Result<(), Refusal>
+    requires covers { Covers touches.now store.now.known }
     requires rising { IsRising plan.now.touched }
     requires ancestor { IsAncestor store.now.known planned head }
     ensures apart { Gives (λ done. done) (apart_checked plan.now.touched (following_at store.now.known planned head)) result }
@@ -101,7 +127,15 @@ fn check_new<L: Ledger>(
         steps.new ≤ steps.old + (digits + 3) * length (edited_paths (following_at store.now.known planned head)) }
 {
     let paths = borrowed(alloc, plan.touched.as_slice())?;
-    check_apart(store, alloc, paths.as_slice(), planned, head, steps)
+    check_apart(
+        store,
+        touches,
+        alloc,
+        paths.as_slice(),
+        planned,
+        head,
+        steps,
+    )
 }
 
 impl Plan {

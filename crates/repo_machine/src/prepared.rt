@@ -12,7 +12,7 @@ ghost use Rattle.reply_model.specs.After.{Asks, Joins};
 ghost use Rattle.reply_model.specs.Legal.{IsLegal};
 ghost use Rattle.repo_calls.specs.Calls.{call_seen};
 ghost use Rattle.repo_machine.specs.Asked.{JudgesCall, RefusesCall};
-ghost use Rattle.repo_machine.specs.Found.{IsFound};
+ghost use Rattle.repo_machine.specs.Found.{IsFound, IsWanted, IsWantedBy, IsWantedOf};
 ghost use Rattle.repo_machine.specs.Faults.{fault_refusal};
 ghost use Rattle.repo_machine.specs.Judged.{Frames};
 ghost use Rattle.repo_machine.specs.Prepared.{IsPrepared, IsPreparedFor, IsReadyChangeset, IsReadyTo, asked_by};
@@ -57,24 +57,60 @@ pub struct Prepared<'a> {
     pub(crate) ready: Ready,
 }
 
+/// What is to be found for a change before it is judged.
+#[derive(Clone, Copy)]
+pub enum Wanted<'a> {
+    /// Nothing: at each history it may be judged without.
+    Nothing,
+    /// The bytes of contents, one behind another. These are the contents' ids, so too.
+    Joined(&'a [u8]),
+    /// The least path that a changeset with two parents leaves unresolved. Nothing while one of them isn't known.
+    Unresolved(&'a Commit),
+}
+
 impl Prepared<'_> {
-    /// The ids of contents that are to be joined, one behind another. None of each other change.
-    pub fn joins(&self) -> Option<&[u8]>
-        ensures joins { IfSome result (λ body. asked_by self.now ≡ Joins body.now) }
-        ensures bytes { IfSome result (λ body. are_bytes body.now ≡ true) }
-        // Nothing need be found for each other change.
-        ensures none { IfNone result ((header : Header) (h : List Entry) → IsFound header h self.now Found.Nothing) }
+    /// What is to be found for it.
+    pub fn wants(&self) -> Wanted<'_>
+        ensures { IsWanted self.now result }
     {
         match *self.ask {
             Ask::PutWhole(body) => {
                 keep_bytes(body);
-                Some(body)
+                Wanted::Joined(body)
             }
             Ask::PutContent(_)
             | Ask::PutChangeset(_)
             | Ask::SetBookmark { .. }
             | Ask::Land { .. }
-            | Ask::SetPolicy { .. } => None,
+            | Ask::SetPolicy { .. } => self.ready.wants(),
+        }
+    }
+}
+
+impl Ready {
+    // What is to be found for what isn't joined.
+    fn wants(&self) -> Wanted<'_>
+        ensures { IsWantedBy self.now result }
+    {
+        match self {
+            Ready::Changeset(framed) => framed.wants(),
+            Ready::Refused(_) | Ready::Content { .. } | Ready::Policy(_) | Ready::Asked => {
+                Wanted::Nothing
+            }
+        }
+    }
+}
+
+impl FramedChangeset {
+    // What is to be found for it.
+    fn wants(&self) -> Wanted<'_>
+        ensures { IsWantedOf (arc_value self.now.commit) result }
+    {
+        let commit: &Commit = &self.commit;
+        if commit.changeset().parents().len() > 1 {
+            Wanted::Unresolved(commit)
+        } else {
+            Wanted::Nothing
         }
     }
 }
@@ -107,12 +143,12 @@ impl Machine {
             },
             Ask::PutChangeset(_) => match ready {
                 Ready::Refused(refusal) => self.refuse(refusal),
-                Ready::Changeset(framed) => self.judge_changeset(alloc, who, framed),
+                Ready::Changeset(framed) => self.judge_changeset(alloc, who, framed, found.left()),
                 _ => unreachable!(),
             },
             Ask::PutWhole(_) => match found {
                 Found::Joined(whole) => self.judge_whole(alloc, who, whole),
-                Found::Nothing => unreachable!(),
+                Found::Nothing | Found::Unresolved(_) => unreachable!(),
             },
             Ask::SetBookmark {
                 caller,

@@ -1,9 +1,9 @@
 -- What is so where a landing is granted.
 use Rattle.std.proofs.Common.{◌≡◌, ℕ, ◌<◌, ◌≤◌, not, List, map, length, refl, ap, arith}
-use Rattle.std.specs.Prelude.{None, Some, option_map, find, Result, Ok, Err, nat_lt, ok_or, ◌==◌}
+use Rattle.std.specs.Prelude.{Option, None, Some, option_map, find, Result, Ok, Err, nat_lt, ok_or, ◌==◌}
 use Rattle.std.proofs.lemmas.Bool.{eqb-false}
 use Rattle.byte_fields.specs.Bytes.{Id}
-use Rattle.changeset_model.specs.Changeset.{id_of, touched_paths}
+use Rattle.changeset_model.specs.Changeset.{Changeset, id_of, touched_paths}
 use Rattle.history_model.specs.History as model
 use Rattle.history_model.specs.History.{Entry, Land, is_down, known, is_known}
 use Rattle.history_model.specs.Bookmark.{head}
@@ -27,6 +27,10 @@ through P (Err e) f all = record { said = tt }
 is_some : (n : ℕ) (e : Refusal) (u : Unit {0}) → refuse_if (n == 0) e ≡ Ok u → 0 < n
 is_some n e u h = let apart : n ≡ 0 → ⊥ = eqb-false n 0 (not_refused (n == 0) e u h) in omega (arith, apart)
 
+none_mapped : (o : Option Changeset) → option_map id_of o ≡ None → o ≡ None
+none_mapped None e = refl
+none_mapped (Some c) e = absurd cc
+
 abbrev pub landing_of : List Entry → List ℕ → List ℕ → Id → Id → ℕ → Fork → model.Landing
 landing_of h caller name old draft moment f = record { name = name; old = old; draft = draft; new = rewrite f.stack old moment; moment = moment_of f.stack moment; caller = told h caller }
 
@@ -41,6 +45,7 @@ pub record IsGranted (header : Header) (h : List Entry) (caller name : List ℕ)
   pub some : 0 < length fork_is.stack
   pub few : length fork_is.stack ≤ most_stack
   pub allowed : denied_at h caller (touched_paths fork_is.stack) ≡ None
+  pub range_in_line : find is_merge fork_is.range ≡ None
   pub apart : clash (touched_paths fork_is.stack) (touched_paths fork_is.range) ≡ None
   pub alone : first_collision (known h) (rewrite fork_is.stack old moment) ≡ None
   pub judged_is : judged ≡ record { granted = granted_of (landing_of h caller name old draft moment fork_is); made = Some (Land (landing_of h caller name old draft moment fork_is)) }
@@ -56,7 +61,7 @@ land_says header h caller name draft moment =
     through P (refuse_if (length f.stack == 0) AlreadyIn) _ (λ u c.
     through P (refuse_if (nat_lt most_stack (length f.stack)) (StackTooLong (length f.stack))) _ (λ v d.
     through P (refuse_some (option_map id_of (find is_merge f.stack)) MergeInStack) _ (λ _ _.
-    through P (refuse_some (option_map id_of (find is_merge f.range)) MergeInRange) _ (λ _ _.
+    through P (refuse_some (option_map id_of (find is_merge f.range)) MergeInRange) _ (λ z m.
     through P (refuse_some (denied_at h caller (touched_paths f.stack)) denial) _ (λ y k.
     through P (refuse_some (clash (touched_paths f.stack) (touched_paths f.range)) (λ pair. Clash pair.0 pair.1)) _ (λ w e.
     let l = landing_of h caller name old draft moment f in
@@ -72,6 +77,7 @@ land_says header h caller name draft moment =
         some = is_some (length f.stack) AlreadyIn u c;
         few = at_most most_stack (length f.stack) (StackTooLong (length f.stack)) v d;
         allowed = was_none (denied_at h caller (touched_paths f.stack)) denial y k;
+        range_in_line = none_mapped (find is_merge f.range) (was_none (option_map id_of (find is_merge f.range)) MergeInRange z m);
         apart = was_none (clash (touched_paths f.stack) (touched_paths f.range)) (λ pair. Clash pair.0 pair.1) w e;
         alone = was_none (first_collision (known h) (rewrite f.stack old moment)) Collision x g;
         judged_is = refl;

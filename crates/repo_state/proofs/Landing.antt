@@ -55,6 +55,7 @@ module _ (header : Header) (h : List Entry) (who : ℕ) (caller name : List ℕ)
     some = (let long = length-rewrite g.fork_is.stack g.old moment in let some = g.some in omega arith);
     few = (let long = length-rewrite g.fork_is.stack g.old moment in let few = g.few in omega arith);
     allowed = g.allowed;
+    range_in_line = g.range_in_line;
     apart = g.apart;
     alone = all_alone (known h) landing.new (known_rules header h both.0) (weaker _ KeepsRules (λ c u. u.keeps) landing.new (uploadable_of_next header h (Land landing) both.0 refl both.1)) g.alone;
     judged = is ∙ sym g.is_entered;

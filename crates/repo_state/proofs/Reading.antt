@@ -1,14 +1,10 @@
 -- Reads of manifests, and their derivation a changeset at a time.
-use Rattle.std.proofs.Common.{◌≡◌, ◌≢◌, ℕ, zero, suc, ◌+◌, ◌<◌, ◌≤◌, Bool, true, false, cond, ◌&&◌, not, ◌==◌, List, [], ◌∷◌, ◌++◌, length, reverse, refl, sym, ap, subst, ◌∙◌, arith}
-use Rattle.std.specs.Prelude.{Option, None, Some, is_some, IfSome, Result, Ok, Err}
+use Rattle.std.proofs.Common.{◌≡◌, ℕ, Bool, true, false, not, ◌==◌, List, length, reverse, refl, sym, ap, subst, ◌∙◌}
+use Rattle.std.specs.Prelude.{Option, None, Some, IfSome, Result, Ok, Err}
 use Rattle.std.specs.Borrow.{Bor}
-use Rattle.std.specs.FinMap as map
-use Rattle.std.specs.List.{list_any}
 use Rattle.std.specs.Option.{option_map_or}
 use mathlib.Core.Bool.{true≢false}
-use Rattle.std.proofs.lemmas.Bool.{or_left, eqb-true, eq-eqb}
 use Rattle.std.proofs.lemmas.List.{reverse-reverse}
-use Rattle.std.proofs.lemmas.List.Folds.{list_any-append}
 use Rattle.std.proofs.lemmas.Option.{same_Some}
 use Rattle.byte_fields.specs.Bytes.{Id}
 use Rattle.changeset_model.specs.Path.{Path}
@@ -21,111 +17,31 @@ use Rattle.reply_model.specs.Reply as reply
 use Rattle.reply_model.specs.Reply.{Seen, SeenBytes, SeenIds, Absent, AbsentChangeset, present, refuse_if, ◌>>=◌, Question, FsnodeOf, UnodeOf, HistoryOf, PathLogOf, DeletedOf, Sees}
 use Rattle.reply_model.specs.After as answers
 use Rattle.reply_model.specs.After.{Answers, AsksManifest, Looks, Derives, nothing}
-use Rattle.node_table.specs.Table.{Table, is_settled, with_nodes, settled_with}
+use Rattle.node_table.specs.Table.{Table, is_settled}
 use Rattle.node_table.specs.declared.roots.Roots.{Roots}
 use Rattle.node_table.specs.declared.fault.TableFault.{TableFault}
 use Rattle.node_table.specs.declared.fault.TableFault.TheVariants as tables
 use Rattle.changeset_store.specs.Store.{number_in, known_at}
+use Rattle.changeset_store.specs.Pasts.{past_at}
 use Rattle.changeset_store.proofs.Numbering.{has_id, number_is}
 use Rattle.derive_step.specs.declared.job.Job.{Job}
-use Rattle.derive_step.specs.declared.done.Done.{Done}
-use Rattle.derive_step.specs.Jobs.{IsJobOf, IsDoneOf, roots_on}
+use Rattle.derive_step.specs.Pasts.{roots_of}
 use Rattle.manifest_store.specs.declared.fault.ManifestFault.{ManifestFault}
 use Rattle.manifest_store.specs.declared.fault.ManifestFault.TheVariants as reads
-use Rattle.manifest_store.specs.Jobs.{IsJobOn, IsDoneOn, IsNextJob, is_ready, settled_by}
-use Rattle.manifest_store.specs.Lines.{line_at}
+use Rattle.manifest_store.specs.Jobs.{IsNextJob}
 use Rattle.manifest_store.specs.Manifests.{AreManifests}
 use Rattle.manifest_store.specs.Reads.{IsAbsence, dir_of, fsnode_by, unode_by, history_by, deleted_by, path_log_by, fsnode_at, unode_at, history_at, deleted_at, path_log_at}
 use Rattle.manifest_store.specs.Settling.{IsCollision}
 use Rattle.manifest_store.proofs.Answered.{answered}
-use Rattle.manifest_store.proofs.Lines.{itself}
 use Rattle.repo_calls.specs.declared.calls.AskFault.{AskFault}
 use Rattle.repo_calls.specs.declared.calls.AskFault.TheVariants as asked
 use Rattle.repo_calls.specs.Asking.{fault_answer, place_of}
-use Rattle.repo_state.proofs.Known.{known_apart}
-use Rattle.repo_state.specs.Manifests.{IsNextOf, StaySettled, is_settled_id, manifest_fault, table_fault}
+use Rattle.settled_merge.proofs.Known.{known_apart}
+use Rattle.settled_merge.proofs.Deriving.{itself}
+pub use Rattle.settled_merge.proofs.Deriving.{Derived, done_known, done_right}
+use Rattle.repo_state.specs.Manifests.{IsNextOf, is_settled_id, manifest_fault, table_fault}
 
--- ---- how much isn't settled
-
-abbrev pub weight : Table → ℕ → ℕ
-weight t n = cond (is_settled t n) 0 1
-
-abbrev pub missing : Table → ℕ → ℕ
-missing t zero = 0
-missing t (suc n) = weight t n + missing t n
-
-fewer_one : (a b : Bool) → (a ≡ true → b ≡ true) → cond b 0 1 ≤ cond a 0 1
-fewer_one true true h = omega arith
-fewer_one true false h = absurd (true≢false (sym (h refl)))
-fewer_one false true h = omega arith
-fewer_one false false h = omega arith
-
-not_more : (t u : Table) (n : ℕ) → StaySettled t u → missing u n ≤ missing t n
-not_more t u zero stay = omega arith
-not_more t u (suc n) stay =
-    let one = fewer_one (is_settled t n) (is_settled u n) (stay n) in
-    let rest = not_more t u n stay in
-    omega (arith, one, rest)
-
-pub fewer : (t u : Table) (n k : ℕ) → StaySettled t u → k < n → is_settled t k ≡ false → is_settled u k ≡ true → missing u n < missing t n
-fewer t u zero k stay less was now = absurd (omega arith)
-fewer t u (suc n) k stay less was now = by (λ below. fewer t u n k stay below was now) (n == k) refl
-  where
-    by : (k < n → missing u n < missing t n) → (b : Bool) → (n == k) ≡ b → missing u (suc n) < missing t (suc n)
-    by rest true e =
-        let same = eqb-true n k e in
-        let was_last : weight t n ≡ 1 = ap (λ b. cond {A = ℕ} b 0 1) (ap (is_settled t) same ∙ was) in
-        let now_last : weight u n ≡ 0 = ap (λ b. cond {A = ℕ} b 0 1) (ap (is_settled u) same ∙ now) in
-        let below = not_more t u n stay in
-        omega (arith, was_last, now_last, below)
-    by rest false e =
-        let other : n ≢ k = λ same. true≢false (sym (eq-eqb n k same) ∙ e) in
-        let one = fewer_one (is_settled t n) (is_settled u n) (stay n) in
-        let below = rest (omega (arith, other)) in
-        omega (arith, one, below)
-
--- ---- a derivation
-
-module _ (ks : List Known) (t : Table) (n : ℕ) (job : Job) (next : IsNextJob ks t n job) (done : Done) (is : (c : Known) (older : List Known) → IsJobOf c older job → IsDoneOf c older job done) where
-  both : (l : List Known) → IsJobOn l job → (done.number ≡ job.number) × IsDoneOn l done
-  both [] on = absurd on
-  both (c ∷ older) on = let d = is c older on in (d.number, (job, d))
-
-  pub same_changeset : done.number ≡ job.number
-  same_changeset = (both (line_at ks job.number) next.is_job).0
-
-  pub done_known : done.number < length ks
-  done_known = let known = next.in_chain.above_known in let same = same_changeset in omega (arith, known, same)
-
-  pub done_right : IsDoneOn (line_at ks done.number) done
-  done_right = subst (λ m. IsDoneOn (line_at ks m) done) (sym same_changeset) (both (line_at ks job.number) next.is_job).1
-
-  pub done_ready : is_ready ks t done.number ≡ true
-  done_ready = ap (is_ready ks t) same_changeset ∙ next.ready
-
--- what is ready isn't settled
-pub unsettled : (ks : List Known) (t : Table) (n : ℕ) → is_ready ks t n ≡ true → is_settled t n ≡ false
-unsettled ks t n ready = by (is_settled t n) _ ready
-  where
-    by : (a b : Bool) → (not a && b) ≡ true → a ≡ false
-    by true b h = absurd (true≢false (sym h))
-    by false b h = refl
-
-stay_with : (t : Table) (done : Done) → StaySettled t (settled_with t done.number done.roots done.nodes.items)
-stay_with t done n h = by (is_some (map.get t.roots done.number))
-  where
-    by : (b : Bool) → is_settled (cond b t (record { nodes = with_nodes t.nodes done.nodes.items; roots = map.insert t.roots done.number done.roots; settled = t.settled ++ done.number ∷ [] })) n ≡ true
-    by true = h
-    by false = list_any-append (λ s. s == n) t.settled (done.number ∷ []) ∙ or_left (is_settled t n) (list_any (λ s. s == n) (done.number ∷ [])) h
-
-pub stay_by : (ks : List Known) (t : Table) (done : Done) → StaySettled t (settled_by ks t done)
-stay_by ks t done n h = by (is_ready ks t done.number)
-  where
-    by : (b : Bool) → is_settled (cond b (settled_with t done.number done.roots done.nodes.items) t) n ≡ true
-    by true = stay_with t done n h
-    by false = h
-
--- ---- the chain of a changeset is settled
+-- ---- the past of a changeset is settled
 
 pub found_id : (h : List Entry) (x : Id) (n : ℕ) → number_in (known h) x ≡ Some n → (known_at (known h) n).id ≡ x
 found_id h x n e =
@@ -133,21 +49,21 @@ found_id h x n e =
     let among = sym (number_is newest (known_apart h) x) ∙ ap (λ ks. number_in ks x) (reverse-reverse (known h)) ∙ e in
     subst (λ ks. (known_at ks n).id ≡ x) (reverse-reverse (known h)) (subst (λ o. IfSome o (λ n. (known_at (reverse newest) n).id ≡ x)) among (has_id newest x))
 
-pub chain_settled : (ks : List Known) (t : Table) (x : Id) (n : ℕ) → AreManifests ks t → IsNextOf ks t x None → number_in ks x ≡ Some n → is_settled t n ≡ true
-chain_settled ks t x n are next e =
-    subst (λ n. is_settled t n ≡ true) (same_Some next.number n (sym next.numbered ∙ e)) (next.is_next next.number (itself ks are.store next.number next.below))
+pub past_settled : (ks : List Known) (t : Table) (x : Id) (n : ℕ) → AreManifests ks t → IsNextOf ks t x None → number_in ks x ≡ Some n → is_settled t n ≡ true
+past_settled ks t x n are next e =
+    subst (λ n. is_settled t n ≡ true) (same_Some next.number n (sym next.numbered ∙ e)) (next.is_next next.number (itself ks next.number next.below))
 
--- a chain with no next job has its changeset settled
+-- a past with no next job has its changeset settled
 pub none_is_settled : (ks : List Known) (t : Table) (x : Id) → AreManifests ks t → IsNextOf ks t x None → is_settled_id ks t x ≡ true
-none_is_settled ks t x are next = ap (λ o. option_map_or (is_settled t) o false) next.numbered ∙ chain_settled ks t x next.number are next next.numbered
+none_is_settled ks t x are next = ap (λ o. option_map_or (is_settled t) o false) next.numbered ∙ past_settled ks t x next.number are next next.numbered
 
 -- ---- its roots
 
 -- the roots in the table, where some are there
-pub roots_told : (header : Header) (h : List Entry) (x : Id) (t : Table) → AreManifests (known h) t → (n : ℕ) → number_in (known h) x ≡ Some n → (o : Option Roots) → ((ks : List Known) → AreManifests ks t → IfSome o (λ r. Some r ≡ roots_on (line_at ks n)))
+pub roots_told : (header : Header) (h : List Entry) (x : Id) (t : Table) → AreManifests (known h) t → (n : ℕ) → number_in (known h) x ≡ Some n → (o : Option Roots) → ((ks : List Known) → AreManifests ks t → IfSome o (λ r. Some r ≡ roots_of (past_at ks n)))
     → IfSome o (λ r. Answers header h (Derives x) (answers.Roots r.fsnode r.unode r.deleted) nothing)
 roots_told header h x t are n numbered None told = tt
-roots_told header h x t are n numbered (Some r) told = answered header h x n r are.store.one_parent numbered (told (known h) are)
+roots_told header h x t are n numbered (Some r) told = answered header h x n r numbered (told (known h) are)
 
 -- ---- what is read
 
@@ -301,10 +217,3 @@ collided header h x tables.Memory c = refl
 
 pub next_of : (ks : List Known) (t : Table) (x : Id) (o : Option Job) (job : Job) → IsNextOf ks t x o → o ≡ Some job → (n : ℕ) × IsNextJob ks t n job
 next_of ks t x o job next e = let is = subst (IsNextOf ks t x) e next in (is.number, is.is_next)
-
-pub stay_settled : (ks : List Known) (t u : Table) (done : Done) → u ≡ settled_by ks t done → StaySettled t u
-stay_settled ks t u done e n h = subst (λ u. is_settled u n ≡ true) (sym e) (stay_by ks t done n h)
-
-pub fewer_missing : (ks : List Known) (t u : Table) (n : ℕ) (job : Job) (next : IsNextJob ks t n job) (done : Done) (is : (c : Known) (older : List Known) → IsJobOf c older job → IsDoneOf c older job done) → u ≡ settled_by ks t done → is_settled u done.number ≡ true → missing u (length ks) < missing t (length ks)
-fewer_missing ks t u n job next done is e now =
-    fewer t u (length ks) done.number (stay_settled ks t u done e) (done_known ks t n job next done is) (unsettled ks t done.number (done_ready ks t n job next done is)) now

@@ -5,19 +5,16 @@ use Rattle.std.specs.List.{AllByRecursion}
 use Rattle.std.specs.Option.{option_map_or, option_or}
 use Rattle.std.specs.FinMap as map
 use mathlib.Core.Bool.{true≢false}
-use Rattle.std.proofs.lemmas.Bool.{or_left, or_right, eqb-true, eq-eqb, false_from_ne_true}
+use Rattle.std.proofs.lemmas.Bool.{and_parts, or_left, or_right, eqb-true, eq-eqb, false_from_ne_true}
 use Rattle.std.proofs.lemmas.List.{append-nil, length-append}
 use Rattle.std.proofs.lemmas.List.Folds.{list_any-append}
 use Rattle.std.proofs.lemmas.Option.{same_Some}
 use Rattle.std.proofs.lemmas.Slice.Eq.{bytes_eq-Decides}
 use Rattle.byte_fields.specs.Bytes.{Id}
 use Rattle.history_model.specs.History.{Entry, Known, known}
-use Rattle.history_model.specs.Chain.{line}
-use Rattle.history_model.specs.Past.{Begin, At, HaveOneParent, past, past_on}
-use Rattle.history_model.proofs.Pasts.{past_is_its_line}
+use Rattle.history_model.specs.Past.{At}
 use Rattle.history_model.specs.Journal.{Header}
-use Rattle.manifest_model.specs.Manifests.{manifests_on, nodes_in, nodes_of}
-use Rattle.manifest_model.proofs.Merging.{manifests_of-line}
+use Rattle.manifest_model.specs.Manifests.{manifests_in, nodes_in, nodes_of}
 use Rattle.reply_model.specs.Legal.{IsLegal}
 use Rattle.reply_model.proofs.Lines.{known-append}
 use Rattle.core_model.specs.Core.{State, Step, Settle, opened, after_steps}
@@ -31,26 +28,24 @@ use Rattle.landing_core.proofs.Leaving.{steps_leave, shows_left}
 use Rattle.node_table.specs.Table.{Table, Has, is_settled, with_nodes, settled_with, empty_table}
 use Rattle.node_table.specs.declared.fault.TableFault.{TableFault}
 use Rattle.node_table.specs.declared.fault.TableFault.TheVariants as tables
-use Rattle.changeset_store.specs.Store.{number_in, known_at, parent_at}
+use Rattle.changeset_store.specs.Store.{number_in, known_at, parent_at, second_parent_at}
+use Rattle.changeset_store.specs.Pasts.{past_at, past_at_some}
 use Rattle.changeset_store.proofs.Places.{number_in-push}
 use Rattle.derive_step.specs.declared.job.Job.{Job}
 use Rattle.derive_step.specs.declared.done.Done.{Done}
-use Rattle.derive_step.specs.Jobs.{all_nodes_on}
+use Rattle.derive_step.specs.Pasts.{all_nodes_of}
 use Rattle.manifest_store.specs.Jobs.{IsNext, is_ready, settled_by}
-use Rattle.manifest_store.specs.Lines.{line_at}
 use Rattle.manifest_store.specs.Manifests.{AreManifests}
 use Rattle.manifest_store.specs.Settling.{IsNodeBeside, IsCollisionBeside}
-use Rattle.manifest_store.proofs.Lines.{its_number, line_step, parent_in}
-use Rattle.manifest_store.proofs.Settled.{node_of}
+use Rattle.manifest_store.proofs.Lines.{its_number, parent_in, second_parent_in}
+use Rattle.manifest_store.proofs.Pasts.{past_step}
 use Rattle.repo_state.specs.Cores.{settled_id, ShowsTable, id_at, TakesJob, SettlesSo}
-use Rattle.repo_state.proofs.Reading.{found_id, unsettled}
+use Rattle.settled_merge.proofs.Deriving.{unsettled}
+use Rattle.repo_state.proofs.Reading.{found_id}
 
 module _ (h : List Entry) (t : Table) (a : AreManifests (known h) t) where
   abbrev ks : List Known
   ks = known h
-
-  lines : HaveOneParent ks
-  lines = a.store.one_parent
 
   -- ---- numbers and ids
 
@@ -59,58 +54,51 @@ module _ (h : List Entry) (t : Table) (a : AreManifests (known h) t) where
 
   -- ---- what is ready
 
-  -- the changesets behind one
-  abbrev older : ℕ → List Known
-  older n = option_map_or (line_at ks) (parent_at ks n) []
+  parent_settled : (o : Option ℕ) → ((p : ℕ) → o ≡ Some p → p < length ks) → is_past_settled (settled_id ks t) (past_at_some ks o) ≡ option_map_or (is_settled t) o true
+  parent_settled None inside = refl
+  parent_settled (Some p) inside = let less = inside p refl in ap (is_past_settled (settled_id ks t)) (past_step ks a.store p less) ∙ settled_is p less
 
-  past_step : (n : ℕ) → n < length ks → past ks (id_at ks n) ≡ At (known_at ks n) (past_on (older n)) Begin
-  past_step n less = past_is_its_line ks (id_at ks n) lines ∙ ap past_on (line_step ks a.store n less)
+  first_is : (n : ℕ) → is_past_settled (settled_id ks t) (past_at_some ks (parent_at ks n)) ≡ option_map_or (is_settled t) (parent_at ks n) true
+  first_is n = parent_settled (parent_at ks n) (parent_in ks a.store n)
 
-  older_settled : (n : ℕ) → is_past_settled (settled_id ks t) (past_on (older n)) ≡ option_map_or (is_settled t) (parent_at ks n) true
-  older_settled n = by (parent_at ks n) refl
-    where
-      by : (o : Option ℕ) → parent_at ks n ≡ o → is_past_settled (settled_id ks t) (past_on (option_map_or (line_at ks) o [])) ≡ option_map_or (is_settled t) o true
-      by None e = refl
-      by (Some p) e = let less = parent_in ks a.store n p e in ap (λ l. is_past_settled (settled_id ks t) (past_on l)) (line_step ks a.store p less) ∙ settled_is p less
-
-  second : (b c : Bool) → (b && c) ≡ true → c ≡ true
-  second true c e = e
-  second false c e = absurd (true≢false (sym e))
+  second_is : (n : ℕ) → is_past_settled (settled_id ks t) (past_at_some ks (second_parent_at ks n)) ≡ option_map_or (is_settled t) (second_parent_at ks n) true
+  second_is n = parent_settled (second_parent_at ks n) (second_parent_in ks a.store n)
 
   ready_there : (n : ℕ) → n < length ks → is_ready ks t n ≡ true → IsReady ks (settled_id ks t) (id_at ks n)
-  ready_there n less ready = record {
-    unsettled = settled_is n less ∙ unsettled ks t n ready;
-    here = known_at ks n;
-    first = past_on (older n);
-    second = Begin;
-    past_is = past_step n less;
-    first_settled = older_settled n ∙ second (not (is_settled t n)) (option_map_or (is_settled t) (parent_at ks n) true) ready;
-    second_settled = refl;
-  }
+  ready_there n less ready =
+      let parents = and_parts (not (is_settled t n)) (option_map_or (is_settled t) (parent_at ks n) true && option_map_or (is_settled t) (second_parent_at ks n) true) ready in
+      let each = and_parts (option_map_or (is_settled t) (parent_at ks n) true) (option_map_or (is_settled t) (second_parent_at ks n) true) parents.1 in
+      record {
+        unsettled = settled_is n less ∙ unsettled ks t n ready;
+        here = known_at ks n;
+        first = past_at_some ks (parent_at ks n);
+        second = past_at_some ks (second_parent_at ks n);
+        past_is = past_step ks a.store n less;
+        first_settled = first_is n ∙ each.0;
+        second_settled = second_is n ∙ each.1;
+      }
 
   ready_here : (n : ℕ) → n < length ks → IsReady ks (settled_id ks t) (id_at ks n) → is_ready ks t n ≡ true
   ready_here n less ready =
-      let same : At ready.here ready.first ready.second ≡ At (known_at ks n) (past_on (older n)) Begin = sym ready.past_is ∙ past_step n less in
-      let behind : ready.first ≡ past_on (older n) = cc in
-      let parent = sym (older_settled n) ∙ ap (is_past_settled (settled_id ks t)) (sym behind) ∙ ready.first_settled in
-      (λ i. not ((sym (settled_is n less) ∙ ready.unsettled) i) && parent i)
+      let same : At ready.here ready.first ready.second ≡ At (known_at ks n) (past_at_some ks (parent_at ks n)) (past_at_some ks (second_parent_at ks n)) = sym ready.past_is ∙ past_step ks a.store n less in
+      let first_same : ready.first ≡ past_at_some ks (parent_at ks n) = cc in
+      let second_same : ready.second ≡ past_at_some ks (second_parent_at ks n) = cc in
+      let first = sym (first_is n) ∙ ap (is_past_settled (settled_id ks t)) (sym first_same) ∙ ready.first_settled in
+      let second = sym (second_is n) ∙ ap (is_past_settled (settled_id ks t)) (sym second_same) ∙ ready.second_settled in
+      (λ i. not ((sym (settled_is n less) ∙ ready.unsettled) i) && (first i && second i))
 
   -- ---- the next job
 
   pub takes : (header : Header) (sealed : ℕ) → IsLegal header h → (n : ℕ) (next : Option Job) → IsNext ks t n next → TakesJob header h sealed t next
   takes header sealed legal n None next = tt
   takes header sealed legal n (Some job) next = λ s shows rows.
-      take_goes header h sealed (settled_id ks t) (id_at ks job.number) s legal (ready_there job.number next.in_chain.above_known next.ready) shows rows
+      take_goes header h sealed (settled_id ks t) (id_at ks job.number) s legal (ready_there job.number next.reached.known next.ready) shows rows
 
   -- ---- nodes
 
-  -- a node that the definitions give is one of the line's
-  on_line : (l rest : List Known) (c : Known) (y : Id) (bytes : List ℕ) → l ≡ c ∷ rest → Contains (nodes_in (manifests_on y l)) bytes → Contains (all_nodes_on l) bytes
-  on_line [] rest c y bytes e h = absurd (none e)
-    where
-      none : {c : Known} {cs : List Known} → [] ≡ c ∷ cs → ⊥
-      none e = absurd cc
-  on_line (k ∷ older) rest c y bytes e h = h
+  -- all nodes of a changeset, and those that the definitions give
+  same_nodes : (n : ℕ) → n < length ks → all_nodes_of (past_at ks n) ≡ nodes_of ks (id_at ks n)
+  same_nodes n less = ap all_nodes_of (past_step ks a.store n less) ∙ ap (λ q. nodes_in (manifests_in (id_at ks n) q)) (sym (past_step ks a.store n less))
 
   settled_number : (o : Option ℕ) → option_map_or (is_settled t) o false ≡ true → (j : ℕ) × (o ≡ Some j) × (is_settled t j ≡ true)
   settled_number None e = absurd (true≢false (sym e))
@@ -122,24 +110,23 @@ module _ (h : List Entry) (t : Table) (a : AreManifests (known h) t) where
       let at = settled_number (number_in ks y) settled in
       let here = found_id h y at.0 at.1 in
       a.held at.0 at.2 bytes
-      (on_line (line_at ks at.0) _ (known_at ks at.0) y bytes (line_step ks a.store at.0 (a.numbered at.0 at.2))
-      (subst (λ z. Contains (nodes_in (manifests_on y (line ks z))) bytes) (sym here) (subst (λ m. Contains (nodes_in m) bytes) (manifests_of-line ks y lines) c)))
+      (subst (λ ns. Contains ns bytes) (sym (same_nodes at.0 (a.numbered at.0 at.2))) (subst (λ z. Contains (nodes_of ks z) bytes) (sym here) c))
 
   -- ---- a collision
 
-  as_node : (n : ℕ) (bytes : List ℕ) → Contains (all_nodes_on (line_at ks n)) bytes → Contains (nodes_of ks (id_at ks n)) bytes
-  as_node n bytes c = subst (λ m. Contains (nodes_in m) bytes) (sym (manifests_of-line ks (id_at ks n) lines)) (node_of (line_at ks n) (id_at ks n) bytes c)
+  as_node : (n : ℕ) → n < length ks → (bytes : List ℕ) → Contains (all_nodes_of (past_at ks n)) bytes → Contains (nodes_of ks (id_at ks n)) bytes
+  as_node n less bytes c = subst (λ ns. Contains ns bytes) (same_nodes n less) c
 
   beside : (n : ℕ) → n < length ks → (bytes : List ℕ) → IsNodeBeside ks t n bytes → IsNodeWith ks (settled_id ks t) (id_at ks n) bytes
   beside n less bytes (inl of) = (
     id_at ks of.0,
     or_left (settled_id ks t (id_at ks of.0)) (bytes_eq (id_at ks n) (id_at ks of.0)) (settled_is of.0 (a.numbered of.0 of.1) ∙ of.1),
-    as_node of.0 bytes of.2,
+    as_node of.0 (a.numbered of.0 of.1) bytes of.2,
   )
   beside n less bytes (inr c) = (
     id_at ks n,
     or_right (settled_id ks t (id_at ks n)) (bytes_eq (id_at ks n) (id_at ks n)) (same_id (id_at ks n)),
-    as_node n bytes c,
+    as_node n less bytes c,
   )
 
   -- nothing is put in

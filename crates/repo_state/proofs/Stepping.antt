@@ -62,7 +62,6 @@ some_refusal refusals.Down p = (reply.Down, refl)
 some_refusal (refusals.TooLong n) p = absurd p
 some_refusal (refusals.BadEncoding at) p = absurd p
 some_refusal (refusals.SelfConflict short long) p = absurd p
-some_refusal refusals.Merge p = absurd p
 some_refusal (refusals.BadParts n) p = absurd p
 some_refusal refusals.OldFormat p = absurd p
 some_refusal (refusals.NoPiece x) p = absurd p

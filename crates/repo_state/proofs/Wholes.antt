@@ -2,11 +2,15 @@
 use Rattle.std.proofs.Common.{◌≡◌, ℕ, zero, suc, false, List, [], ◌∷◌, drop, refl, sym, ap, subst, ◌∙◌}
 use Rattle.std.specs.Prelude.{IsTrue, Option, None, Some, Ok}
 use Rattle.std.specs.List.{AllByRecursion}
+use mathlib.Core.Bool.{true≢false}
 use Rattle.disk_model.specs.Meaning.{Meaning}
-use Rattle.history_model.specs.History.{Body, Entry, bodies, is_down}
+use Rattle.changeset_model.specs.Path.{Path}
+use Rattle.changeset_model.specs.Changeset.{Changeset}
+use Rattle.history_model.specs.History.{Body, Entry, bodies, is_down, known}
 use Rattle.history_model.specs.Journal.{Header, HoldsParts, size}
 use Rattle.opening_laws.proofs.Made.{MakesEach, Fitting, MadeBy, judge_makes}
-use Rattle.reply_model.specs.Reply.{Ask, PutContent, PutWhole, PutChangeset, SetBookmark, LandDraft, SetPolicy, Granted, judge}
+use Rattle.reply_model.specs.Reply.{Ask, PutContent, PutWhole, PutChangeset, SetBookmark, LandDraft, SetPolicy, Granted, unresolved_of, judge}
+use Rattle.reply_model.specs.After.{Call, Asks, Joins, Looks, Derives}
 use Rattle.repo_calls.specs.Calls.{call_seen}
 use Rattle.repo_calls.specs.declared.ask.Ask as calls
 use Rattle.repo_calls.specs.declared.ask.Ask.TheVariants as asks
@@ -14,9 +18,11 @@ use Rattle.repo_journal.specs.Groups.{GroupHolds, with_group}
 use Rattle.repo_journal.specs.View.{JournalView}
 use Rattle.repo_state.specs.Images.{sealed_part}
 use Rattle.repo_machine.specs.Asked.{IsAskOf}
-use Rattle.repo_machine.specs.Found.{IsFoundFor}
+use Rattle.repo_machine.specs.Found.{IsLeft, IsFoundReady}
+use Rattle.repo_machine.specs.declared.found.Found.TheVariants as founds
+use Rattle.repo_machine.specs.declared.prepared.Ready.{Ready}
 use Rattle.repo_machine.specs.Judged.{JudgedChange, IsJudged}
-use Rattle.repo_machine.specs.declared.found.Found.TheVariants.{Nothing}
+use Rattle.repo_state.specs.Asking.{is_join}
 use Rattle.repo_state.specs.Joining.{Holds}
 use Rattle.repo_state.specs.State.{State, Agrees, laid}
 
@@ -41,14 +47,27 @@ no_whole h (SetPolicy caller text) body none made = subst (λ b. (file : List �
 pub asks_nothing : (header : Header) (h : List Entry) (ask : Ask) (granted : Granted) (body : Body) → NoJoin ask → judge header h ask ≡ Ok (record { granted = granted; made = Some body }) → (file : List ℕ) (all : List Body) → HoldsParts file all body
 asks_nothing header h ask granted body none judged = no_whole h ask body none (subst (MakesEach (Fitting header h (MadeBy h ask))) judged (judge_makes header h ask) body refl).0
 
--- a change for which nothing is found joins nothing
-pub no_join : (header : Header) (h : List Entry) (call : calls.Ask) (ask : Ask) → IsFoundFor header h (call_seen call) Nothing → IsAskOf header h (call_seen call) ask → NoJoin ask
+-- a change that joins nothing
+pub no_join : (header : Header) (h : List Entry) (call : calls.Ask) (ask : Ask) → is_join (call_seen call) ≡ false → IsAskOf header h (call_seen call) ask → NoJoin ask
 no_join header h (asks.PutContent bytes) ask found is = subst NoJoin (sym is) tt
-no_join header h (asks.PutWhole body) ask found is = absurd found
+no_join header h (asks.PutWhole body) ask found is = absurd (true≢false found)
 no_join header h (asks.PutChangeset bytes) ask found is = subst NoJoin (sym is) tt
 no_join header h (asks.SetBookmark caller name from to) ask found is = subst NoJoin (sym is) tt
 no_join header h (asks.Land caller name draft moment) ask found is = subst NoJoin (sym is) tt
 no_join header h (asks.SetPolicy caller text) ask found is = subst NoJoin (sym is) tt
+
+-- what needs nothing to be found, or a path alone, joins nothing
+pub single_alone : (call : Call) (r : Ready) → ((header : Header) (h : List Entry) → IsFoundReady header h call r founds.Nothing) → (header : Header) (h : List Entry) → is_join call ≡ false
+single_alone (Asks ask) r found header h = refl
+single_alone (Joins body) r found header h = absurd (found header h)
+single_alone (Looks question) r found header h = refl
+single_alone (Derives id) r found header h = refl
+
+pub single_merge : (call : Call) (r : Ready) (c : Changeset) → ((header : Header) (h : List Entry) (path : Option Path) → IsLeft h c path → IsFoundReady header h call r (founds.Unresolved path)) → (header : Header) (h : List Entry) → is_join call ≡ false
+single_merge (Asks ask) r c found header h = refl
+single_merge (Joins body) r c found header h = absurd (found header h (unresolved_of (known h) c c.parents) (λ all. refl))
+single_merge (Looks question) r c found header h = refl
+single_merge (Derives id) r c found header h = refl
 
 pub needs_nothing : (s : State) (h : List Entry) (header : Header) (ask : Ask) (judged : JudgedChange) → NoJoin ask → IsJudged header h ask judged → Holds s judged.made
 needs_nothing s h header ask judged none is = by judged.made refl

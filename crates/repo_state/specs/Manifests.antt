@@ -1,8 +1,7 @@
 -- The manifests of a repository's changesets, as far as they are settled.
 --     HasManifests header h t      the table has those of the settled changesets of the history, of which all can be numbered and counted
---     IsNextOf ks t x next      the next job of the chain of a known changeset, or none where the chain is settled
+--     IsNextOf ks t x next      the next job of the past of a known changeset, or none where all of it is settled
 --     is_settled_id ks t x      x is the id of a known changeset that is settled
---     StaySettled t u      what is settled in the one table is settled in the other
 --     asks_manifest question      the read is answered from manifests
 --     manifest_fault fault, table_fault fault      why a read sees nothing, where manifests can't be read, or put in
 --     ids_answer result      the answer of a read that sees ids
@@ -43,9 +42,6 @@ pub record IsNextOf (ks : List Known) (t : Table) (x : Id) (next : Option Job) :
 
 abbrev pub is_settled_id : List Known → Table → Id → Bool
 is_settled_id ks t x = option_map_or (is_settled t) (number_in ks x) false
-
-abbrev pub StaySettled : Table → Table → Type 0
-StaySettled t u = (n : ℕ) → is_settled t n ≡ true → is_settled u n ≡ true
 
 abbrev pub asks_manifest : Question → Bool
 asks_manifest (Head name) = false

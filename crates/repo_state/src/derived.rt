@@ -7,7 +7,8 @@ ghost use Rattle.node_table.specs.Table.{is_settled};
 ghost use Rattle.changeset_store.specs.Store.{number_in};
 ghost use Rattle.manifest_store.specs.Manifests.{AreManifests};
 ghost use Rattle.repo_calls.specs.Asking.{bytes_answer, fault_answer, place_of};
-ghost use Rattle.repo_state.specs.Manifests.{StaySettled, ids_answer, is_settled_id, manifest_fault, table_fault};
+ghost use Rattle.repo_state.specs.Manifests.{ids_answer, is_settled_id, manifest_fault, table_fault};
+ghost use Rattle.settled_merge.specs.Settling.{StaySettled};
 
 use crate::state::RepoState;
 use blob_disk::Disk;
@@ -30,7 +31,7 @@ impl<D: Disk> RepoState<D> {
         self.manifests.roots(number)
     }
 
-    /// The bytes of the fsnode of a directory of a changeset, of its root where none is given. What the changeset's chain
+    /// The bytes of the fsnode of a directory of a changeset, of its root where none is given. What the changeset's past
     /// lacks is derived first. The disk isn't asked.
     pub fn fsnode(
         &mut self,
@@ -43,7 +44,7 @@ impl<D: Disk> RepoState<D> {
         ensures manifests { AreManifests (known self.new.history) self.new.table }
         ensures stay { StaySettled self.old.table self.new.table }
     {
-        let number = self.settle_chain(alloc, id)?;
+        let number = self.settle_past(alloc, id)?;
         match self.manifests.fsnode(alloc, number, dir) {
             Ok(bytes) => Ok(bytes),
             Err(fault) => Err(read_fault(fault)),
@@ -51,7 +52,7 @@ impl<D: Disk> RepoState<D> {
     }
 
     /// The bytes of the unode of a file or a directory of a changeset, of its root where no path is given. What the
-    /// changeset's chain lacks is derived first. The disk isn't asked.
+    /// changeset's past lacks is derived first. The disk isn't asked.
     pub fn unode(
         &mut self,
         alloc: Global,
@@ -63,15 +64,15 @@ impl<D: Disk> RepoState<D> {
         ensures manifests { AreManifests (known self.new.history) self.new.table }
         ensures stay { StaySettled self.old.table self.new.table }
     {
-        let number = self.settle_chain(alloc, id)?;
+        let number = self.settle_past(alloc, id)?;
         match self.manifests.unode(alloc, number, path) {
             Ok(bytes) => Ok(bytes),
             Err(fault) => Err(read_fault(fault)),
         }
     }
 
-    /// The changesets that set a file of a changeset, newest first, back to the last whose parent lacks it as a file. What
-    /// the changeset's chain lacks is derived first. The disk isn't asked.
+    /// The changesets that made the unode of a file of a changeset, or one that this reaches through parents, each once,
+    /// newest first. What the changeset's past lacks is derived first. The disk isn't asked.
     pub fn file_history(
         &mut self,
         alloc: Global,
@@ -83,14 +84,15 @@ impl<D: Disk> RepoState<D> {
         ensures manifests { AreManifests (known self.new.history) self.new.table }
         ensures stay { StaySettled self.old.table self.new.table }
     {
-        let number = self.settle_chain(alloc, id)?;
-        match self.manifests.file_history(alloc, number, path) {
+        let number = self.settle_past(alloc, id)?;
+        let changesets = self.machine.changesets();
+        match self.manifests.file_history(alloc, changesets, number, path) {
             Ok(ids) => Ok(ids),
             Err(fault) => Err(read_fault(fault)),
         }
     }
 
-    /// The bytes of the deleted node of a path of a changeset, of its root where none is given. What the changeset's chain
+    /// The bytes of the deleted node of a path of a changeset, of its root where none is given. What the changeset's past
     /// lacks is derived first. The disk isn't asked.
     pub fn deleted(
         &mut self,
@@ -103,7 +105,7 @@ impl<D: Disk> RepoState<D> {
         ensures manifests { AreManifests (known self.new.history) self.new.table }
         ensures stay { StaySettled self.old.table self.new.table }
     {
-        let number = self.settle_chain(alloc, id)?;
+        let number = self.settle_past(alloc, id)?;
         match self.manifests.deleted(alloc, number, path) {
             Ok(bytes) => Ok(bytes),
             Err(fault) => Err(read_fault(fault)),
@@ -111,14 +113,14 @@ impl<D: Disk> RepoState<D> {
     }
 
     /// The changesets of a changeset's chain that set a path, or have another file there than their first parent, newest
-    /// first. What the chain lacks is derived first. The disk isn't asked.
+    /// first. What its past lacks is derived first. The disk isn't asked.
     pub fn path_log(&mut self, alloc: Global, id: Id, path: &RepoPath) -> Result<Vec<Id>, AskFault>
         ensures answer { Answers self.old.header self.old.history (Looks (PathLogOf id path.now)) (ids_answer result) nothing }
         ensures same { self.new ≡ record self.old { table = self.new.table } }
         ensures manifests { AreManifests (known self.new.history) self.new.table }
         ensures stay { StaySettled self.old.table self.new.table }
     {
-        let number = self.settle_chain(alloc, id)?;
+        let number = self.settle_past(alloc, id)?;
         let changesets = self.machine.changesets();
         match self.manifests.path_log(alloc, changesets, number, path) {
             Ok(ids) => Ok(ids),
@@ -126,8 +128,8 @@ impl<D: Disk> RepoState<D> {
         }
     }
 
-    // The number of a changeset, of which the whole chain is settled by now.
-    fn settle_chain(&mut self, alloc: Global, id: Id) -> Result<u32, AskFault>
+    // The number of a changeset, which is settled by now, and all that it reaches through parents.
+    fn settle_past(&mut self, alloc: Global, id: Id) -> Result<u32, AskFault>
         ensures ok { IfOk result (λ n. (number_in (known self.old.history) id ≡ Some n) × (is_settled self.new.table n ≡ true)) }
         ensures err { IfErr result (λ fault. Answers self.old.header self.old.history (Derives id) (fault_answer fault) nothing) }
         ensures same { self.new ≡ record self.old { table = self.new.table } }

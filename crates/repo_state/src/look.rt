@@ -12,7 +12,8 @@ ghost use Rattle.repo_calls.specs.Asking.{fault_answer, is_bad_bytes, is_early, 
 ghost use Rattle.repo_state.specs.Asking.{TellsDigest};
 ghost use Rattle.manifest_store.specs.Manifests.{AreManifests};
 ghost use Rattle.repo_state.specs.Cores.{LooksSo};
-ghost use Rattle.repo_state.specs.Manifests.{StaySettled, asks_manifest};
+ghost use Rattle.repo_state.specs.Manifests.{asks_manifest};
+ghost use Rattle.settled_merge.specs.Settling.{StaySettled};
 ghost use Rattle.repo_state.specs.State.{IsSound, LeavesNow};
 
 use crate::state::RepoState;

@@ -3,8 +3,8 @@ ghost use Rattle.std.specs.Prelude.{◌≡◌, ◌<◌, true, false, length, IsO
 ghost use Rattle.history_model.specs.History.{known};
 ghost use Rattle.reply_model.specs.After.{Answers, Derives, nothing};
 ghost use Rattle.node_table.specs.Table.{is_settled};
-ghost use Rattle.manifest_store.specs.Jobs.{IsDoneOn, is_ready, settled_by};
-ghost use Rattle.manifest_store.specs.Lines.{line_at};
+ghost use Rattle.changeset_store.specs.Pasts.{past_at};
+ghost use Rattle.manifest_store.specs.Jobs.{IsDoneIn, is_ready, settled_by};
 ghost use Rattle.manifest_store.specs.Manifests.{AreManifests};
 ghost use Rattle.manifest_store.specs.Settling.{IsCollision};
 ghost use Rattle.repo_calls.specs.Asking.{fault_answer};
@@ -20,8 +20,8 @@ use repo_calls::AskFault;
 use std::alloc::Global;
 
 impl<D: Disk> RepoState<D> {
-    /// The job to derive the manifests of the oldest changeset in the chain of this one that isn't settled, or `None`
-    /// where the whole chain is. The disk isn't asked.
+    /// The job to derive the manifests of a changeset that isn't settled and whose parents are: of this one, or of one that
+    /// it reaches through parents; or `None` where all of these are settled. The disk isn't asked.
     pub fn next_job(&self, alloc: Global, id: Id) -> Result<Option<Job>, AskFault>
         ensures ok { IfOk result (IsNextOf (known self.now.history) self.now.table id) }
         ensures err { IfErr result (λ fault. Answers self.now.header self.now.history (Derives id) (fault_answer fault) nothing) }
@@ -37,11 +37,11 @@ impl<D: Disk> RepoState<D> {
         Ok(self.manifests.next_job(alloc, changesets, number)?)
     }
 
-    /// Puts in what was derived of a changeset, or nothing. One that is settled already, or whose parent isn't, changes
-    /// nothing. The disk isn't asked.
+    /// Puts in what was derived of a changeset, or nothing. One that is settled already, or a parent of which isn't,
+    /// changes nothing. The disk isn't asked.
     pub fn settle(&mut self, alloc: Global, done: Done) -> Result<(), TableFault>
         requires known { done.number < length (known self.old.history) }
-        requires derived { IsDoneOn (line_at (known self.old.history) done.number) done }
+        requires derived { IsDoneIn (past_at (known self.old.history) done.number) done }
         ensures ok { OnOk result (self.new.table ≡ settled_by (known self.old.history) self.old.table done) }
         ensures err { OnErr result (self.new.table ≡ self.old.table) }
         ensures settled { is_ready (known self.old.history) self.old.table done.number ≡ true → OnOk result (is_settled self.new.table done.number ≡ true) }

@@ -9,6 +9,7 @@ ghost use Rattle.reply_model.specs.Reply.{Ask as ModelAsk};
 ghost use Rattle.repo_calls.specs.Asking.{is_disk_fault, is_misread, is_unread, stored_answer};
 ghost use Rattle.repo_calls.specs.Calls.{call_seen, granted_seen};
 ghost use Rattle.repo_machine.specs.Entering.{Judges};
+ghost use Rattle.repo_machine.specs.Found.{IsFound, IsLeft};
 ghost use Rattle.repo_machine.specs.Prepared.{IsPrepared, asked_by};
 ghost use Rattle.repo_state.specs.Asking.{is_join};
 ghost use Rattle.repo_state.specs.Cores.{StoresCall};
@@ -18,9 +19,12 @@ ghost use Rattle.repo_state.specs.Trees.{LandsAs};
 
 use crate::state::RepoState;
 use blob_disk::Disk;
+use bonsai::Commit;
 use repo_calls::{Ask, ChangeFault, Granted, Refusal};
-use repo_machine::{Found, Judged, Prepared, prepare};
-use std::alloc::Global;
+use repo_machine::{Found, Judged, Prepared, Wanted, prepare};
+use repo_path::RepoPath;
+use settled_merge::left_unresolved;
+use std::alloc::{AllocError, Global};
 
 impl<D: Disk> RepoState<D> {
     /// Makes a change that the seat `who` asks for. The entry that it makes, if it makes one, waits to be sealed. All memory
@@ -110,13 +114,46 @@ impl<D: Disk> RepoState<D> {
         // It is these steps of the repository of many seats.
         ensures core { StoresCall self.old.header self.old.history self.old.sealed who (asked_by prepared.entry) (stored_answer result) self.new.history }
     {
-        if let Some(body) = prepared.joins() {
-            return self.store_joined(alloc, who, body);
-        }
-        let judged = match self
-            .machine
-            .judge_prepared(alloc, who, prepared, Found::Nothing)
-        {
+        // It keeps its rules.
+        let _ = &self.disk;
+        let found = match prepared.wants() {
+            Wanted::Joined(body) => return self.store_joined(alloc, who, body),
+            Wanted::Unresolved(commit) => match self.left_by(alloc, commit) {
+                Ok(path) => Found::Unresolved(path),
+                Err(AllocError) => return Err(ChangeFault::Refused(Refusal::Memory)),
+            },
+            Wanted::Nothing => Found::Nothing,
+        };
+        self.store_found(alloc, who, prepared, found)
+    }
+
+    // The same of a change for which this was found, where no contents are to be joined.
+    fn store_found(
+        &mut self,
+        alloc: Global,
+        who: u64,
+        prepared: Prepared<'_>,
+        found: Found,
+    ) -> Result<Granted, ChangeFault>
+        requires prepared { IsPrepared prepared }
+        requires found { IsFound self.old.header self.old.history prepared found }
+        requires single { is_join (asked_by prepared) ≡ false }
+        ensures reply { Replies self.old.header self.old.history who (asked_by prepared.entry) (stored_answer result) self.new.history }
+        ensures header { self.new.header ≡ self.old.header }
+        ensures opening { self.new.opening ≡ self.old.opening }
+        ensures table { self.new.table ≡ self.old.table }
+        ensures sealed { self.new.sealed ≡ self.old.sealed }
+        ensures sound { IsSound self.new.opening self.new.history self.new.sealed self.new.disk }
+        ensures left { self.new.left ≡ self.old.left }
+        ensures leaves_now { LeavesNow self.new }
+        ensures disk { self.new.disk ≡ self.old.disk }
+        ensures undone { is_disk_fault result ≡ false }
+        ensures unread { is_unread result ≡ false }
+        ensures misread { is_misread result ≡ false }
+        ensures lands { IfOk result (λ granted. LandsAs (asked_by prepared.entry) (granted_seen granted) self.old.history self.new.history) }
+        ensures core { StoresCall self.old.header self.old.history self.old.sealed who (asked_by prepared.entry) (stored_answer result) self.new.history }
+    {
+        let judged = match self.machine.judge_prepared(alloc, who, prepared, found) {
             Ok(judged) => judged,
             Err(refusal) => return Err(ChangeFault::Refused(refusal)),
         };
@@ -124,6 +161,18 @@ impl<D: Disk> RepoState<D> {
             Ok(granted) => Ok(granted),
             Err(refusal) => Err(ChangeFault::Refused(refusal)),
         }
+    }
+
+    // What a merge leaves unresolved between its parents' trees, if they are known.
+    fn left_by(&self, alloc: Global, commit: &Commit) -> Result<Option<RepoPath>, AllocError>
+        ensures { IfOk result (IsLeft self.now.history commit.now) }
+    {
+        left_unresolved(
+            alloc,
+            self.machine.changesets(),
+            &self.manifests,
+            commit.changeset(),
+        )
     }
 
     // Enters what was judged. Its record waits, if it makes an entry, for which memory is taken first.

@@ -12,7 +12,6 @@ change_response-refused call refusals.Down = refl
 change_response-refused call (refusals.TooLong length) = refl
 change_response-refused call (refusals.BadEncoding at) = refl
 change_response-refused call (refusals.SelfConflict short long) = refl
-change_response-refused call refusals.Merge = refl
 change_response-refused call (refusals.BadParts length) = refl
 change_response-refused call refusals.OldFormat = refl
 change_response-refused call (refusals.NoPiece id) = refl

@@ -13,7 +13,6 @@ response_to refusals.Down = refused reply.Down
 response_to (refusals.TooLong length) = refused (reply.TooLong length)
 response_to (refusals.BadEncoding at) = refused (reply.BadEncoding at)
 response_to (refusals.SelfConflict short long) = refused (reply.SelfConflict short long)
-response_to refusals.Merge = refused reply.Merge
 response_to (refusals.BadParts length) = refused (reply.BadParts length)
 response_to refusals.OldFormat = refused reply.OldFormat
 response_to (refusals.NoPiece id) = refused (reply.NoPiece id)

@@ -15,6 +15,8 @@ mod heads;
 #[cfg(test)]
 mod landings;
 #[cfg(test)]
+mod merges;
+#[cfg(test)]
 mod plans;
 #[cfg(test)]
 mod plans_again;

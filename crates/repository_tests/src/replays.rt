@@ -1,13 +1,15 @@
 //! Payloads of entries, entered one after another.
 ghost use Rattle.std.specs.Prelude.{◌≡◌, IsTrue};
-ghost use Rattle.history_model.specs.History.{stored};
+ghost use Rattle.history_model.specs.History.{known, stored};
 ghost use Rattle.history_model.specs.Journal.{is_header};
 ghost use Rattle.reply_model.specs.Legal.{IsLegal};
+ghost use Rattle.manifest_store.specs.Manifests.{AreManifests};
 
 use crate::rows::same;
 use crate::steps::{log_text, new_run, run_lines};
 use blob_disk::{Disk, MemDisk};
 use bonsai::Version;
+use manifest_store::ManifestStore;
 use ports::ZeroBytes;
 use recovery::{ReplayFault, enter_payload};
 use repo_machine::Machine;
@@ -93,14 +95,17 @@ fn enter(
     alloc: Global,
     disk: &mut MemDisk,
     machine: &mut Machine,
+    manifests: &mut ManifestStore,
     digits: &str,
 ) -> Result<&'static str, Fail>
     requires limits { IsTrue (is_header machine.old.header) }
     requires legal { IsLegal machine.old.header machine.old.history }
     requires stored { machine.old.history ≡ stored machine.old.history }
+    requires manifests { AreManifests (known machine.old.history) manifests.old }
     ensures limits { IsTrue (is_header machine.new.header) }
     ensures legal { IsLegal machine.new.header machine.new.history }
     ensures stored { machine.new.history ≡ stored machine.new.history }
+    ensures manifests { AreManifests (known machine.new.history) manifests.new }
 {
     let payload = hex::decode(alloc, digits)?;
     let Ok(size) = disk.size() else {
@@ -109,7 +114,7 @@ fn enter(
     if size < machine.size() {
         return Err(Fail::from("a short disk"));
     }
-    match enter_payload(alloc, disk, machine, payload.as_slice()) {
+    match enter_payload(alloc, disk, machine, manifests, payload.as_slice()) {
         Ok(()) => Ok("+"),
         Err(ReplayFault::BadPayload) => Ok("-"),
         Err(ReplayFault::DiskFault) => Err(Fail::from("the disk")),
@@ -122,15 +127,17 @@ fn enter_all(
     alloc: Global,
     disk: &mut MemDisk,
     machine: &mut Machine,
+    manifests: &mut ManifestStore,
     rows: &str,
 ) -> Result<(), Fail>
     requires limits { IsTrue (is_header machine.old.header) }
     requires legal { IsLegal machine.old.header machine.old.history }
     requires stored { machine.old.history ≡ stored machine.old.history }
+    requires manifests { AreManifests (known machine.old.history) manifests.old }
 {
     'rows: for row in rows.lines() {
         let (digits, wanted) = row.split_once(" = ").unwrap_or((row, ""));
-        let told = enter(alloc, disk, machine, digits)?;
+        let told = enter(alloc, disk, machine, manifests, digits)?;
         same(rt, told, wanted, row);
     }
     Ok(())
@@ -159,7 +166,8 @@ fn entered(
 ) -> Result<String, Fail> {
     let mut machine = Machine::new(alloc, RandomState::new(&ZeroBytes)?, 65_536, version);
     let mut disk = empty_disk(alloc)?;
-    enter_all(rt, alloc, &mut disk, &mut machine, payloads)?;
+    let mut manifests = ManifestStore::new(alloc);
+    enter_all(rt, alloc, &mut disk, &mut machine, &mut manifests, payloads)?;
     state(alloc, &machine)
 }
 

@@ -62,7 +62,6 @@ module _ (header : Header) (h : List Entry) (ask : Ask) (granted : reply.Granted
   refusal_is (refusals.TooLong length) a = never_refused (reply.TooLong length) a.answers.1
   refusal_is (refusals.BadEncoding at) a = never_refused (reply.BadEncoding at) a.answers.1
   refusal_is (refusals.SelfConflict short long) a = never_refused (reply.SelfConflict short long) a.answers.1
-  refusal_is refusals.Merge a = never_refused reply.Merge a.answers.1
   refusal_is (refusals.BadParts length) a = never_refused (reply.BadParts length) a.answers.1
   refusal_is refusals.OldFormat a = never_refused reply.OldFormat a.answers.1
   refusal_is (refusals.NoPiece id) a = never_refused (reply.NoPiece id) a.answers.1

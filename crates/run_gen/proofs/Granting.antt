@@ -16,7 +16,7 @@ use Rattle.history_model.specs.Pushrebase.{fork, clash, rewrite, moment_of}
 use Rattle.history_model.specs.Journal.{Header, payload_len, most_payload, size, is_full}
 use Rattle.policy_model.specs.Grammar.{parse}
 use Rattle.policy_model.specs.Rules.{bookmark_place, policy_place}
-use Rattle.reply_model.specs.Reply.{denial, denied_at, parts_of, OldFormat, BadPolicy, WholePut, PolicySet, SetPolicy, put_whole, set_policy, told, is_merge, unresolved_of, Down, Merge, NoParent, Unresolved, MergeInStack, MergeInRange, content_refusal, collides, Collision, NoChangeset, Moved, TooLarge, first_collision, NoBookmark, NoRoot, TooFarBehind, AlreadyIn, StackTooLong, Clash, most_range, most_stack, Ask, PutContent, PutWhole, PutChangeset, SetBookmark, LandDraft, Refusal, Granted, ContentPut, ChangesetPut, BookmarkSet, Landed, Judged, ◌>>=◌, Full, refuse_if, refuse_some, unchanged, entered, put_content, accepted, put_changeset, set_bookmark, enter_landing, land, by_ask, judge}
+use Rattle.reply_model.specs.Reply.{denial, denied_at, parts_of, OldFormat, BadPolicy, WholePut, PolicySet, SetPolicy, put_whole, set_policy, told, is_merge, unresolved_of, Down, NoParent, Unresolved, MergeInStack, MergeInRange, content_refusal, collides, Collision, NoChangeset, Moved, TooLarge, first_collision, NoBookmark, NoRoot, TooFarBehind, AlreadyIn, StackTooLong, Clash, most_range, most_stack, Ask, PutContent, PutWhole, PutChangeset, SetBookmark, LandDraft, Refusal, Granted, ContentPut, ChangesetPut, BookmarkSet, Landed, Judged, ◌>>=◌, Full, refuse_if, refuse_some, unchanged, entered, put_content, accepted, put_changeset, set_bookmark, enter_landing, land, by_ask, judge}
 use Rattle.run_gen.specs.Calls.{heads_in, landings_in}
 use Rattle.run_gen.specs.Grants.{FitsAsk}
 use Rattle.opening_laws.proofs.Made.{not_refused as passed}
@@ -91,13 +91,12 @@ changeset_suits : (header : Header) (h : List Entry) (bytes : List ℕ) → Gran
 changeset_suits header h bytes =
     let ask : Ask = PutChangeset bytes in
     through ask (accepted (decoded bytes)) _ (λ c _.
-    through ask (refuse_if (nat_lt 1 (length c.parents)) Merge) _ (λ _ _.
     through ask (refuse_some (find (λ p. not (is_known (known h) p)) c.parents) NoParent) _ (λ _ _.
     through ask (refuse_some (first_some (λ e. content_refusal e (content_len h e.1.content)) (sets_of c)) (λ refusal. refusal)) _ (λ _ _.
     through ask (refuse_some (unresolved_of (known h) c c.parents) Unresolved) _ (λ _ _.
     through ask (refuse_if (collides (known h) c) (Collision (id_of c))) _ (λ _ _.
     either ask (is_known (known h) (id_of c)) _ _ (one ask (ChangesetPut (id_of c)) (record { landings = refl; kept = tt; fits = refl }))
-    (entering header h ask (ChangesetPut (id_of c)) (Change c) (record { landings = refl; kept = tt; fits = refl }))))))))
+    (entering header h ask (ChangesetPut (id_of c)) (Change c) (record { landings = refl; kept = tt; fits = refl })))))))
 
 bookmark_suits : (header : Header) (h : List Entry) (caller name : List ℕ) (from to : Option Id) → Granting (SetBookmark caller name from to) (set_bookmark header h caller name from to)
 bookmark_suits header h caller name from to =

@@ -33,7 +33,6 @@ module _ (header : Header) (who : ℕ) (from to : List Entry) (ask : Ask) where
   stopped none (refusals.TooLong length) a = one_refused header who from to ask (reply.TooLong length) a
   stopped none (refusals.BadEncoding at) a = one_refused header who from to ask (reply.BadEncoding at) a
   stopped none (refusals.SelfConflict short long) a = one_refused header who from to ask (reply.SelfConflict short long) a
-  stopped none refusals.Merge a = one_refused header who from to ask reply.Merge a
   stopped none (refusals.BadParts length) a = one_refused header who from to ask (reply.BadParts length) a
   stopped none refusals.OldFormat a = one_refused header who from to ask reply.OldFormat a
   stopped none (refusals.NoPiece id) a = one_refused header who from to ask (reply.NoPiece id) a

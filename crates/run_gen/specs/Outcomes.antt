@@ -17,7 +17,6 @@ fault_of refusals.Down = Refused
 fault_of (refusals.TooLong length) = Refused
 fault_of (refusals.BadEncoding at) = Refused
 fault_of (refusals.SelfConflict short long) = Refused
-fault_of refusals.Merge = Refused
 fault_of (refusals.BadParts length) = Refused
 fault_of refusals.OldFormat = Refused
 fault_of (refusals.NoPiece id) = Refused

@@ -35,7 +35,6 @@ pub(crate) fn fault_of(refusal: Refusal) -> LoadFault
         | Refusal::TooLong { .. }
         | Refusal::BadEncoding { .. }
         | Refusal::SelfConflict { .. }
-        | Refusal::Merge
         | Refusal::BadParts { .. }
         | Refusal::OldFormat
         | Refusal::NoPiece { .. }

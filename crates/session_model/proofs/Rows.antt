@@ -9,7 +9,7 @@ use Rattle.percent_encoding.specs.Percent.{percent_decode}
 use Rattle.byte_fields.specs.Bytes.{Id}
 use Rattle.reply_model.specs.Log.{BookmarkLine, PolicyLine}
 use Rattle.reply_model.specs.Opening.{nobody}
-use Rattle.reply_model.specs.Reply.{SetPolicy, SetBookmark, PolicySet, WholePut, Merge, BadParts, OldFormat, NoPiece, Unresolved, MergeInRange, Denied, BadPolicy, PathLogOf, DeletedOf, PolicyOf, SeenIds, SeenBytes, NoPolicy}
+use Rattle.reply_model.specs.Reply.{SetPolicy, SetBookmark, PolicySet, WholePut, BadParts, OldFormat, NoPiece, Unresolved, MergeInRange, Denied, BadPolicy, PathLogOf, DeletedOf, PolicyOf, SeenIds, SeenBytes, NoPolicy}
 use Rattle.reply_model.specs.After.{Asks, Joins, Looks, Grants, Refuses, Shows, Lacks}
 use Rattle.http_model.specs.Head.{CallerField, Absent, Given, Several}
 use Rattle.http_model.specs.Stream.{Request}
@@ -118,9 +118,6 @@ no_rule_speaks = refl
 first_line : refused (BadPolicy 0) ≡ json UnprocessableContent (codes "{\"code\":\"bad-policy\",\"line\":0}")
 unfolding digits
 first_line = refl
-
-two_parents : refused Merge ≡ json UnprocessableContent (codes "{\"code\":\"merge\"}")
-two_parents = refl
 
 a_merge_in_range : refused (MergeInRange zero_id) ≡ json Conflict (codes "{\"code\":\"merge-in-range\",\"id\":\"" ++ zeros ++ codes "\"}")
 unfolding encode_with zeros zero_id

@@ -8,7 +8,7 @@ use Rattle.std.specs.Prelude.{ℕ, if◌then◌else◌, List, [], ◌∷◌, len
 use Rattle.byte_fields.specs.Bytes.{Id}
 use Rattle.changeset_model.specs.Path.{Path}
 use Rattle.reply_model.specs.Log.{lines_of}
-use Rattle.reply_model.specs.Reply.{◌>>=◌, PutContent, PutChangeset, SetBookmark, LandDraft, SetPolicy, Granted, ContentPut, WholePut, ChangesetPut, BookmarkSet, Landed, PolicySet, Refusal, Down, TooLong, BadEncoding, SelfConflict, Merge, BadParts, OldFormat, NoPiece, NotAPiece, NoParent, NoContent, WrongSize, Unresolved, Collision, NoChangeset, Moved, NoBookmark, NoRoot, TooFarBehind, AlreadyIn, StackTooLong, MergeInStack, MergeInRange, Denied, Clash, TooLarge, BadPolicy, Full, Question, HeadOf, ContentOf, ChangesetOf, LogFrom, FsnodeOf, UnodeOf, HistoryOf, CopiesOf, PathLogOf, DeletedOf, PolicyOf, Seen, SeenHead, SeenBytes, SeenLog, SeenIds, SeenCopies, Absent, AbsentContent, AbsentChangeset, NoPath, NotADir, NotAFile, NoPolicy}
+use Rattle.reply_model.specs.Reply.{◌>>=◌, PutContent, PutChangeset, SetBookmark, LandDraft, SetPolicy, Granted, ContentPut, WholePut, ChangesetPut, BookmarkSet, Landed, PolicySet, Refusal, Down, TooLong, BadEncoding, SelfConflict, BadParts, OldFormat, NoPiece, NotAPiece, NoParent, NoContent, WrongSize, Unresolved, Collision, NoChangeset, Moved, NoBookmark, NoRoot, TooFarBehind, AlreadyIn, StackTooLong, MergeInStack, MergeInRange, Denied, Clash, TooLarge, BadPolicy, Full, Question, HeadOf, ContentOf, ChangesetOf, LogFrom, FsnodeOf, UnodeOf, HistoryOf, CopiesOf, PathLogOf, DeletedOf, PolicyOf, Seen, SeenHead, SeenBytes, SeenLog, SeenIds, SeenCopies, Absent, AbsentContent, AbsentChangeset, NoPath, NotADir, NotAFile, NoPolicy}
 use Rattle.reply_model.specs.After.{Call, Asks, Joins, Looks, Derives, Answer, Grants, Refuses, Shows, Lacks, Roots, DiskFault, ReadFault, BadBytes, NodeCollision, Memory}
 use Rattle.http_model.specs.Head.{path_of}
 use Rattle.http_model.specs.Stream.{Request}
@@ -124,7 +124,6 @@ refused Down = of_code InternalServerError (codes "down")
 refused (TooLong n) = json ContentTooLarge (coded (codes "too-long") ((codes "length", decimal n) ∷ []))
 refused (BadEncoding at) = json UnprocessableContent (coded (codes "bad-encoding") ((codes "place", decimal at) ∷ []))
 refused (SelfConflict short long) = json UnprocessableContent (coded (codes "self-conflict") ((codes "long", path_text long) ∷ (codes "short", path_text short) ∷ []))
-refused Merge = of_code UnprocessableContent (codes "merge")
 refused (BadParts n) = json BadRequest (coded (codes "bad-parts") ((codes "length", decimal n) ∷ []))
 refused OldFormat = of_code Conflict (codes "old-format")
 refused (NoPiece x) = json UnprocessableContent (coded (codes "no-piece") ((codes "id", id_text x) ∷ []))

@@ -4,32 +4,32 @@ use Rattle.std.specs.Prelude.{Result, Err, false}
 use mathlib.Core.List.{IsPrefix}
 use Rattle.byte_fields.specs.Bytes.{Id}
 use Rattle.history_model.specs.History.{Entry, Known, known}
-use Rattle.history_model.specs.Chain.{line}
+use Rattle.history_model.specs.Past.{past}
 use Rattle.history_model.specs.Journal.{Header}
 use Rattle.byte_fields.proofs.Lists.{prefix_self, prefix_trans}
 use Rattle.reply_model.specs.After.{After, Answer, Answers, Call, Derives, Looks, nothing, SeesMore}
 use Rattle.reply_model.specs.Reply.{Question, HeadOf, ContentOf, ChangesetOf, LogFrom, FsnodeOf, UnodeOf, HistoryOf, CopiesOf, PathLogOf, DeletedOf, PolicyOf}
-use Rattle.reply_model.proofs.Lines.{known-append, line_grows}
+use Rattle.reply_model.proofs.Lines.{known-append, past_grows}
 use Rattle.changeset_store.specs.Store.{known_at}
+use Rattle.changeset_store.specs.Pasts.{past_at}
 use Rattle.changeset_store.proofs.Places.{known_at-append}
 use Rattle.repo_calls.specs.Asking.{IsAnswer, fault_answer, is_bad_bytes}
 use Rattle.repo_calls.specs.declared.calls.AskFault.{AskFault}
 use Rattle.repo_calls.specs.declared.calls.AskFault.TheVariants as faults
 use Rattle.repo_calls.specs.declared.calls.Seen.{Seen}
-use Rattle.derive_step.specs.Jobs.{IsJobOf, IsDoneOf}
 use Rattle.derive_step.specs.declared.done.Done.{Done}
 use Rattle.derive_step.specs.declared.job.Job.{Job}
-use Rattle.manifest_store.specs.Jobs.{IsDoneOn}
-use Rattle.manifest_store.specs.Lines.{line_at}
+use Rattle.manifest_store.specs.Jobs.{IsDoneIn}
 use Rattle.manifest_store.proofs.Lines.{known_here}
 use Rattle.repo_state.proofs.Reading as reading
+use Rattle.repo_state.proofs.Reading.{Derived}
 use Rattle.shared_repo.specs.Derivation.{AsksManifestOf, IsNextSome, WasDerived}
 use Rattle.shared_repo.specs.declared.derivation_turns.Next.TheVariants as nexts
 use Rattle.shared_repo.proofs.Fronts.{after_more, after_nothing}
 
 -- ---- what was derived of a job
 
-pub was_derived : (header : Header) (h : List Entry) (x : Id) (job : Job) (done : Done) → IsNextSome header h x (nexts.Job job) → ((c : Known) (older : List Known) → IsJobOf c older job → IsDoneOf c older job done) → WasDerived h done
+pub was_derived : (header : Header) (h : List Entry) (x : Id) (job : Job) (done : Done) → IsNextSome header h x (nexts.Job job) → Derived job done → WasDerived h done
 was_derived header h x job done next is = record {
   then = h;
   begins = prefix_self h;
@@ -39,11 +39,11 @@ was_derived header h x job done next is = record {
   };
 }
 
--- the line of a known changeset, where the history has grown
-line_grown : (g rest : List Entry) (n : ℕ) → n < length (known g) → line_at (known (g ++ rest)) n ≡ line_at (known g) n
-line_grown g rest n less =
-    ap (λ (k : Known). line (known (g ++ rest)) k.id) (ap (λ ks. known_at ks n) (known-append g rest) ∙ known_at-append (known g) _ n less)
-    ∙ line_grows g rest (known_at (known g) n).id (known_here (known g) n less)
+-- the past of a known changeset, where the history has grown
+past_grown : (g rest : List Entry) (n : ℕ) → n < length (known g) → past_at (known (g ++ rest)) n ≡ past_at (known g) n
+past_grown g rest n less =
+    ap (λ (k : Known). past (known (g ++ rest)) k.id) (ap (λ ks. known_at ks n) (known-append g rest) ∙ known_at-append (known g) _ n less)
+    ∙ past_grows g rest (known_at (known g) n).id (known_here (known g) n less)
 
 more_known : (g rest : List Entry) (n : ℕ) → n < length (known g) → n < length (known (g ++ rest))
 more_known g rest n less =
@@ -53,10 +53,10 @@ more_known g rest n less =
 pub still_below : (h : List Entry) (done : Done) → WasDerived h done → done.number < length (known h)
 still_below h done w = subst (λ (h : List Entry). done.number < length (known h)) w.begins.1 (more_known w.then w.begins.0 done.number w.derived.below)
 
-pub still_done : (h : List Entry) (done : Done) → WasDerived h done → IsDoneOn (line_at (known h) done.number) done
+pub still_done : (h : List Entry) (done : Done) → WasDerived h done → IsDoneIn (past_at (known h) done.number) done
 still_done h done w =
-    subst (λ (h : List Entry). IsDoneOn (line_at (known h) done.number) done) w.begins.1
-    (subst (λ l. IsDoneOn l done) (sym (line_grown w.then w.begins.0 done.number w.derived.below)) w.derived.is_done)
+    subst (λ (h : List Entry). IsDoneIn (past_at (known h) done.number) done) w.begins.1
+    (subst (λ q. IsDoneIn q done) (sym (past_grown w.then w.begins.0 done.number w.derived.below)) w.derived.is_done)
 
 pub derived_later : (g h : List Entry) (done : Done) → IsPrefix g h → WasDerived g done → WasDerived h done
 derived_later g h done begins w = record { then = w.then; begins = prefix_trans w.then g h w.begins begins; derived = w.derived }

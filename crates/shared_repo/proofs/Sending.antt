@@ -10,9 +10,12 @@ use Rattle.changeset_store.specs.contracts.store.ChangesetStore as Store
 use Rattle.node_table.specs.contracts.store.Store as Nodes
 use Rattle.node_table.specs.contracts.root_table.RootTable as Roots
 use Rattle.node_table.specs.contracts.table.NodeTable as NodeTable
+use Rattle.marked_table.specs.contracts.table.MarkedTable as MarkedTable
 use Rattle.manifest_store.specs.contracts.store.ManifestStore as Manifests
 use Rattle.repo_journal.specs.contracts.journal.Journal as Journal
 use Rattle.repo_machine.specs.contracts.machine.Machine as Machine
+use Rattle.repo_machine.specs.contracts.records.Entry as Entry
+use Rattle.repo_machine.specs.contracts.held_rules.HeldRules as HeldRules
 use Rattle.std.specs.contracts.snapshot.Snapshot as Snapshot
 use Rattle.repo_state.specs.contracts.state.RepoState as State
 use Rattle.shared_repo.specs.contracts.repo.Repo as Repo
@@ -37,8 +40,14 @@ commit_sync = search (own.crosses, sendable) depth 60 fits 20000
 pub store_send : IsSend Store.the_row
 store_send = search (commit_send, commit_sync, own.crosses, maps.crosses, sendable) depth 60
 
+pub entry_send : IsSend Entry.the_row
+entry_send = search (own.crosses, sendable) depth 60 fits 20000
+
+pub held_send : IsSend HeldRules.the_row
+held_send = search (own.crosses, maps.crosses, sendable) depth 60 fits 20000
+
 pub machine_send : IsSend Machine.the_row
-machine_send = search (store_send, own.crosses, maps.crosses, sendable) depth 60 fits 20000
+machine_send = search (store_send, entry_send, held_send, own.crosses, maps.crosses, sendable) depth 60 fits 20000
 
 pub journal_send : IsSend Journal.the_row
 journal_send = search (own.crosses, sendable) depth 60
@@ -52,8 +61,11 @@ roots_send = search (own.crosses, maps.crosses, sendable) depth 60
 pub node_table_send : IsSend NodeTable.the_row
 node_table_send = let n = nodes_send in let r = roots_send in search (own.crosses, sendable) depth 60
 
+pub marked_table_send : IsSend MarkedTable.the_row
+marked_table_send = let t = node_table_send in search (own.crosses, maps.crosses, sendable) depth 60
+
 pub manifests_send : IsSend Manifests.the_row
-manifests_send = let t = node_table_send in search sendable depth 20
+manifests_send = let t = marked_table_send in search sendable depth 20
 
 pub table_sync : (S V K P : RattleType) (g : rules.Ghosts P.Denot S.Denot V.Denot K.Denot) → IsSend S → IsSync (Table.the_field S V K P Heap.the_row g ghosts).row
 table_sync S V K P g s = let h = own.send in let y = own.sync in let f = own.frees in let a = shares.the_sync S V K P g s in search (leases.the_sync, sendable) depth 20

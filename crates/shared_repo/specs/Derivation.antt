@@ -1,6 +1,6 @@
 -- What a seat knows between the turns of a derivation.
 --     AsksManifestOf x question      the read is answered from the manifests of this changeset
---     IsNextAt header h t x next      where a repository has these manifests: the next job of the changeset's chain, or its roots where nothing is lacking
+--     IsNextAt header h t x next      where a repository has these manifests: the next job of the changeset's past, or its roots where nothing is lacking
 --     IsNextSome header h x next      it is so for the manifests of some changesets
 --     IsDerivedAt h done      it was derived of a changeset that the history makes known
 --     WasDerived h done      it was so at a history with which h begins
@@ -9,9 +9,9 @@ use mathlib.Core.List.{IsPrefix}
 use Rattle.byte_fields.specs.Bytes.{Id}
 use Rattle.history_model.specs.History.{Entry, known}
 use Rattle.history_model.specs.Journal.{Header}
+use Rattle.changeset_store.specs.Pasts.{past_at}
 use Rattle.derive_step.specs.declared.done.Done.{Done}
-use Rattle.manifest_store.specs.Jobs.{IsDoneOn}
-use Rattle.manifest_store.specs.Lines.{line_at}
+use Rattle.manifest_store.specs.Jobs.{IsDoneIn}
 use Rattle.manifest_store.specs.Manifests.{AreManifests}
 use Rattle.node_table.specs.Table.{Table}
 use Rattle.reply_model.specs.After as answers
@@ -43,7 +43,7 @@ IsNextSome header h x next = (t : Table) × IsNextAt header h t x next
 
 pub record IsDerivedAt (h : List Entry) (done : Done) : Type 0 where
   pub below : done.number < length (known h)
-  pub is_done : IsDoneOn (line_at (known h) done.number) done
+  pub is_done : IsDoneIn (past_at (known h) done.number) done
 
 pub record WasDerived (h : List Entry) (done : Done) : Type 0 where
   pub then : List Entry

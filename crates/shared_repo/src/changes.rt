@@ -7,6 +7,7 @@ ghost use Rattle.bookmark_lock.specs.Place.{moved};
 ghost use Rattle.bookmark_lock.specs.Turns.{IsTurn};
 ghost use Rattle.reply_model.specs.After.{After, Replies};
 ghost use Rattle.repo_calls.specs.Calls.{call_seen};
+ghost use Rattle.repo_machine.specs.Prepared.{IsPrepared, asked_by};
 ghost use Rattle.repo_calls.specs.Asking.{is_disk_fault, is_misread, is_unread, stored_answer};
 ghost use Rattle.repo_state.specs.Asking.{is_join};
 ghost use Rattle.shared_repo.specs.Front.{IsFront, history_of, opening_of, sealed_of};
@@ -19,7 +20,7 @@ use blob_disk::Disk;
 use bookmark_lock::Seat;
 use ports::Gate;
 use repo_calls::{Ask, ChangeFault, Granted, Refusal};
-use repo_machine::prepare;
+use repo_machine::{Prepared, prepare};
 use repo_state::RepoState;
 use std::alloc::Global;
 use std::sync::Wait;
@@ -63,8 +64,8 @@ impl<D: Disk> Repo<D> {
         }
     }
 
-    // A change that is entered in one turn.
-    #[tactic(auto, using(crate::proofs::Sealings::memory_sealed, crate::proofs::LastTurns::turn_front))]
+    // A change that is entered in one turn. What this turn looks up in manifests is derived before it.
+    #[tactic(auto, using(crate::proofs::Sealings::memory_sealed))]
     fn store<R: Wait>(
         &self,
         rt: &R,
@@ -85,6 +86,30 @@ impl<D: Disk> Repo<D> {
         let Ok(prepared) = prepare(alloc, ask) else {
             return Err(ChangeFault::Refused(Refusal::Memory));
         };
+        self.derive_parents(rt, alloc, seat, &prepared);
+        self.store_prepared(rt, alloc, seat, prepared)
+    }
+
+    // The same of a change that is ready.
+    #[tactic(auto, using(crate::proofs::LastTurns::turn_front))]
+    fn store_prepared<R: Wait>(
+        &self,
+        rt: &R,
+        alloc: Global,
+        seat: &mut RepoSeat,
+        prepared: Prepared<'_>,
+    ) -> Result<Granted, ChangeFault>
+        requires place { seat.old.lock ≡ self.now }
+        requires ready { IsPrepared prepared }
+        ensures seat { seat.new ≡ moved seat.old seat.new }
+        ensures sealed { IsSealedAfter self.now.opening.header seat.old.front seat.old.number (asked_by prepared.entry) (stored_answer result) seat.new.front seat.new.sealed }
+        ensures seals { seat.old.sealed ≤ seat.new.sealed }
+        ensures stands { UnlessRefused result (IsLastTurn self.now.opening seat.old (is_disk_fault result) seat.new) }
+        ensures honest { IsTrue self.now.opening.honest → is_misread result ≡ false }
+        ensures front { IsFront self.now.opening seat.new.front }
+    {
+        // It keeps its rules.
+        let _ = seat.inner.number();
         let entered = self.enter_change(rt, alloc, &mut seat.inner, prepared);
         self.answer_sealed(rt, &mut seat.inner, entered)
     }

@@ -1,6 +1,6 @@
 //! Derivations of manifests: each job is taken under one turn, derived outside of every turn, and
 //! settled under another.
-ghost use Rattle.std.specs.Prelude.{◌≡◌, false, IfOk, IfErr, IfSome};
+ghost use Rattle.std.specs.Prelude.{◌≡◌, ◌≤◌, false, IfOk, IfErr, IfSome};
 ghost use Rattle.bookmark_lock.specs.Place.{moved};
 ghost use Rattle.history_model.specs.History.{known};
 ghost use Rattle.manifest_store.specs.Settling.{IsCollision};
@@ -18,6 +18,7 @@ use derive_step::{Done, derive};
 use node_table::{Roots, TableFault};
 use object_id::Id;
 use repo_calls::AskFault;
+use repo_machine::{Prepared, Wanted};
 use repo_state::{RepoState, settle_fault};
 use std::alloc::Global;
 use std::sync::Wait;
@@ -58,6 +59,7 @@ impl<D: Disk> Repo<D> {
         ensures seat { seat.new ≡ moved seat.old seat.new }
         ensures answer { Answers self.now.opening.header seat.new.front (Derives id) (roots_answer result) nothing }
         ensures more { SeesMore seat.old.front seat.old.number seat.new.front }
+        ensures seals { seat.old.sealed ≤ seat.new.sealed }
         ensures front { IsFront self.now.opening seat.new.front }
     {
         for _ in rt.forever() {
@@ -66,6 +68,29 @@ impl<D: Disk> Repo<D> {
             }
         }
         unreachable!()
+    }
+
+    /// Derives what the manifests of a merge's parents lack, of a change that stores one: in its turn what the merge leaves
+    /// unresolved is then found where these manifests differ. Whatever is wrong with a parent, the change itself answers.
+    #[tactic(auto, using(crate::proofs::Fronts::sees_nothing, crate::proofs::Fronts::sees_twice))]
+    pub(crate) fn derive_parents<R: Wait>(
+        &self,
+        rt: &R,
+        alloc: Global,
+        seat: &mut RepoSeat,
+        prepared: &Prepared,
+    )
+        requires place { seat.old.lock ≡ self.now }
+        ensures seat { seat.new ≡ moved seat.old seat.new }
+        ensures more { SeesMore seat.old.front seat.old.number seat.new.front }
+        ensures seals { seat.old.sealed ≤ seat.new.sealed }
+    {
+        let Wanted::Unresolved(commit) = prepared.wants() else {
+            return;
+        };
+        for parent in commit.changeset().parents() {
+            let _ = self.derive_chain(rt, alloc, seat, *parent);
+        }
     }
 
     // One round: the answer, or none where a job was derived and put in.
@@ -81,6 +106,7 @@ impl<D: Disk> Repo<D> {
         ensures seat { seat.new ≡ moved seat.old seat.new }
         ensures answer { IfSome result (λ answer. Answers self.now.opening.header seat.new.front (Derives id) (roots_answer answer) nothing) }
         ensures more { SeesMore seat.old.front seat.old.number seat.new.front }
+        ensures seals { seat.old.sealed ≤ seat.new.sealed }
         ensures front { IsFront self.now.opening seat.new.front }
     {
         let job = match self.next(rt, alloc, seat, id) {
@@ -110,6 +136,7 @@ impl<D: Disk> Repo<D> {
         requires place { seat.old.lock ≡ self.now }
         ensures seat { seat.new ≡ moved seat.old seat.new }
         ensures more { SeesMore seat.old.front seat.old.number seat.new.front }
+        ensures seals { seat.old.sealed ≤ seat.new.sealed }
         ensures ok { IfOk result (IsNextSome self.now.opening.header seat.new.front id) }
         ensures err { IfErr result (λ fault. Answers self.now.opening.header seat.new.front (Derives id) (fault_answer fault) nothing) }
         ensures front { IsFront self.now.opening seat.new.front }
@@ -142,6 +169,7 @@ impl<D: Disk> Repo<D> {
         requires derived { WasDerived seat.old.front done }
         ensures seat { seat.new ≡ moved seat.old seat.new }
         ensures more { SeesMore seat.old.front seat.old.number seat.new.front }
+        ensures seals { seat.old.sealed ≤ seat.new.sealed }
         ensures err { IfErr result (λ fault. IsCollision (known seat.new.front) fault) }
         ensures front { IsFront self.now.opening seat.new.front }
     {

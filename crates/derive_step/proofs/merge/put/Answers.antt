@@ -13,7 +13,7 @@ returns-in_ok-push_front-clause-merge g c =
     let seen = g.K.Kind.seen in
     let xs = children_seen seen c.args.entries.now.done.items in
     let ys = children_seen seen c.args.entries.now.left.items in
-    let name = c.in_ok-name.ensures ∙ c.as_bytes.ensures.value in
+    let name = c.in_ok-name.ensures in
     with_entry g.K.Kind.is_kept c.args.name.now (seen c.in-Some.entry) xs xs ys (children_seen seen c.push_front.new.self.items)
     (ap (children_seen seen) c.in_ok-push_front.ensures.items ∙ ap (λ n. (n, seen c.in-Some.entry) ∷ ys) name)
     (λ i. xs) c.requires.before c.requires.after c.requires.merge
@@ -24,7 +24,7 @@ returns-in_ok-push_front-clause-put g c = λ q.
     let xs = children_seen seen c.args.entries.now.done.items in
     let ys = children_seen seen c.args.entries.now.left.items in
     let n = c.args.name.now in
-    let name = c.in_ok-name.ensures ∙ c.as_bytes.ensures.value in
+    let name = c.in_ok-name.ensures in
     ap (λ zs. find_key by_name q (xs ++ zs)) (ap (children_seen seen) c.in_ok-push_front.ensures.items ∙ ap (λ m. (m, seen c.in-Some.entry) ∷ ys) name)
     ∙ found_with n q (seen c.in-Some.entry) xs ys c.requires.before
     ∙ ap (λ o. cond (eq_by_cmp by_name n q) (option_map seen o) (entry_in seen c.args.entries.now q)) (sym c.in-Some.is)

@@ -1,14 +1,12 @@
 use Rattle.std.proofs.Common.{◌≡◌, ◌++◌, ◌∷◌, [], ℕ, List, ap, sym, subst, ◌∙◌, append_assoc}
-use Rattle.std.specs.Prelude.{Option}
 use Rattle.std.specs.FinMap.{is_sorted}
 use Rattle.bonsai.specs.View.{change_view, edit_view, edits_view}
 use Rattle.changeset_model.specs.Path.{path_cmp}
 use Rattle.node_fields.specs.Children.{children_seen}
-use Rattle.manifest_laws.specs.EntryEdits.{after_edits}
 use Rattle.derive_step.specs.Places.{dir_of}
 use Rattle.derive_step.specs.Slices.{left_after}
-use Rattle.derive_step.specs.Merge.{AreAhead, entry_in}
-use Rattle.derive_step.specs.Walk.{after, all_nodes, made_in, nodes_by}
+use Rattle.derive_step.specs.Merge.{AreBothAhead, entries_in}
+use Rattle.derive_step.specs.Walk.{Sides, after, after_edits, all_nodes, made_in, nodes_by}
 use Rattle.derive_step.proofs.Edits.{left_same, left_nodes}
 use Rattle.derive_step.proofs.Merged.{ahead_left, rising_parts, sorted_left}
 use Rattle.derive_step.proofs.walk.put_edits.Goals as goal
@@ -16,7 +14,8 @@ use Rattle.derive_step.proofs.walk.put_edits.Goals as goal
 pub put_edit-requires-clause-ahead : goal.put_edit-requires-clause-ahead
 put_edit-requires-clause-ahead g c =
     let cut : edits_view c.putting.left.now ≡ edit_view c.in-Some.edit.now ∷ edits_view c.in-Some.rest.now = ap edits_view c.in-Some.ensures.cases.0 in
-    ((subst (λ q. AreAhead (dir_of c.args.dir) q (children_seen g.K.Kind.seen c.putting.entries.done.items)) cut c.putting.invariant.ahead).0, tt)
+    let ahead = subst (λ q. AreBothAhead g.K.Kind.seen (dir_of c.args.dir) q c.putting.entries) cut c.putting.invariant.ahead in
+    ((ahead.0.0, tt), (ahead.1.0, tt))
 
 pub putting-preserved : goal.putting-preserved
 putting-preserved g c =
@@ -29,17 +28,19 @@ putting-preserved g c =
     let change = change_view x.change in
     let child = c.in_ok-child.child in
     let rest = edits_view c.in-Some.rest.now in
-    let before = entry_in g.K.Kind.seen c.putting.entries in
-    let then = entry_in g.K.Kind.seen c.put_edit.new.entries in
-    let one : List ℕ → Option g.K.Kind.Seen = λ n. after set made is_file d (edit_view x ∷ []) before n in
+    let before = entries_in g.K.Kind.seen c.putting.entries in
+    let then = entries_in g.K.Kind.seen c.put_edit.new.entries in
+    let one : List ℕ → Sides g.K.Kind.Seen = λ n. after set made is_file d (edit_view x ∷ []) before n in
     let cut : edits_view c.putting.left.now ≡ edit_view x ∷ rest = ap edits_view c.in-Some.ensures.cases.0 in
     let put : (n : List ℕ) → then n ≡ one n = c.in_ok-child.ensures.entries in
     let same : then ≡ one = λ j n. put n j in
     let had = c.putting.nodes.items in
     let parts = rising_parts (edit_view x) rest (ap (is_sorted path_cmp) (sym cut) ∙ c.putting.invariant.rising) in
+    let was = subst (λ q. AreBothAhead g.K.Kind.seen d q c.putting.entries) cut c.putting.invariant.ahead in
+    let later = c.in_ok-child.ensures.ahead rest parts.0 (was.0.1, was.1.1) in
     record {
       merge = c.in_ok-child.ensures.merge;
-      ahead = subst (λ q. AreAhead d q (children_seen g.K.Kind.seen c.put_edit.new.entries.done.items)) (sym c.edits_left-left.ensures.left) (ahead_left d child _ rest (c.in_ok-child.ensures.ahead rest parts.0 (subst (λ q. AreAhead d q (children_seen g.K.Kind.seen c.putting.entries.done.items)) cut c.putting.invariant.ahead).1));
+      ahead = subst (λ q. AreBothAhead g.K.Kind.seen d q c.put_edit.new.entries) (sym c.edits_left-left.ensures.left) (ahead_left d child (children_seen g.K.Kind.seen c.put_edit.new.entries.first.done.items) rest later.0, ahead_left d child (children_seen g.K.Kind.seen c.put_edit.new.entries.second.done.items) rest later.1);
       rising = ap (is_sorted path_cmp) c.edits_left-left.ensures.left ∙ sorted_left child rest parts.1;
       entries = λ n.
           ap (λ q. after set made is_file d q then n) c.edits_left-left.ensures.left

@@ -1,21 +1,16 @@
-use Rattle.std.proofs.Common.{not, arith}
-use Rattle.deleted_step.specs.Steps.{is_among}
-use Rattle.manifest_store.specs.Moves.{has_file, takes, brings}
-use Rattle.manifest_store.proofs.Taken.{next_adds, all_added}
+use Rattle.std.proofs.Common.{[], subst}
+use Rattle.bonsai.specs.View.{edits_view}
+use Rattle.manifest_store.specs.Moves.{Stands}
+use Rattle.manifest_store.proofs.Coming.{none_brought, with_brought}
 use Rattle.manifest_store.proofs.moves.moved_by.Goals as goal
 
-pub loop-edit-preserved : goal.loop-edit-preserved
-loop-edit-preserved c =
-    let es = c.args.edits.now in
-    let i = c.loop-edit.edit-index in
-    let x = c.edit-item.result in
-    record {
-      gone = λ line s p. next_adds (has_file line p) (λ e. takes e p) es i x (is_among p c.loop-edit.moved.gone.items) (is_among p c.add_edit.new.moved.gone.items) _ c.loop-edit-test.true c.edit-item.is (c.in_ok-add_edit.ensures.gone line s p) (c.loop-edit.invariant.gone line s p);
-      come = λ line s p. next_adds (not (has_file line p)) (λ e. brings e p) es i x (is_among p c.loop-edit.moved.come.items) (is_among p c.add_edit.new.moved.come.items) _ c.loop-edit-test.true c.edit-item.is (c.in_ok-add_edit.ensures.come line s p) (c.loop-edit.invariant.come line s p);
-    }
-
-pub returns-clause-gone : goal.returns-clause-gone
-returns-clause-gone c = λ line s p. all_added (has_file line p) (λ e. takes e p) c.args.edits.now c.loop-edit.edit-index (is_among p c.loop-edit.moved.gone.items) _ (omega (arith, c.loop-edit-test.false)) (c.loop-edit.invariant.gone line s p)
+pub returns-in_default-clause-come : goal.returns-in_default-clause-come
+returns-in_default-clause-come c = λ past other s t.
+    let m = c.args.table.now.nodes in
+    none_brought past (edits_view c.args.edits.now) m other [] c.in_ok-moved.moved.come.items (subst (λ second. Stands m second other) c.in_default.is t) (c.in_ok-moved.ensures.come past s)
 
 pub returns-clause-come : goal.returns-clause-come
-returns-clause-come c = λ line s p. all_added (not (has_file line p)) (λ e. brings e p) c.args.edits.now c.loop-edit.edit-index (is_among p c.loop-edit.moved.come.items) _ (omega (arith, c.loop-edit-test.false)) (c.loop-edit.invariant.come line s p)
+returns-clause-come c = λ past other s t.
+    let m = c.args.table.now.nodes in
+    with_brought past (edits_view c.args.edits.now) other [] c.in_ok-moved.moved.come.items c.add_brought.new.come.items (c.in_ok-moved.ensures.come past s)
+    (c.in_ok-add_brought.ensures past other s (subst (λ second. Stands m second other) c.in-Some.is t))

@@ -15,21 +15,21 @@ loop-dir-preserved c =
     let x = c.dir-item.result in
     let level = c.args.level.now in
     record {
-      files = λ line has all p.
+      files = λ past has all p.
           let lies : List Directory → Bool = λ ds. list_any (λ d. is_strict_prefix d.path p) ds in
-          let here = has_file line p in
-          ap (λ b. b || (here && lies (drop (i + 1) level))) (c.in_ok-add_children.ensures.files line has (each_at (λ d. IsDirectory line d.path d.id) level i x c.loop-dir-test.true c.dir-item.is all) p)
-          ∙ one_further (is_reached line c.loop-dir.gone.items c.loop-dir.next.items p) here (is_strict_prefix x.path p) (lies (drop (i + 1) level))
-          ∙ ap (λ ds. is_reached line c.loop-dir.gone.items c.loop-dir.next.items p || (here && lies ds)) (sym (from_here level i x c.loop-dir-test.true c.dir-item.is))
-          ∙ c.loop-dir.invariant.files line has all p;
-      directories = λ line has all. c.in_ok-add_children.ensures.directories line has (each_at (λ d. IsDirectory line d.path d.id) level i x c.loop-dir-test.true c.dir-item.is all) (c.loop-dir.invariant.directories line has all);
+          let here = has_file past p in
+          ap (λ b. b || (here && lies (drop (i + 1) level))) (c.in_ok-add_children.ensures.files past has (each_at (λ d. IsDirectory past d.path d.id) level i x c.loop-dir-test.true c.dir-item.is all) p)
+          ∙ one_further (is_reached past c.loop-dir.gone.items c.loop-dir.next.items p) here (is_strict_prefix x.path p) (lies (drop (i + 1) level))
+          ∙ ap (λ ds. is_reached past c.loop-dir.gone.items c.loop-dir.next.items p || (here && lies ds)) (sym (from_here level i x c.loop-dir-test.true c.dir-item.is))
+          ∙ c.loop-dir.invariant.files past has all p;
+      directories = λ past has all. c.in_ok-add_children.ensures.directories past has (each_at (λ d. IsDirectory past d.path d.id) level i x c.loop-dir-test.true c.dir-item.is all) (c.loop-dir.invariant.directories past has all);
       deeper = λ n all. c.in_ok-add_children.ensures.deeper n (each_at (λ d. n ≤ length d.path) level i x c.loop-dir-test.true c.dir-item.is all) (c.loop-dir.invariant.deeper n all);
     }
 
 pub returns-clause-files : goal.returns-clause-files
-returns-clause-files c = λ line has all p.
-    let here = has_file line p in
-    let r = is_reached line c.loop-dir.gone.items c.loop-dir.next.items p in
+returns-clause-files c = λ past has all p.
+    let here = has_file past p in
+    let r = is_reached past c.loop-dir.gone.items c.loop-dir.next.items p in
     sym (none_further r here)
     ∙ ap (λ ds. r || (here && list_any (λ (d : Directory). is_strict_prefix d.path p) ds)) (sym (drop_all c.loop-dir.dir-index c.args.level.now (omega (arith, c.loop-dir-test.false))))
-    ∙ c.loop-dir.invariant.files line has all p
+    ∙ c.loop-dir.invariant.files past has all p

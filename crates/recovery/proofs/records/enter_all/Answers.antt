@@ -21,6 +21,7 @@ loop-preserved g c =
     let next = c.in_ok-enter_next.ensures in
     record {
       at = subst (λ b. OnTrue b (IsAt n c.enter_next.new.machine.header c.enter_next.new.machine.history c.enter_next.new.scanner.gate c.enter_next.new.scanner)) c.if-branch.true next.more;
+      manifests = next.manifests;
       header = next.header ∙ c.loop.invariant.header;
       looked = looked_then m now n c.loop.invariant.spares.kept c.loop.invariant.looked next.looked;
       spares = spares_then m now n false c.loop.invariant.spares next.spares;

@@ -13,7 +13,7 @@ enter_record-requires-clause-step g c = λ honest.
     let was = sym next.kept.honest ∙ honest in
     ap (λ d. step_at d.reads c.gate-gate.result) (next.looked was)
     ∙ ap (λ k. step_at m.state.reads k) c.gate-gate.ensures
-    ∙ sym (step_seen c.requires c.in_ok-next.field-0 (g.met.D.Disk.sound c.args.disk.now) was (next.step was (c.requires.holds was)))
+    ∙ sym (step_seen c.requires.at c.in_ok-next.field-0 (g.met.D.Disk.sound c.args.disk.now) was (next.step was (c.requires.at.holds was)))
     ∙ c.in-Record.is)
 
 pub returns-in_err-enter_record-in-Record-clause-spares : goal.returns-in_err-enter_record-in-Record-clause-spares
@@ -30,16 +30,16 @@ pub returns-in-Closed-clause-read : goal.returns-in-Closed-clause-read
 returns-in-Closed-clause-read g c =
     let m = g.D.Disk.meaning c.args.disk.now in
     let next = c.in_ok-next.ensures in
-    at_end c.requires (g.D.Disk.meaning c.next.new.disk) (g.met.D.Disk.sound c.args.disk.now) next.looked next.kept
+    at_end c.requires.at (g.D.Disk.meaning c.next.new.disk) (g.met.D.Disk.sound c.args.disk.now) next.looked next.kept
     (subst (λ s. IsNext c.args.scanner.now.gate c.args.scanner.now.size s) c.in-Closed.is next.inside)
-    (λ honest. sym (step_seen c.requires c.in_ok-next.field-0 (g.met.D.Disk.sound c.args.disk.now) honest (next.step honest (c.requires.holds honest))) ∙ c.in-Closed.is)
+    (λ honest. sym (step_seen c.requires.at c.in_ok-next.field-0 (g.met.D.Disk.sound c.args.disk.now) honest (next.step honest (c.requires.at.holds honest))) ∙ c.in-Closed.is)
 
 pub returns-in-Bad-clause-refused : goal.returns-in-Bad-clause-refused
 returns-in-Bad-clause-refused g c = λ honest.
     (let next = c.in_ok-next.ensures in
-    damaged_gate c.requires c.in-Bad.at honest
+    damaged_gate c.requires.at c.in-Bad.at honest
     (subst (λ s. IsNext c.args.scanner.now.gate c.args.scanner.now.size s) c.in-Bad.is next.inside)
-    (sym (step_seen c.requires c.in_ok-next.field-0 (g.met.D.Disk.sound c.args.disk.now) honest (next.step honest (c.requires.holds honest))) ∙ c.in-Bad.is))
+    (sym (step_seen c.requires.at c.in_ok-next.field-0 (g.met.D.Disk.sound c.args.disk.now) honest (next.step honest (c.requires.at.holds honest))) ∙ c.in-Bad.is))
 
 pub returns-in_ok-enter_record-in-Record-clause-spares : goal.returns-in_ok-enter_record-in-Record-clause-spares
 returns-in_ok-enter_record-in-Record-clause-spares g c =

@@ -1,6 +1,6 @@
 use Rattle.std.proofs.Common.{ap, ◌∙◌}
 use Rattle.repo_calls.specs.Asking.{copies_seen}
-use Rattle.repo_machine.proofs.Copying.{no_copy, a_copy}
+use Rattle.repo_machine.proofs.Lists.{no_copy, a_copy}
 use Rattle.repo_machine.proofs.copies.copies_in.Goals as goal
 use Rattle.repo_machine.proofs.copies.copies_in.Goals.{in-Some+in_ok-push, in_default}
 

@@ -1,6 +1,6 @@
 use Rattle.std.proofs.Common.{arith}
 use Rattle.std.specs.Prelude.{◌&&◌}
-use Rattle.repo_machine.proofs.Putting.{are_bytes-from}
+use Rattle.repo_machine.proofs.Judging.{are_bytes-from}
 use Rattle.repo_machine.proofs.policies.keep_rules.Goals as goal
 
 pub returns : goal.returns

@@ -1,5 +1,5 @@
 use Rattle.std.proofs.Common.{arith}
-use Rattle.repo_machine.proofs.Putting.{are_bytes-from}
+use Rattle.repo_machine.proofs.Judging.{are_bytes-from}
 use Rattle.repo_machine.proofs.prepared.keep_bytes.Goals as goal
 
 pub returns : goal.returns

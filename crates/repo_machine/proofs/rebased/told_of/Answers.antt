@@ -1,6 +1,6 @@
 use Rattle.std.proofs.Common.{sym, ap, ◌∙◌}
 use Rattle.changeset_model.specs.Version.{is_second}
-use Rattle.repo_machine.proofs.Dating.{one_passed, one_found, none_at_all}
+use Rattle.repo_machine.proofs.Rebasing.{one_passed, one_found, none_at_all}
 use Rattle.repo_machine.proofs.rebased.told_of.Goals as goal
 
 pub returns-then-is_second : goal.returns-then-is_second

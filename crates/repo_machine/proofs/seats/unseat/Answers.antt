@@ -1,5 +1,5 @@
 use Rattle.std.proofs.Common.{◌<◌, length, arith}
-use Rattle.repo_machine.proofs.Unseating.{unseated_more}
+use Rattle.repo_machine.proofs.ClearedEntries.{unseated_more}
 use Rattle.repo_machine.proofs.seats.unseat.Goals as goal
 
 pub loop-entry-preserved : goal.loop-entry-preserved

@@ -1,4 +1,4 @@
-use Rattle.repo_machine.proofs.Unseating.{IsUnseatedTo}
+use Rattle.repo_machine.proofs.ClearedEntries.{IsUnseatedTo}
 use Rattle.repo_machine.proofs.seats.unseat.Given as goal
 
 abbrev pub invariant-loop-entry : goal.invariant-loop-entry

@@ -12,7 +12,6 @@ whole refusals.Down = refl
 whole (refusals.TooLong length) = refl
 whole (refusals.BadEncoding at) = refl
 whole (refusals.SelfConflict short long) = refl
-whole refusals.Merge = refl
 whole (refusals.BadParts length) = refl
 whole refusals.OldFormat = refl
 whole (refusals.NoPiece id) = refl

@@ -15,7 +15,6 @@ returns c = elim c.match-refusal.branch [
       (or_else (λ e. ap fault_of (sym e.1))
       (or_else (λ e. ap fault_of (sym e.1))
       (or_else (λ e. ap fault_of (sym e.2))
-      (or_else (λ e. ap fault_of (sym e))
       (or_else (λ e. ap fault_of (sym e.1))
       (or_else (λ e. ap fault_of (sym e))
       (or_else (λ e. ap fault_of (sym e.1))
@@ -38,5 +37,5 @@ returns c = elim c.match-refusal.branch [
       (or_else (λ e. ap fault_of (sym e.2))
       (or_else (λ e. ap fault_of (sym e.1))
       (or_else (λ e. ap fault_of (sym e.1))
-      (λ e. ap fault_of (sym e.2))))))))))))))))))))))))))))) w.in-Down.is
+      (λ e. ap fault_of (sym e.2)))))))))))))))))))))))))))) w.in-Down.is
 ]

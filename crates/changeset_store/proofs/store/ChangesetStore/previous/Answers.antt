@@ -1,6 +1,6 @@
 use Rattle.std.proofs.Common.{ap, arith}
 use Rattle.changeset_store.proofs.Stored.{are_known, members}
-use Rattle.changeset_store.proofs.Forks.{is_member, none_follow, ancestor_previous, newest_follows}
+use Rattle.changeset_store.proofs.Forks.{is_member, none_follow, none_itself, ancestor_previous, newest_follows}
 use Rattle.changeset_store.specs.Shared.{values}
 use Rattle.changeset_store.proofs.store.ChangesetStore.previous.Goals as goal
 
@@ -15,6 +15,10 @@ previous-requires-clause-ancestor c =
 pub returns-clause-none : goal.returns-clause-none
 returns-clause-none c =
     none_follow c.args.self.now.known c.self.inside.chain.parents (are_known (values c.self.inside.commits.items) c.self.invariant _ (ap (λ s. s.known) c.self.view_is)) c.args.ancestor c.args.last c.requires c.previous.result c.previous.ensures.none
+
+pub returns-clause-itself : goal.returns-clause-itself
+returns-clause-itself c =
+    none_itself c.args.self.now.known c.self.inside.chain.parents (are_known (values c.self.inside.commits.items) c.self.invariant _ (ap (λ s. s.known) c.self.view_is)) c.args.ancestor c.args.last c.requires c.previous.result c.previous.ensures.none
 
 pub returns-clause-ancestor : goal.returns-clause-ancestor
 returns-clause-ancestor c =

@@ -14,6 +14,7 @@ invariant_of-self c =
       kept_unseated c.self.inside.changesets.known _ _ clears _ k.3,
       held_cleared _ c.self.inside.held k.4 _ (history_unseated c.self.inside.changesets.known _ _ clears),
       joined_unseated c.self.inside.changesets.known _ _ clears _ k.5,
+      k.6,
     )
 
 pub returns-clause-history : goal.returns-clause-history

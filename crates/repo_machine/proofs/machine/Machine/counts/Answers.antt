@@ -3,7 +3,7 @@ use Rattle.std.specs.Prelude.{count_by}
 use Rattle.history_model.specs.History.{known}
 use Rattle.repo_machine.specs.Counting.{is_content, is_landing, is_content_entry, is_landing_entry, bookmarks}
 use Rattle.repo_machine.specs.Records.{history_of}
-use Rattle.repo_machine.proofs.CountedEntries.{contents_counted, landings_counted}
+use Rattle.repo_machine.proofs.Kept.{contents_counted, landings_counted}
 use Rattle.repo_machine.proofs.Heads.{heads_counted}
 use Rattle.repo_machine.proofs.machine.Machine.counts.Goals as goal
 

@@ -11,6 +11,7 @@ use Rattle.repo_machine.proofs.Entered.{enterable_as, legal_grown, indexes_grown
 use Rattle.repo_machine.proofs.Kept.{kept_grown}
 use Rattle.repo_machine.proofs.HeldPolicy.{held_stays}
 use Rattle.repo_machine.proofs.Tables.{joined_stays}
+use Rattle.repo_machine.proofs.Touching.{covers_more}
 use Rattle.repo_machine.proofs.machine.Machine.enter_change.Goals as goal
 
 pub returns-clause-history : goal.returns-clause-history
@@ -36,4 +37,5 @@ invariant_of-self c =
       kept_grown c.self.inside.entries.items _ c.self.invariant.3 _ _ c.push_reserved-2.ensures.items refl _ (omega (arith, c.len.ensures)) _ c.push_reserved.ensures.items,
       held_stays h c.args.who (Change (arc_value c.args.commit)) refl c.self.inside.held c.self.invariant.4 _ grows,
       joined_stays h (entry_by c.args.who (Change (arc_value c.args.commit))) (λ x. refl) (λ x. refl) _ c.self.invariant.5 _ grows,
+      covers_more c.self.inside.touches c.self.inside.changesets.known c.self.invariant.6 (with_id (arc_value c.args.commit) ∷ []) _ c.add-number.ensures.known,
     )

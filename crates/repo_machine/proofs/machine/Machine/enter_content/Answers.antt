@@ -32,4 +32,5 @@ invariant_of-self c =
       kept_grown c.self.inside.entries.items _ c.self.invariant.3 _ _ c.push_reserved-2.ensures.items refl _ (omega (arith, c.len.ensures)) _ c.push_reserved.ensures.items,
       held_stays h c.args.who (Content c.args.id c.args.length) refl c.self.inside.held c.self.invariant.4 _ grows,
       joined_kept h c.args.who c.args.id c.args.length can.new _ _ c.self.invariant.5 (joined_entered c.self.inside.contents c.enter.new.self c.args.id _ c.enter.ensures.entered) _ grows,
+      c.self.invariant.6,
     )

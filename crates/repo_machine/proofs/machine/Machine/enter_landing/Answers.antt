@@ -18,6 +18,8 @@ use Rattle.repo_machine.proofs.KnownLanding.{known-land}
 use Rattle.repo_machine.proofs.LandingEntry.{history_landed, within_landed}
 use Rattle.repo_machine.proofs.HeldPolicy.{held_stays}
 use Rattle.repo_machine.proofs.Tables.{joined_stays}
+use Rattle.repo_machine.proofs.Touching.{covers_adding}
+use Rattle.repo_machine.specs.Touches.{Covers}
 use Rattle.repo_machine.proofs.machine.Machine.enter_landing.Goals as goal
 
 pub add_all-requires-clause-can : goal.add_all-requires-clause-can
@@ -49,4 +51,5 @@ invariant_of-self c =
       kept_grown c.self.inside.entries.items _ c.self.invariant.3 _ _ c.push_reserved-2.ensures.items refl _ (omega (arith, c.len.ensures)) _ c.push_reserved.ensures.items,
       held_stays h c.args.who (Land (landing_made c.args.landing)) refl c.self.inside.held c.self.invariant.4 _ grows,
       joined_stays h (entry_by c.args.who (Land (landing_made c.args.landing))) (λ x. refl) (λ x. refl) _ c.self.invariant.5 _ grows,
+      subst (Covers c.self.inside.touches) (sym c.add_all.ensures.known) (covers_adding c.self.inside.touches c.self.inside.changesets.known (values c.args.landing.new.items) c.self.invariant.6),
     )

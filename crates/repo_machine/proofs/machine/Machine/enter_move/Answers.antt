@@ -33,4 +33,5 @@ invariant_of-self c =
       kept_grown c.self.inside.entries.items _ c.self.invariant.3 _ _ c.push_reserved-2.ensures.items refl _ (omega (arith, c.len.ensures)) _ c.push_reserved.ensures.items,
       held_stays h c.args.who (Book (move_of c.args.movement)) refl c.self.inside.held c.self.invariant.4 _ grows,
       joined_stays h (entry_by c.args.who (Book (move_of c.args.movement))) (λ x. refl) (λ x. refl) _ c.self.invariant.5 _ grows,
+      c.self.invariant.6,
     )

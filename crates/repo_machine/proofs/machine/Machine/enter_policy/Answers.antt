@@ -34,4 +34,5 @@ invariant_of-self c =
       kept_grown c.self.inside.entries.items _ c.self.invariant.3 _ _ c.push_reserved-2.ensures.items refl _ (omega (arith, c.len-2.ensures)) _ c.push_reserved.ensures.items,
       last_set h c.args.who c.args.caller c.args.text.items c.args.rules _ c.requires.parses (count_is c.self.inside.changesets.known c.self.inside.entries.items c.self.inside.kept.items c.self.invariant.3 _ (omega (arith, c.len.ensures))) _ grows,
       joined_stays h (entry_by c.args.who body) (λ x. refl) (λ x. refl) _ c.self.invariant.5 _ grows,
+      c.self.invariant.6,
     )

@@ -36,4 +36,5 @@ invariant_of-self c =
       kept_grown c.self.inside.entries.items _ c.self.invariant.3 _ _ c.push_reserved-2.ensures.items refl _ (omega (arith, c.len.ensures)) _ c.push_reserved.ensures.items,
       held_stays h c.args.who (whole_made w) refl c.self.inside.held c.self.invariant.4 _ grows,
       joined_new h c.args.who w.id w.length parts can.new _ _ c.self.invariant.5 (λ y. joined_entered c.self.inside.contents c.enter.new.self w.id _ c.enter.ensures.entered y ∙ ap (λ ps. cond (bytes_eq w.id y) (Some ps) (joined c.self.inside.contents y)) (ap (λ v. v.items) c.requires.shared)) _ grows,
+      c.self.invariant.6,
     )

@@ -22,4 +22,5 @@ invariant_of-self c =
       kept_stays c.self.inside.entries.items _ c.self.invariant.3 _ _ c.push_reserved.ensures.items refl,
       held_stays _ c.args.who (Fault c.args.breaking) refl c.self.inside.held c.self.invariant.4 _ grows,
       joined_stays _ (entry_by c.args.who (Fault c.args.breaking)) (λ x. refl) (λ x. refl) _ c.self.invariant.5 _ grows,
+      c.self.invariant.6,
     )

@@ -7,7 +7,7 @@ use Rattle.reply_model.specs.After.{Refuses}
 use Rattle.repo_calls.specs.Refusing.{IsRefusal}
 use Rattle.repo_machine.proofs.Judging.{judged_unknown, judged_moved, passes_refusal}
 use Rattle.repo_machine.proofs.Deciding.{decided_by}
-use Rattle.repo_machine.proofs.Moving.{denied_as, same_as, moving_as, moved_as, not_true}
+use Rattle.repo_machine.proofs.Judging.{denied_as, same_as, moving_as, moved_as, not_true}
 use Rattle.repo_machine.proofs.Granting.{judges_nothing, judges_made, if_ok, all_prevented}
 use Rattle.repo_machine.proofs.machine.Machine.judge_bookmark.Goals as goal
 

@@ -3,7 +3,7 @@ use Rattle.std.specs.Prelude.{is_some}
 use Rattle.history_model.specs.History.{Content}
 use Rattle.reply_model.specs.Reply.{PutContent, ContentPut}
 use Rattle.repo_machine.specs.Held.{repository}
-use Rattle.repo_machine.proofs.Putting.{are_bytes-from, judged_known, judged_new, is_absent}
+use Rattle.repo_machine.proofs.Judging.{are_bytes-from, judged_known, judged_new, is_absent}
 use Rattle.repo_machine.proofs.Granting.{judges_nothing, judges_made, if_ok}
 use Rattle.repo_machine.proofs.machine.Machine.judge_content.Goals as goal
 

@@ -13,11 +13,11 @@ use Rattle.repo_machine.specs.Plans.{PlannedLanding, IsPlan, IsAllowed}
 use Rattle.repo_machine.proofs.Judging.{passes_refusal}
 use Rattle.repo_machine.proofs.Deciding.{decided_for}
 use Rattle.repo_machine.proofs.LandingSteps.{no_bookmark, down_as, none_refused}
-use Rattle.repo_machine.proofs.LandingPlans.{head_known, planned, fork_refused_as, lengths_refused_as, policy_refused_as, paths_refused_as}
+use Rattle.repo_machine.proofs.LandingPlans.{head_known, planned, fork_refused_as, lengths_refused_as, merges_refused_as, policy_refused_as, paths_refused_as}
 use Rattle.repo_machine.proofs.Uploading.{known_as}
 use Rattle.changeset_store.specs.Fork.{following_at}
 use Rattle.repo_machine.proofs.Looking.{none_taken}
-use Rattle.repo_machine.proofs.Renewed.{was_known, stack_again, touched_again, paths_again, since_again}
+use Rattle.repo_machine.proofs.Renewed.{was_known, stack_again, merges_again, touched_again, paths_again, since_again}
 use Rattle.repo_machine.proofs.machine.Machine.plan_again.Goals as goal
 
 pub returns-in_default-clause-err : goal.returns-in_default-clause-err
@@ -48,12 +48,20 @@ returns-in_err-check_lengths-clause-err g c =
     (ap (λ (p : PlannedLanding). head_of c.args.self.now.history p.name) (sym c.plan.view_is) ∙ sym c.head.ensures ∙ c.in-Some.is) c.args.plan.draft c.in_ok-fork.fork c.in_ok-fork.ensures.is_fork
     (ap (λ (p : PlannedLanding). forking c.self.inside.changesets.known c.in-Some.head p.draft) (sym c.plan.view_is) ∙ c.in_ok-fork.ensures.steps) _ c.in_err-check_lengths.ensures)
 
+pub returns-in_err-check_new_merges-clause-err : goal.returns-in_err-check_new_merges-clause-err
+returns-in_err-check_new_merges-clause-err g c =
+    passes_refusal _ c.from_residual-in_err-check_new_merges.result _ c.from_residual-in_err-check_new_merges.ensures.1
+    (merges_refused_as c.self.invariant.1 (repository c.args.self.now) (ap repository c.self.view_is) c.in_ok-check_up.ensures.ok c.args.plan.caller c.args.plan.name c.in-Some.head
+    (ap (λ (p : PlannedLanding). head_of c.args.self.now.history p.name) (sym c.plan.view_is) ∙ sym c.head.ensures ∙ c.in-Some.is) c.args.plan.draft c.in_ok-fork.fork c.in_ok-fork.ensures.is_fork
+    (ap (λ (p : PlannedLanding). forking c.self.inside.changesets.known c.in-Some.head p.draft) (sym c.plan.view_is) ∙ c.in_ok-fork.ensures.steps) c.in_ok-check_lengths.ensures _
+    (subst (λ checked. IsRefusal checked c.in_err-check_new_merges.field-0.0) (sym (merges_again c.args.self.now.history c.self.inside.changesets.known (known_as c.self.invariant.1 (repository c.args.self.now) (ap repository c.self.view_is)) c.args.plan c.requires c.in_ok-fork.fork c.in-Some-planned_head.planned c.in-Some-planned_head.ensures.planned)) c.in_err-check_new_merges.ensures))
+
 pub returns-in_err-check_landing-clause-err : goal.returns-in_err-check_landing-clause-err
 returns-in_err-check_landing-clause-err g c =
     passes_refusal _ c.from_residual-in_err-check_landing.result _ c.from_residual-in_err-check_landing.ensures.1
     (policy_refused_as c.self.invariant.1 (repository c.args.self.now) (ap repository c.self.view_is) c.in_ok-check_up.ensures.ok c.args.plan.caller c.args.plan.name c.in-Some.head
     (ap (λ (p : PlannedLanding). head_of c.args.self.now.history p.name) (sym c.plan.view_is) ∙ sym c.head.ensures ∙ c.in-Some.is) c.args.plan.draft c.in_ok-fork.fork c.in_ok-fork.ensures.is_fork
-    (ap (λ (p : PlannedLanding). forking c.self.inside.changesets.known c.in-Some.head p.draft) (sym c.plan.view_is) ∙ c.in_ok-fork.ensures.steps) c.in_ok-check_lengths.ensures _
+    (ap (λ (p : PlannedLanding). forking c.self.inside.changesets.known c.in-Some.head p.draft) (sym c.plan.view_is) ∙ c.in_ok-fork.ensures.steps) c.in_ok-check_lengths.ensures (merges_again c.args.self.now.history c.self.inside.changesets.known (known_as c.self.invariant.1 (repository c.args.self.now) (ap repository c.self.view_is)) c.args.plan c.requires c.in_ok-fork.fork c.in-Some-planned_head.planned c.in-Some-planned_head.ensures.planned ∙ c.in_ok-check_new_merges.ensures) _
     (subst (λ d. IsRefusal (refuse_some d denial) c.in_err-check_landing.field-0.0) (decided_for c.args.self.now.history c.plan.inside.caller c.args.plan.caller _ _ _ c.rules.ensures (ap (λ (p : PlannedLanding). p.caller) c.plan.view_is) (c.as_slice.ensures.value ∙ ap (λ v. v.items) c.deref.ensures ∙ ap (λ (p : PlannedLanding). p.touched) c.plan.view_is ∙ touched_again c.args.self.now.history c.self.inside.changesets.known (known_as c.self.invariant.1 (repository c.args.self.now) (ap repository c.self.view_is)) c.args.plan c.requires c.in_ok-fork.fork c.in-Some-planned_head.planned c.in-Some-planned_head.ensures.planned)) c.in_err-check_landing.ensures))
 
 pub check_new-requires-clause-rising : goal.check_new-requires-clause-rising
@@ -64,7 +72,7 @@ returns-in_err-check_new-clause-err g c =
     passes_refusal _ c.from_residual-in_err-check_new.result _ c.from_residual-in_err-check_new.ensures.1
     (paths_refused_as c.self.invariant.1 (repository c.args.self.now) (ap repository c.self.view_is) c.in_ok-check_up.ensures.ok c.args.plan.caller c.args.plan.name c.in-Some.head
     (ap (λ (p : PlannedLanding). head_of c.args.self.now.history p.name) (sym c.plan.view_is) ∙ sym c.head.ensures ∙ c.in-Some.is) c.args.plan.draft c.in_ok-fork.fork c.in_ok-fork.ensures.is_fork
-    (ap (λ (p : PlannedLanding). forking c.self.inside.changesets.known c.in-Some.head p.draft) (sym c.plan.view_is) ∙ c.in_ok-fork.ensures.steps) c.in_ok-check_lengths.ensures (subst (λ d. refuse_some d denial ≡ Ok tt) (decided_for c.args.self.now.history c.plan.inside.caller c.args.plan.caller _ _ _ c.rules.ensures (ap (λ (p : PlannedLanding). p.caller) c.plan.view_is) (c.as_slice.ensures.value ∙ ap (λ v. v.items) c.deref.ensures ∙ ap (λ (p : PlannedLanding). p.touched) c.plan.view_is ∙ touched_again c.args.self.now.history c.self.inside.changesets.known (known_as c.self.invariant.1 (repository c.args.self.now) (ap repository c.self.view_is)) c.args.plan c.requires c.in_ok-fork.fork c.in-Some-planned_head.planned c.in-Some-planned_head.ensures.planned)) c.in_ok-check_landing.ensures) _
+    (ap (λ (p : PlannedLanding). forking c.self.inside.changesets.known c.in-Some.head p.draft) (sym c.plan.view_is) ∙ c.in_ok-fork.ensures.steps) c.in_ok-check_lengths.ensures (merges_again c.args.self.now.history c.self.inside.changesets.known (known_as c.self.invariant.1 (repository c.args.self.now) (ap repository c.self.view_is)) c.args.plan c.requires c.in_ok-fork.fork c.in-Some-planned_head.planned c.in-Some-planned_head.ensures.planned ∙ c.in_ok-check_new_merges.ensures) (subst (λ d. refuse_some d denial ≡ Ok tt) (decided_for c.args.self.now.history c.plan.inside.caller c.args.plan.caller _ _ _ c.rules.ensures (ap (λ (p : PlannedLanding). p.caller) c.plan.view_is) (c.as_slice.ensures.value ∙ ap (λ v. v.items) c.deref.ensures ∙ ap (λ (p : PlannedLanding). p.touched) c.plan.view_is ∙ touched_again c.args.self.now.history c.self.inside.changesets.known (known_as c.self.invariant.1 (repository c.args.self.now) (ap repository c.self.view_is)) c.args.plan c.requires c.in_ok-fork.fork c.in-Some-planned_head.planned c.in-Some-planned_head.ensures.planned)) c.in_ok-check_landing.ensures) _
     (subst (λ checked. IsRefusal checked c.in_err-check_new.field-0.0) (sym (paths_again c.args.self.now.history c.self.inside.changesets.known (known_as c.self.invariant.1 (repository c.args.self.now) (ap repository c.self.view_is)) c.args.plan c.requires c.in_ok-fork.fork c.in-Some-planned_head.planned c.in-Some-planned_head.ensures.planned)) c.in_err-check_new.ensures.apart))
 
 pub returns-in_err-check_new-clause-only_new : goal.returns-in_err-check_new-clause-only_new
@@ -104,7 +112,7 @@ returns-clause-ok g c =
     subst (IsPlan c.args.self.now.history c.args.plan.caller c.args.plan.name c.args.plan.draft) (sym c.on.ensures)
     (planned c.self.invariant.1 (repository c.args.self.now) (ap repository c.self.view_is) c.in_ok-check_up.ensures.ok c.args.plan.caller c.args.plan.name c.in-Some.head
     (ap (λ (p : PlannedLanding). head_of c.args.self.now.history p.name) (sym c.plan.view_is) ∙ sym c.head.ensures ∙ c.in-Some.is) c.args.plan.draft c.in_ok-fork.fork c.in_ok-fork.ensures.is_fork
-    (ap (λ (p : PlannedLanding). forking c.self.inside.changesets.known c.in-Some.head p.draft) (sym c.plan.view_is) ∙ c.in_ok-fork.ensures.steps) c.in_ok-check_lengths.ensures
+    (ap (λ (p : PlannedLanding). forking c.self.inside.changesets.known c.in-Some.head p.draft) (sym c.plan.view_is) ∙ c.in_ok-fork.ensures.steps) c.in_ok-check_lengths.ensures (merges_again c.args.self.now.history c.self.inside.changesets.known (known_as c.self.invariant.1 (repository c.args.self.now) (ap repository c.self.view_is)) c.args.plan c.requires c.in_ok-fork.fork c.in-Some-planned_head.planned c.in-Some-planned_head.ensures.planned ∙ c.in_ok-check_new_merges.ensures)
     c.args.plan.caller refl c.args.plan.name refl c.args.plan.stack (stack_again c.args.self.now.history c.self.inside.changesets.known (known_as c.self.invariant.1 (repository c.args.self.now) (ap repository c.self.view_is)) c.args.plan c.requires c.in_ok-fork.fork c.in-Some-planned_head.planned c.in-Some-planned_head.ensures.planned) c.args.plan.touched (touched_again c.args.self.now.history c.self.inside.changesets.known (known_as c.self.invariant.1 (repository c.args.self.now) (ap repository c.self.view_is)) c.args.plan c.requires c.in_ok-fork.fork c.in-Some-planned_head.planned c.in-Some-planned_head.ensures.planned)
     (paths_again c.args.self.now.history c.self.inside.changesets.known (known_as c.self.invariant.1 (repository c.args.self.now) (ap repository c.self.view_is)) c.args.plan c.requires c.in_ok-fork.fork c.in-Some-planned_head.planned c.in-Some-planned_head.ensures.planned ∙ c.in_ok-check_new.ensures.apart))
 

@@ -10,7 +10,7 @@ pub settle-requires-clause-derived : goal.settle-requires-clause-derived
 settle-requires-clause-derived g c =
     let header = c.args.self.now.opening.header in
     let h = c.next.new.seat.front in
-    was_derived header h c.args.id c.in-Ok-Job.job c.in-Ok.done (subst (IsNextSome header h c.args.id) c.in-Ok-Job.field-0-is c.in-Ok-Job.ensures.ok) c.in-Ok.ensures.done
+    was_derived header h c.args.id c.in-Ok-Job.job c.in-Ok.done (subst (IsNextSome header h c.args.id) c.in-Ok-Job.field-0-is c.in-Ok-Job.ensures.ok) c.in-Ok.ensures.past
 
 pub returns-in-Err-settle-clause-answer : goal.returns-in-Err-settle-clause-answer
 returns-in-Err-settle-clause-answer g c =

@@ -1,32 +1,22 @@
-use Rattle.std.proofs.Common.{ap, sym, subst}
+use Rattle.std.proofs.Common.{ap, refl}
 use Rattle.bookmark_lock.specs.Place.{Place}
-use Rattle.reply_model.specs.After.{Call}
 use Rattle.repo_calls.specs.Asking.{is_disk_fault, stored_answer}
+use Rattle.repo_calls.specs.Calls.{call_seen}
 use Rattle.repo_machine.specs.Prepared.{asked_by}
-use Rattle.shared_repo.specs.Sealed.{IsLastTurn, IsSealedAfter}
-use Rattle.shared_repo.proofs.LastTurns.{turn_front, turn_later, turn_unless}
+use Rattle.shared_repo.proofs.Fronts.{sees_nothing}
+use Rattle.shared_repo.proofs.LastTurns.{unless_later}
+use Rattle.shared_repo.proofs.Sealings.{sealed_later}
 use Rattle.shared_repo.proofs.repo.Repo.store.Goals as goal
 
 pub returns-clause-sealed : goal.returns-clause-sealed
 returns-clause-sealed g c =
-    let header = c.args.self.now.opening.header in
-    let inner = c.seat.inside.inner in
-    let new = c.answer_sealed.new.seat in
-    let answer = stored_answer c.answer_sealed.result in
-    let call = asked_by c.in-Ok.prepared in
-    let sealed = c.answer_sealed.ensures.sealed header inner call (sym (ap (λ (p : Place). p.number) c.enter_change-entered.ensures.seat)) c.enter_change-entered.ensures.entered in
-    subst (λ (called : Call). IsSealedAfter header c.args.seat.now.front c.args.seat.now.number called answer new.front new.sealed) c.in-Ok.ensures.asks
-    (subst (λ (p : Place). IsSealedAfter header p.front p.number call answer new.front new.sealed) c.seat.view_is sealed)
-
-pub returns-clause-front : goal.returns-clause-front
-returns-clause-front g c = turn_front _ _ _ _ c.answer_sealed.ensures.stands
+    let seat = c.args.seat.now in
+    let mid = c.derive_parents.new.seat in
+    let new = c.store_prepared.new.seat in
+    sealed_later c.args.self.now.opening.header seat.front mid.front mid.front new.front seat.number mid.number mid.number (call_seen c.args.ask.now) (asked_by c.in-Ok.prepared) (stored_answer c.store_prepared.result) new.sealed
+    c.derive_parents.ensures.more (ap (λ (p : Place). p.number) c.derive_parents.ensures.seat) (sees_nothing mid.front mid.number) refl c.in-Ok.ensures.asks c.store_prepared.ensures.sealed
 
 pub returns-clause-stands : goal.returns-clause-stands
 returns-clause-stands g c =
-    let opening = c.args.self.now.opening in
-    let inner = c.seat.inside.inner in
-    let mid = c.enter_change-entered.new.seat in
-    let new = c.answer_sealed.new.seat in
-    let failed = is_disk_fault c.answer_sealed.result in
-    let turn = turn_later opening inner mid new failed (ap (λ (p : Place). p.number) c.enter_change-entered.ensures.seat) c.enter_change-entered.ensures.seals c.answer_sealed.ensures.stands in
-    turn_unless opening c.args.seat.now new failed c.answer_sealed.result (subst (λ (p : Place). IsLastTurn opening p failed new) c.seat.view_is turn)
+    unless_later c.args.self.now.opening c.args.seat.now c.derive_parents.new.seat c.store_prepared.new.seat (is_disk_fault c.store_prepared.result) c.store_prepared.result (ap (λ (p : Place). p.number) c.derive_parents.ensures.seat)
+    c.derive_parents.ensures.seals c.store_prepared.ensures.stands

@@ -1,0 +1,10 @@
+pub mod Trees
+pub mod Sides
+pub mod FsMerge
+pub mod FsTold
+pub mod Nodes
+pub mod UnodeMerge
+pub mod UnodeEntries
+pub mod Equal
+pub mod Differences
+pub mod Pasts

@@ -1,0 +1,4 @@
+pub mod PathKeys
+pub mod Rising
+pub mod Staying
+pub mod Asking
