@@ -8,14 +8,14 @@ ghost use Rattle.session_model.specs.Bodies.{memory};
 ghost use Rattle.session_model.specs.Session.{Answers, status_for, closing, closing_memory};
 ghost use Rattle.session_model.specs.Dating.{Dated};
 ghost use Rattle.http_wire.specs.Seen.{seen};
-ghost use Rattle.http_front.specs.Turns.{Sent, SentLast};
+ghost use Rattle.http_front.specs.Turns.{IsPiece, Sent, SentLast};
 ghost use Rattle.http_front.specs.Serving.{Start, Going, Finished, TurnGoes};
 
 use crate::answering::answer;
 use crate::ended::Ended;
-use crate::link::{read_more, send};
+use crate::link::{read_more, send, widen};
 use crate::response_buffer::{ResponseBuffer, ResponseForm};
-use http_wire::{Cutter, HeadRefusal, MOST_PIECE, Next, Request};
+use http_wire::{Cutter, HeadRefusal, Next, Request};
 use ports::{Clock, Failed, Link};
 use repo_calls::Seat;
 use routes::Routes;
@@ -25,11 +25,14 @@ use std::alloc::{AllocError, Global};
 /// The most bytes that one session reads.
 pub const MOST_READ: usize = 1_073_741_824;
 
+// How many bytes are read at once, until a request is longer.
+const FIRST_PIECE: usize = 4_096;
+
 /// The response where there is no memory to begin a session.
 const CLOSING_MEMORY: &[u8] =
     b"HTTP/1.1 503 Service Unavailable\r\nContent-Type: application/json\r\nContent-Length: 17\r\nConnection: close\r\n\r\n{\"code\":\"memory\"}";
 
-// What a session works with, all of it taken when it begins.
+// What a session works with. All that it needs is taken when it begins.
 #[derive(Drop)]
 struct SessionState {
     cutter: Cutter,
@@ -41,12 +44,12 @@ struct SessionState {
 
 impl SessionState {
     fn new(alloc: Global) -> Result<SessionState, AllocError>
-        ensures { IfOk result (λ state. (state.cutter ≡ []) × (state.budget ≡ MOST_READ) × (vec_len state.piece ≡ MOST_PIECE)) }
+        ensures { IfOk result (λ state. (state.cutter ≡ []) × (state.budget ≡ MOST_READ) × IsPiece (vec_len state.piece)) }
     {
         Ok(SessionState {
             cutter: Cutter::new(alloc)?,
             buffer: ResponseBuffer::new(alloc)?,
-            piece: vec![in alloc; 0; MOST_PIECE]?,
+            piece: vec![in alloc; 0; FIRST_PIECE]?,
             budget: MOST_READ,
         })
     }
@@ -142,13 +145,13 @@ fn turn<T: Seat, L: Link, C: Clock>(
     clock: &C,
     state: &mut SessionState,
 ) -> Option<Ended>
-    requires { vec_len state.old.piece ≡ MOST_PIECE }
+    requires { IsPiece (vec_len state.old.piece) }
     ensures goes { TurnGoes (Dated (C.tells clock.now) (T.replies (T.home seat.old))) (T.header seat.old) (T.number seat.old) (T.front seat.old) (T.front seat.new) (L.rest link.old) (L.rest link.new) (L.written link.old) (L.written link.new) state.old.cutter state.old.budget state.new.cutter state.new.budget result }
     ensures nearer { IfNone result (2 * state.new.budget + length state.new.cutter < 2 * state.old.budget + length state.old.cutter) }
     ensures header { T.header seat.new ≡ T.header seat.old }
     ensures number { T.number seat.new ≡ T.number seat.old }
     ensures home { T.home seat.new ≡ T.home seat.old }
-    ensures piece { vec_len state.new.piece ≡ MOST_PIECE }
+    ensures piece { IsPiece (vec_len state.new.piece) }
     ensures faults { L.faults link.old ≤ L.faults link.new }
     ensures cause { result ≡ Some Ended.LinkFault → Rose (L.faults link.old) (L.faults link.new) }
 {
@@ -170,6 +173,7 @@ fn turn<T: Seat, L: Link, C: Clock>(
         Next::Refused { status: _, code } => Some(refuse(&mut state.buffer, link, code)),
         Next::NeedMore => {
             state.buffer.release(alloc);
+            widen(&mut state.piece, state.cutter.waiting());
             read_more(link, &mut state.cutter, &mut state.piece, &mut state.budget)
         }
     }
@@ -197,7 +201,7 @@ fn serve<T: Seat, L: Link, C: Clock>(
     clock: &C,
     state: SessionState,
 ) -> Ended
-    requires new { (state.cutter ≡ []) × (state.budget ≡ MOST_READ) × (vec_len state.piece ≡ MOST_PIECE) }
+    requires new { (state.cutter ≡ []) × (state.budget ≡ MOST_READ) × IsPiece (vec_len state.piece) }
     ensures session { Finished (Dated (C.tells clock.now) (T.replies (T.home seat.old))) (record { header = T.header seat.old; who = T.number seat.old; history = T.front seat.old; rest = L.rest link.old; written = L.written link.old }) (T.front seat.new) (L.rest link.new) (L.written link.new) result }
     ensures header { T.header seat.new ≡ T.header seat.old }
     ensures number { T.number seat.new ≡ T.number seat.old }

@@ -1,5 +1,5 @@
 -- What a cutter holds, as bytes come and requests go.
-use Rattle.std.proofs.Common.{◌≡◌, ℕ, ◌+◌, ◌-◌, ◌<◌, ◌≤◌, false, List, ◌++◌, length, take, drop, sym, ap, ◌∙◌, subst, arith, inr, Some, append_assoc, length-append, length-take}
+use Rattle.std.proofs.Common.{◌≡◌, ℕ, ◌+◌, ◌-◌, ◌<◌, ◌≤◌, false, List, ◌++◌, length, take, drop, sym, ap, ◌∙◌, subst, arith, inr, Some, append_assoc}
 use Rattle.std.proofs.lemmas.Bool.{cond-true, cond-false, le-leb, lt-leb}
 use Rattle.std.proofs.lemmas.List.{take-append-le, take_rest, drop-drop}
 use Rattle.httparse.specs.declared.spans.RequestSpans.{RequestSpans}
@@ -126,7 +126,3 @@ whole_at waiting old items start len spans framing same view good long =
     ap (λ r. Whole (request_at (take len waiting) spans framing (take framing.body (drop len waiting))) r) rest
     ∙ ap (λ n. Whole (request_at (take len waiting) spans framing (take n (drop len waiting))) (drop (start + (len + framing.body)) items)) (sym body) in
     subst P same (subst Q next here)
-
--- writing all the elements of a list keeps its length
-pub rewritten_len : {X : Type 0} (n : ℕ) (xs ys : List X) → length xs ≡ n → length ys ≡ n → length (take n (xs ++ drop (length xs) ys)) ≡ n
-rewritten_len n xs ys new old = omega (arith, length-take n (xs ++ drop (length xs) ys), length-append xs (drop (length xs) ys))

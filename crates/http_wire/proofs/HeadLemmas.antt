@@ -63,8 +63,8 @@ headers_fit bytes tree whole =
     omega arith
 
 -- where the parser lacks room for any head, there is none
-pub no_head_overflows : (bytes : List ℕ) (tree : RequestHead) (room : ℕ) → length bytes ≤ 16384 → room ≡ 5462 → RequestOverflows room bytes → ReadsRequest bytes tree [] → ⊥
-no_head_overflows bytes tree room fits is overflows whole =
+pub no_head_overflows : (bytes : List ℕ) (tree : RequestHead) (room : ℕ) → length bytes ≤ 3 * room → RequestOverflows room bytes → ReadsRequest bytes tree [] → ⊥
+no_head_overflows bytes tree room fits overflows whole =
     let over = overflows [] tree [] (whole.0, append_none bytes ∙ whole.1) in
     let few = headers_fit bytes tree whole in
     omega arith

@@ -16,7 +16,7 @@ Awaits bytes wanted = (more : List ℕ) → length (bytes ++ more) < wanted → 
 pub record IsHolding (cutter : Inside) : Type 0 where
   pub start : cutter.start ≤ length cutter.bytes.items
   pub room : MOST_REQUEST + MOST_PIECE ≤ vec_capacity cutter.bytes
-  pub headers : length cutter.headers.items ≡ HEADER_ROOM
+  pub headers : HEADER_ROOM ≤ vec_capacity cutter.headers
   pub scanned : cutter.scanned ≤ length (held cutter)
   pub none : (n : ℕ) → n ≤ cutter.scanned → ends_head (take n (held cutter)) ≡ false
   pub awaits : Awaits (held cutter) cutter.wanted

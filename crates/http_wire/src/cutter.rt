@@ -7,7 +7,7 @@ use crate::head_outcome::{HeadOutcome, read_head};
 use crate::next::Next;
 use crate::request::message;
 use crate::texts::MOST_BODY;
-use httparse::spans::{EMPTY_HEADER_SPAN, HeaderSpan};
+use httparse::spans::HeaderSpan;
 use std::alloc::{AllocError, Global};
 use std::marker::Model;
 
@@ -60,7 +60,7 @@ impl Cutter {
             start: 0,
             scanned: 0,
             wanted: 0,
-            headers: vec![in alloc; EMPTY_HEADER_SPAN; HEADER_ROOM]?,
+            headers: Vec::with_capacity(alloc, HEADER_ROOM)?,
         })
     }
 
@@ -130,7 +130,7 @@ impl Cutter {
         ensures stays { OnRefused result (λ status code. self.new ≡ self.old) }
     {
         let waiting = &self.bytes.as_slice()[self.start..];
-        match read_head(waiting, self.scanned, self.headers.as_mut_slice()) {
+        match read_head(waiting, self.scanned, &mut self.headers) {
             HeadOutcome::Unfinished => {
                 self.scanned = waiting.len();
                 Next::NeedMore

@@ -1,5 +1,5 @@
 //! One whole request head: its parse, and the tests that it has to pass.
-ghost use Rattle.std.specs.Prelude.{◌≡◌, ◌≤◌, length, bytes_eq, codes, All, IfSome, IsNone, ◌&&◌};
+ghost use Rattle.std.specs.Prelude.{◌≡◌, ◌*◌, ◌≤◌, length, vec_capacity, vec_len, bytes_eq, codes, All, IfSome, IsNone, ◌&&◌};
 ghost use Rattle.httparse.specs.Spans.{IsHeaderWithin, IsRequestOf, IsRequestWithin, IsWithin};
 ghost use Rattle.http_model.specs.Head.{IsNoHead, path_of, stores_bodies};
 ghost use Rattle.http_wire.specs.Judging.{Judges, seen_head};
@@ -10,7 +10,7 @@ use crate::header_fields::{
 use crate::texts::{MOST_BODY, path_of};
 use http_model::HeadRefusal;
 use httparse::Status;
-use httparse::spans::{HeaderSpan, RequestSpans, parse_request};
+use httparse::spans::{EMPTY_HEADER_SPAN, HeaderSpan, RequestSpans, parse_request};
 
 /// The most bytes of a head.
 pub(crate) const MOST_HEAD: usize = 16_384;
@@ -21,10 +21,22 @@ pub(crate) const HEADER_ROOM: usize = 5_462;
 /// The most headers of a head.
 const MOST_HEADERS: usize = 64;
 
+/// Has room for the headers of each head of so many bytes, of the room that is reserved. It takes no memory.
+pub(crate) fn make_room(headers: &mut Vec<HeaderSpan>, count: usize)
+    requires head { count ≤ MOST_HEAD }
+    requires reserved { HEADER_ROOM ≤ vec_capacity headers.old }
+    ensures room { count ≤ 3 * vec_len headers.new }
+    ensures reserved { HEADER_ROOM ≤ vec_capacity headers.new }
+{
+    let wanted = count / 3 + 1;
+    'filling: while headers.len() < wanted {
+        headers.push_reserved(EMPTY_HEADER_SPAN);
+    }
+}
+
 /// Where the parts of the head are, if the bytes are one whole head of the grammar.
 pub(crate) fn parse(bytes: &[u8], headers: &mut [HeaderSpan]) -> Option<RequestSpans>
-    requires room { length headers.old ≡ HEADER_ROOM }
-    requires fits { length bytes.now ≤ MOST_HEAD }
+    requires room { length bytes.now ≤ 3 * length headers.old }
     ensures within { IfSome result (λ spans. IsRequestWithin bytes.now headers.new spans) }
     ensures head { IfSome result (λ spans. IsRequestOf bytes.now headers.new spans) }
     ensures whole { IfSome result (λ spans. spans.len ≡ length bytes.now) }

@@ -1,10 +1,10 @@
 //! What stands first in bytes that don't begin with an empty line.
-ghost use Rattle.std.specs.Prelude.{◌≡◌, ◌≤◌, ℕ, length, take, false};
+ghost use Rattle.std.specs.Prelude.{◌≡◌, ◌≤◌, ℕ, length, take, false, vec_capacity};
 ghost use Rattle.http_model.specs.Stream.{ends_head};
 ghost use Rattle.http_wire.specs.FirstThing.{StandsFirst};
 
 use crate::cutting::head_len;
-use crate::head::{Framing, HEADER_ROOM, MOST_HEAD, judge, parse};
+use crate::head::{Framing, HEADER_ROOM, MOST_HEAD, judge, make_room, parse};
 use http_model::HeadRefusal;
 use httparse::spans::{HeaderSpan, RequestSpans};
 
@@ -26,12 +26,13 @@ pub(crate) enum HeadOutcome<'a> {
 pub(crate) fn read_head<'a>(
     bytes: &'a [u8],
     scanned: usize,
-    headers: &mut [HeaderSpan],
+    headers: &mut Vec<HeaderSpan>,
 ) -> HeadOutcome<'a>
-    requires room { length headers.old ≡ HEADER_ROOM }
+    requires room { HEADER_ROOM ≤ vec_capacity headers.old }
     requires within { scanned ≤ length bytes.now }
     requires none_before { (n : ℕ) → n ≤ scanned → ends_head (take n bytes.now) ≡ false }
-    ensures { StandsFirst bytes.now result }
+    ensures first { StandsFirst bytes.now result }
+    ensures room { HEADER_ROOM ≤ vec_capacity headers.new }
 {
     let Some(len) = head_len(bytes, scanned) else {
         return if bytes.len() < MOST_HEAD {
@@ -41,6 +42,8 @@ pub(crate) fn read_head<'a>(
         };
     };
     let head = &bytes[..len];
+    make_room(headers, len);
+    let headers = headers.as_mut_slice();
     let Some(spans) = parse(head, headers) else {
         return HeadOutcome::Refused(HeadRefusal::BadHead);
     };

@@ -3,19 +3,19 @@ use Rattle.http_model.specs.Stream as model
 use Rattle.http_model.specs.Stream.{Whole, Partial, Stands}
 use Rattle.http_wire.specs.Holding.{Awaits}
 use Rattle.http_wire.specs.Seen.{request_at}
-use Rattle.http_wire.proofs.CutterLemmas.{good_partial, good_awaits, answers_message, answers_memory, waiting_is, whole_at, rewritten_len}
+use Rattle.http_wire.proofs.CutterLemmas.{good_partial, good_awaits, answers_message, answers_memory, waiting_is, whole_at}
 use Rattle.http_wire.proofs.cutter.Cutter.take_next.Goals as goal
 
 pub invariant_of-self-then-waiting-end : goal.invariant_of-self-then-waiting-end
 invariant_of-self-then-waiting-end c =
     let before = c.self.invariant in
     let waiting = waiting_is c.as_slice.result.now c.self.inside.bytes.items c.args.self.now c.self.inside.start c.as_slice.ensures.value c.self.view_is in
-    let good = c.in-Head.ensures in
+    let good = c.in-Head.ensures.first in
     let awaits : List ℕ → Type 0 = λ bs. Awaits bs (c.in-Head.len + c.in-Head.framing.body) in
     record {
       start = before.start;
       room = before.room;
-      headers = rewritten_len c.self.inside.headers.len c.read_head.new.headers c.self.inside.headers.items (c.read_head.auto.headers ∙ c.as_mut_slice.ensures.len) (sym (ap length c.as_mut_slice.ensures.value) ∙ c.as_mut_slice.ensures.len) ∙ sym c.as_mut_slice.ensures.len ∙ ap length c.as_mut_slice.ensures.value ∙ before.headers;
+      headers = c.read_head.ensures.room;
       scanned = before.scanned;
       none = before.none;
       awaits = subst awaits (waiting ∙ sym c.self.view_is) (good_awaits _ c.in-Head.len c.in-Head.spans c.in-Head.framing (ap model.skip_blank waiting ∙ c.requires ∙ sym waiting) good);
@@ -26,7 +26,7 @@ pub returns-then-waiting-end-clause-need_more : goal.returns-then-waiting-end-cl
 returns-then-waiting-end-clause-need_more c =
     let waiting = waiting_is c.as_slice.result.now c.self.inside.bytes.items c.args.self.now c.self.inside.start c.as_slice.ensures.value c.self.view_is in
     let P : List ℕ → Type 0 = λ bs. Stands bs (Partial (length bs)) in
-    subst P waiting (good_partial _ c.in-Head.len c.in-Head.spans c.in-Head.framing c.in-Head.ensures c.if-waiting-end.true)
+    subst P waiting (good_partial _ c.in-Head.len c.in-Head.spans c.in-Head.framing c.in-Head.ensures.first c.if-waiting-end.true)
 
 abbrev waiting_bytes : goal.After-self-in-Head-3-1 → List ℕ
 waiting_bytes c = take (length c.as_slice.result.now - c.self.inside.start) (drop c.self.inside.start c.as_slice.result.now)
@@ -40,7 +40,7 @@ left c = drop (c.self.inside.start + (c.in-Head.len + c.in-Head.framing.body)) c
 whole : (c : goal.After-self-in-Head-3-1) → Stands c.args.self.now (Whole (asked c) (left c))
 whole c =
     let waiting = waiting_is c.as_slice.result.now c.self.inside.bytes.items c.args.self.now c.self.inside.start c.as_slice.ensures.value c.self.view_is in
-    whole_at _ c.args.self.now c.self.inside.bytes.items c.self.inside.start c.in-Head.len c.in-Head.spans c.in-Head.framing waiting c.self.view_is c.in-Head.ensures c.if-waiting-end.false
+    whole_at _ c.args.self.now c.self.inside.bytes.items c.self.inside.start c.in-Head.len c.in-Head.spans c.in-Head.framing waiting c.self.view_is c.in-Head.ensures.first c.if-waiting-end.false
 
 pub returns-else-waiting-end-clause-message : goal.returns-else-waiting-end-clause-message
 returns-else-waiting-end-clause-message c =
