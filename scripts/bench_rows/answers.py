@@ -1,4 +1,5 @@
-"""Small reads and log pages, 16 at once on one connection, beside servers of the same answer."""
+"""Small reads and log pages, 16 at once on one connection, beside servers of the same answer; and
+reads on connections of their own."""
 
 from __future__ import annotations
 
@@ -7,7 +8,7 @@ from contextlib import ExitStack
 from pathlib import Path
 
 from .journal import ROOT, Journal, drafted
-from .link import BATCH, Batch, Link
+from .link import BATCH, Batch, Link, opened
 from .names import take_turn
 from .peers import Peer, hello_in_c, hello_in_python, nginx
 from .process import Cost, ratio
@@ -33,6 +34,27 @@ def page(bench: Bench) -> Iterator[Figure | str]:
             head = journal.landing("main", head, draft).id
     wanted = {"nginx": "at least 0.45"}
     yield from beside(bench, file, "/log/2", f"log pages of {PAGE}", wanted)
+
+
+def connects(bench: Bench) -> Iterator[Figure]:
+    """A connection for each read, beside reads one after another on one that is kept."""
+    with Journal(file := bench.folder / "repository") as journal:
+        journal.bookmark("main", ROOT.id)
+    new, kept = Cost(), Cost()
+    with bench.program.serve(file, lanes=2) as served:
+        link, count = opened(served.address), bench.choose(2_000, 500)
+        for _ in range(bench.choose(6, 3)):
+            with kept.measure(served.pid, count):
+                for _ in range(count):
+                    link.read("GET", "/bookmark/main")
+            with new.measure(served.pid, count):
+                for _ in range(count):
+                    once = Link(served.address)
+                    once.read("GET", "/bookmark/main")
+                    once.close()
+    yield Figure("a read on a connection that is kept", kept.milliseconds, "ms of processor", 1.0)
+    share = ratio(new.milliseconds, kept.milliseconds)
+    yield Figure("a read on one of its own", new.milliseconds, "ms of processor", share)
 
 
 def beside(

@@ -38,6 +38,7 @@ LISTED = (
     Row("follow", "following a server of 100,000 entries, beside opening them", following.follows),
     Row("changesets", "uploads of changesets, and landings, beside contents", upload.changesets),
     Row("reads", "small reads, 16 at once, beside hello-world servers", answers.small),
+    Row("connects", "small reads, each on a connection of its own", answers.connects),
     Row("calls", "calls of the system a small read, beside those it needs", calls.calls),
     Row("log", "log pages of 100, beside servers of the same bytes", answers.page),
     Row("memory", "bytes of an entry and of an idle connection", memory.rows),
