@@ -186,7 +186,16 @@ fn check<R: Abort + Threads + Wait + Sync>(
     Ok(())
 }
 
-// Whether the changeset at which `main` stands is derived once a server that served nothing has ended.
+// Whether the changeset at which `main` stands is derived in what a server left.
+fn head_is_derived_in<D: Disk, A: Drop, L: Drop>(
+    alloc: Global,
+    closing: Closing<D, A, L>,
+) -> Result<bool, Fail> {
+    let state = closing.state.ok_or("memory")?;
+    is_derived(alloc, &state, ROOT)
+}
+
+// The same, once a server that served nothing has ended.
 fn head_is_derived<R: Threads + Wait + Sync>(
     rt: &R,
     alloc: Global,
@@ -195,8 +204,7 @@ fn head_is_derived<R: Threads + Wait + Sync>(
     let accept = MemAccept::<MemLink>::new(Vec::new(alloc), Vec::new(alloc));
     let alone = with_main(alloc)?;
     let closing = serve(rt, alloc, alone, accept, &NoGate, 2, derivers, 2)?;
-    let state = closing.state.ok_or("memory")?;
-    is_derived(alloc, &state, ROOT)
+    head_is_derived_in(alloc, closing)
 }
 
 #[test]
