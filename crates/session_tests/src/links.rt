@@ -85,7 +85,7 @@ fn a_link_that_fails_ends_the_session(rt: HostRuntime) -> Result<(), Fail> {
 // A link whose input is line ends that never stop.
 #[derive(Drop)]
 struct LineEnds {
-    reads: u64,
+    bytes: u64,
     writes: u64,
 }
 
@@ -97,7 +97,7 @@ impl Link for LineEnds {
     ghost written = { λ _. None };
 
     fn read(&mut self, buf: &mut [u8]) -> Result<usize, Failed> {
-        self.reads = self.reads.saturating_add(1);
+        self.bytes = self.bytes.saturating_add(buf.len() as u64);
         for i in 0..buf.len() {
             buf[i] = if i % 2 == 0 { b'\r' } else { b'\n' };
         }
@@ -123,11 +123,11 @@ fn served<R: Threads + Wait + Sync>(
 #[test]
 fn an_endless_input_ends_by_the_bytes_read(rt: HostRuntime) -> Result<(), Fail> {
     let mut link = LineEnds {
-        reads: 0,
+        bytes: 0,
         writes: 0,
     };
     assert_eq!(rt; served(&rt, rt.alloc(), &mut link)?, Status::Spent);
     assert_eq!(rt; link.writes, 0);
-    assert_eq!(rt; link.reads, 16_384);
+    assert_eq!(rt; link.bytes, 1_073_741_824);
     Ok(())
 }
