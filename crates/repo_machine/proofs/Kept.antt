@@ -1,10 +1,10 @@
 -- The places of stored entries.
-use Rattle.std.proofs.Common.{◌≡◌, ℕ, suc, ◌+◌, Bool, true, false, cond, List, [], ◌∷◌, ◌++◌, length, refl, sym, ap, ◌∙◌, arith, map}
-use Rattle.std.proofs.lemmas.List.{append-nil}
+use Rattle.std.proofs.Common.{◌≡◌, ℕ, suc, ◌+◌, ◌<◌, ◌≤◌, Bool, true, false, cond, List, [], ◌∷◌, ◌++◌, length, refl, sym, ap, ◌∙◌, arith, map, drop, get_or}
+use Rattle.std.proofs.lemmas.List.{append-nil, drop_more, drop_all}
 use Rattle.repo_machine.specs.declared.records.Entry.{Entry}
 use Rattle.repo_machine.specs.Records.{is_kept, kept_from, body_of, entry_of, history_of}
 use Rattle.std.specs.Prelude.{filter, count_by}
-use Rattle.std.proofs.lemmas.List.Sums.{length-filter}
+use Rattle.std.proofs.lemmas.List.Sums.{length-filter, count_by-le-length}
 use Rattle.history_model.specs.History.{Known}
 use Rattle.history_model.specs.History as model
 use Rattle.repo_machine.specs.declared.records.Record.{Record}
@@ -44,22 +44,44 @@ module _ {X Y : Type 0} (f : X → Y) (p : X → Bool) (q : Y → Bool) (same : 
   count_by-map : (xs : List X) → count_by p xs ≡ count_by q (map f xs)
   count_by-map xs = sym (length-filter p xs) ∙ length-filter-map xs ∙ length-filter q (map f xs)
 
+-- one by one
+module _ {X : Type 0} (p : X → Bool) (xs : List X) (i n : ℕ) (so_far : n + length (filter p (drop i xs)) ≡ length (filter p xs)) where
+  left_by : (x : X) → i < length xs → x ≡ get_or xs i x → (b : Bool) → p x ≡ b → length (filter p (drop i xs)) ≡ length (cond b (x ∷ filter p (drop (i + 1) xs)) (filter p (drop (i + 1) xs)))
+  left_by x below is b same =
+      ap (λ (l : List X). length (filter p l)) (drop_more xs i x below ∙ ap (λ x. x ∷ drop (i + 1) xs) (sym is))
+      ∙ ap (λ b. length (cond b (x ∷ filter p (drop (i + 1) xs)) (filter p (drop (i + 1) xs)))) same
+
+  pub one_counted : (x : X) → i < length xs → x ≡ get_or xs i x → p x ≡ true → (n + 1) + length (filter p (drop (i + 1) xs)) ≡ length (filter p xs)
+  one_counted x below is same = let left = left_by x below is true same in omega arith
+
+  pub none_counted : (x : X) → i < length xs → x ≡ get_or xs i x → p x ≡ false → n + length (filter p (drop (i + 1) xs)) ≡ length (filter p xs)
+  none_counted x below is same = sym (ap (λ k. n + k) (left_by x below is false same)) ∙ so_far
+
+  pub few_counted : (x : X) → i < length xs → x ≡ get_or xs i x → p x ≡ true → n + 1 ≤ length xs
+  few_counted x below is same =
+      let one = one_counted x below is same in let counted = length-filter p xs in let few = count_by-le-length p xs in omega arith
+
+  pub all_counted : length xs ≤ i → n ≡ count_by p xs
+  all_counted past =
+      let none : length (filter p (drop i xs)) ≡ 0 = ap (λ (l : List X). length (filter p l)) (drop_all i xs past) in
+      let counted = length-filter p xs in omega arith
+
 content_by : (ks : List Known) (r : Record) → is_content_record r ≡ is_content (body_of ks r)
 content_by ks (Content id length) = refl
-content_by ks (Whole id length parts) = refl
+content_by ks (Whole whole) = refl
 content_by ks (Change number) = refl
 content_by ks (Book movement) = refl
 content_by ks (Land landing) = refl
-content_by ks (Policy caller text) = refl
+content_by ks (Policy policy) = refl
 content_by ks (Fault breaking) = refl
 
 landing_by : (ks : List Known) (r : Record) → is_landing_record r ≡ is_landing (body_of ks r)
 landing_by ks (Content id length) = refl
-landing_by ks (Whole id length parts) = refl
+landing_by ks (Whole whole) = refl
 landing_by ks (Change number) = refl
 landing_by ks (Book movement) = refl
 landing_by ks (Land landing) = refl
-landing_by ks (Policy caller text) = refl
+landing_by ks (Policy policy) = refl
 landing_by ks (Fault breaking) = refl
 
 pub contents_counted : (ks : List Known) (es : List Entry) → count_by is_content_entry es ≡ count_by (λ (e : model.Entry). is_content e.body) (history_of ks es)

@@ -94,11 +94,11 @@ stored_of ks e = unnumbered (body_of ks e.record)
 
 is_stored-record : (ks : List Known) (r : Record) → is_stored (body_of ks r) ≡ is_record_kept r
 is_stored-record ks (Content id n) = refl
-is_stored-record ks (Whole id n parts) = refl
+is_stored-record ks (Whole whole) = refl
 is_stored-record ks (Change number) = refl
 is_stored-record ks (Book movement) = refl
 is_stored-record ks (Land landing) = refl
-is_stored-record ks (Policy caller text) = refl
+is_stored-record ks (Policy policy) = refl
 is_stored-record ks (Fault breaking) = refl
 
 bodies_by : (ks : List Known) (e : Entry) (es : List Entry) (b : Bool) (bs : List model.Body) → bs ≡ map (λ e. body_of ks e.record) (filter is_kept es) → cond b (body_of ks e.record ∷ bs) bs ≡ map (λ e. body_of ks e.record) (cond b (e ∷ filter is_kept es) (filter is_kept es))
@@ -120,11 +120,11 @@ stored-history ks es = ap (map unnumbered) (bodies-history ks es) ∙ map-twice 
 
 line_by : (ks : List Known) (count : ℕ) (r : Record) → KeptWithin count r → (later : List model.Entry) (lines : List LogLine) → lines_of later ≡ lines → lines_of (unnumbered (body_of ks r) ∷ later) ≡ record_line ks r ∷ lines
 line_by ks count (Content id n) kept later lines ih = ap (λ l. record_line ks (Content id n) ∷ l) ih
-line_by ks count (Whole id n parts) kept later lines ih = ap (λ l. record_line ks (Whole id n parts) ∷ l) ih
+line_by ks count (Whole whole) kept later lines ih = ap (λ l. record_line ks (Whole whole) ∷ l) ih
 line_by ks count (Change number) kept later lines ih = ap (λ l. record_line ks (Change number) ∷ l) ih
 line_by ks count (Book movement) kept later lines ih = ap (λ l. record_line ks (Book movement) ∷ l) ih
 line_by ks count (Land landing) kept later lines ih = ap (λ l. record_line ks (Land landing) ∷ l) ih
-line_by ks count (Policy caller text) kept later lines ih = ap (λ l. record_line ks (Policy caller text) ∷ l) ih
+line_by ks count (Policy policy) kept later lines ih = ap (λ l. record_line ks (Policy policy) ∷ l) ih
 line_by ks count (Fault breaking) kept later lines ih = absurd kept
 
 lines_of-kept : (ks : List Known) (count : ℕ) (es : List Entry) (ns : List ℕ) → AllByRecursion (IsKeptAt count es) ns → lines_of (map (stored_of ks) (map (entry_at es) ns)) ≡ map (line_at ks es) ns
@@ -135,11 +135,11 @@ lines_of-kept ks count es (n ∷ ns) kept = line_by ks count (entry_at es n).rec
 
 kept_record : (count : ℕ) (r : Record) → is_record_kept r ≡ true → RecordWithin count r → KeptWithin count r
 kept_record count (Content id n) kept within = tt
-kept_record count (Whole id n parts) kept within = tt
+kept_record count (Whole whole) kept within = tt
 kept_record count (Change number) kept within = within
 kept_record count (Book movement) kept within = tt
 kept_record count (Land landing) kept within = within
-kept_record count (Policy caller text) kept within = tt
+kept_record count (Policy policy) kept within = tt
 kept_record count (Fault breaking) kept within = absurd (cc)
 
 all_by : (count : ℕ) (before : List Entry) (e : Entry) (es : List Entry) (b : Bool) → is_kept e ≡ b → IsWithin count e → (later : List ℕ) → AllByRecursion (IsKeptAt count (before ++ e ∷ es)) later → AllByRecursion (IsKeptAt count (before ++ e ∷ es)) (cond b (length before ∷ later) later)

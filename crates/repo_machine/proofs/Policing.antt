@@ -1,16 +1,22 @@
 -- What is judged of a policy, and the text of one that is stored.
+--     policy_short      the record of a policy that keeps the grammar is short
 --     old_format, bad_policy, denied_so, entered_so      the steps of a new policy
 --     place_within, text_read, no_text      the text at a number, by the machine's places of stored entries
-use Rattle.std.proofs.Common.{◌≡◌, ℕ, zero, suc, ◌<◌, ◌≤◌, Bool, true, false, inl, inr, List, [], ◌∷◌, length, map, get_or, refl, sym, ap, subst, ◌∙◌, arith}
-use Rattle.std.specs.Prelude.{None, Some, Result, Ok, Err, not, slice_get}
+use Rattle.std.proofs.Common.{◌≡◌, ℕ, zero, suc, ◌<◌, ◌≤◌, Bool, true, false, cond, inl, inr, List, [], ◌∷◌, length, length-append, map, get_or, refl, sym, ap, subst, ◌∙◌, arith}
+use Rattle.std.specs.Prelude.{None, Some, Result, Ok, Err, ◌&&◌, ◌||◌, ◌==◌, nat_lt, not, slice_get}
+use Rattle.std.specs.Int.{w8}
 use Rattle.std.specs.List.{AllByRecursion}
 use Rattle.std.specs.Option.{option_and_then}
 use Rattle.std.specs.Result.{result_err}
+use Rattle.std.proofs.lemmas.Bool.{and_parts, ltb-false}
 use Rattle.std.proofs.lemmas.List.{length-map, get_or_default}
+use Rattle.byte_fields.specs.Bytes.{are_bytes, sized}
 use Rattle.changeset_model.specs.Version.{is_second}
+use Rattle.history_model.specs.Bookmark.{is_name}
 use Rattle.history_model.specs.History as model
 use Rattle.history_model.specs.History.{Known, Policy, bodies, stored, is_down, policy_text, policy_at}
-use Rattle.history_model.specs.Journal.{Header}
+use Rattle.history_model.specs.Journal.{Header, payload_len}
+use Rattle.land_policy.proofs.Callers.{name_is_short}
 use Rattle.policy_model.specs.Rules.{Rule, policy_place}
 use Rattle.policy_model.specs.Grammar.{parse}
 use Rattle.reply_model.specs.Reply as reply
@@ -22,6 +28,20 @@ use Rattle.repo_machine.specs.Lines.{entry_at, IsKeptAt}
 use Rattle.repo_machine.specs.Records.{body_of, history_of, kept_from, IsWithin}
 use Rattle.repo_machine.proofs.Judging.{judged_up}
 use Rattle.repo_machine.proofs.Logging.{bodies-history, kept_are, all_kept}
+
+-- ---- its record
+
+text_by : (n : ℕ) (empty long : Bool) (read : Result (List Rule) ℕ) (rules : List Rule) → nat_lt 65536 n ≡ long → cond (empty || long) (Err 0) read ≡ Ok rules → n ≤ 65536
+text_by n true long read rules e h = absurd cc
+text_by n false true read rules e h = absurd cc
+text_by n false false read rules e h = ltb-false 65536 n e
+
+pub policy_short : (caller text : List ℕ) (rules : List Rule) → is_name caller && are_bytes text ≡ true → parse text ≡ Ok rules → payload_len (Policy caller text) ≤ 16_777_216
+policy_short caller text rules asked parses =
+    let name = name_is_short caller (and_parts (is_name caller) (are_bytes text) asked).0 in
+    let few = text_by (length text) (length text == 0) (nat_lt 65536 (length text)) _ rules refl parses in
+    let long = length-append (sized w8 caller) (0x52 ∷ text) in
+    omega arith
 
 -- ---- a new policy
 

@@ -18,12 +18,12 @@ changesets_at-append ks more (n ∷ ns) within = (λ i. changeset_at-append ks m
 
 body_of-append : (ks more : List model.Known) (r : Record) → RecordWithin (length ks) r → body_of (ks ++ more) r ≡ body_of ks r
 body_of-append ks more (Content id n) within = refl
-body_of-append ks more (Whole id n parts) within = refl
+body_of-append ks more (Whole whole) within = refl
 body_of-append ks more (Change number) within = ap model.Change (changeset_at-append ks more number within)
 body_of-append ks more (Book movement) within = refl
-body_of-append ks more (Policy caller text) within = refl
+body_of-append ks more (Policy policy) within = refl
 body_of-append ks more (Fault breaking) within = refl
-body_of-append ks more (Land l) within = ap (λ new. model.Land (record { name = l.name; old = l.old; draft = l.draft; new = new; moment = l.moment; caller = l.caller })) (changesets_at-append ks more l.numbers.items within)
+body_of-append ks more (Land l) within = ap (λ new. model.Land (record { name = l.value.name; old = l.value.old; draft = l.value.draft; new = new; moment = l.value.moment; caller = l.value.caller })) (changesets_at-append ks more l.value.numbers.items within)
 
 -- so the history stays
 pub history_of-known : (ks more : List model.Known) (es : List Entry) → AllByRecursion (IsWithin (length ks)) es → history_of (ks ++ more) es ≡ history_of ks es
@@ -32,12 +32,12 @@ history_of-known ks more (e ∷ es) within = (λ i. record { who = e.who; body =
 
 record_stays : (n m : ℕ) → n ≤ m → (r : Record) → RecordWithin n r → RecordWithin m r
 record_stays n m more (Content id length) within = tt
-record_stays n m more (Whole id length parts) within = tt
+record_stays n m more (Whole whole) within = tt
 record_stays n m more (Change number) within = omega arith
 record_stays n m more (Book movement) within = tt
-record_stays n m more (Policy caller text) within = tt
+record_stays n m more (Policy policy) within = tt
 record_stays n m more (Fault breaking) within = tt
-record_stays n m more (Land landing) within = weaker (λ k. k < n) (λ k. k < m) (λ k below. omega arith) landing.numbers.items within
+record_stays n m more (Land landing) within = weaker (λ k. k < n) (λ k. k < m) (λ k below. omega arith) landing.value.numbers.items within
 
 -- an entry more, and perhaps more known changesets
 module _ (ks : List model.Known) (es : List Entry) (within : AllByRecursion (IsWithin (length ks)) es) (e : Entry) (seen : List Entry) (same : seen ≡ es) (after : List Entry) (grows : after ≡ seen ++ e ∷ []) where

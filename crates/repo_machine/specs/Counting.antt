@@ -35,20 +35,20 @@ is_landing (Fault breaking) = false
 
 abbrev pub is_content_record : Record → Bool
 is_content_record (records.Content id length) = true
-is_content_record (records.Whole id length parts) = true
+is_content_record (records.Whole whole) = true
 is_content_record (records.Change number) = false
 is_content_record (records.Book movement) = false
 is_content_record (records.Land landing) = false
-is_content_record (records.Policy caller text) = false
+is_content_record (records.Policy policy) = false
 is_content_record (records.Fault breaking) = false
 
 abbrev pub is_landing_record : Record → Bool
 is_landing_record (records.Content id length) = false
-is_landing_record (records.Whole id length parts) = false
+is_landing_record (records.Whole whole) = false
 is_landing_record (records.Change number) = false
 is_landing_record (records.Book movement) = false
 is_landing_record (records.Land landing) = true
-is_landing_record (records.Policy caller text) = false
+is_landing_record (records.Policy policy) = false
 is_landing_record (records.Fault breaking) = false
 
 abbrev pub is_content_entry : Entry → Bool

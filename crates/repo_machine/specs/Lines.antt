@@ -16,11 +16,11 @@ use Rattle.repo_machine.specs.declared.records.Entry.{Entry}
 
 abbrev pub record_line : List Known → Record → LogLine
 record_line ks (Content id length) = ContentLine id length
-record_line ks (Whole id length parts) = WholeLine id length (arc_value parts).items
+record_line ks (Whole whole) = WholeLine whole.value.id whole.value.length (arc_value whole.value.parts).items
 record_line ks (Change number) = ChangesetLine (id_of (changeset_at ks number))
-record_line ks (Book movement) = BookmarkLine (move_of movement)
-record_line ks (Land landing) = LandingLine landing.caller landing.name landing.old landing.draft landing.moment (map id_of (map (changeset_at ks) landing.numbers.items))
-record_line ks (Policy caller text) = PolicyLine caller (count_by (λ b. b == 0x0A) text.items)
+record_line ks (Book movement) = BookmarkLine (move_of movement.value)
+record_line ks (Land landing) = LandingLine landing.value.caller landing.value.name landing.value.old landing.value.draft landing.value.moment (map id_of (map (changeset_at ks) landing.value.numbers.items))
+record_line ks (Policy policy) = PolicyLine policy.value.caller (count_by (λ b. b == 0x0A) policy.value.text.items)
 -- none is asked for
 record_line ks (Fault breaking) = ContentLine [] 0
 
@@ -32,11 +32,11 @@ line_at ks es n = record_line ks (entry_at es n).record
 
 abbrev pub KeptWithin : ℕ → Record → Type 0
 KeptWithin count (Content id length) = Unit {0}
-KeptWithin count (Whole id length parts) = Unit {0}
+KeptWithin count (Whole whole) = Unit {0}
 KeptWithin count (Change number) = number < count
 KeptWithin count (Book movement) = Unit {0}
-KeptWithin count (Land landing) = AllByRecursion (λ n. n < count) landing.numbers.items
-KeptWithin count (Policy caller text) = Unit {0}
+KeptWithin count (Land landing) = AllByRecursion (λ n. n < count) landing.value.numbers.items
+KeptWithin count (Policy policy) = Unit {0}
 KeptWithin count (Fault breaking) = ⊥
 
 abbrev pub IsKeptAt : ℕ → List Entry → ℕ → Type 0

@@ -19,8 +19,8 @@ telling l caller = record l { caller = Some caller }
 pub record IsRecorded (l : LandMade) (caller : List ℕ) (ids : List Id) (length told : ℕ) (frame : List ℕ) : Type 0 where
   pub ready : HasNumbers l
   pub few : count (values l.new.items) ≤ most_stack
-  pub rules : IsTrue (is_name l.name && is_bytes 32 l.draft)
-  pub untold : l.caller ≡ None
+  pub rules : IsTrue (is_name l.kept.value.name && is_bytes 32 l.kept.value.draft)
+  pub untold : l.kept.value.caller ≡ None
   pub ids_are : ids ≡ map id_of (values l.new.items)
   pub length_is : length ≡ payload_len (Land (landing_made l))
   pub told_is : told ≡ payload_len (Land (telling (landing_made l) caller))

@@ -18,11 +18,11 @@ landing_of ks l = record { name = l.name; old = l.old; draft = l.draft; new = ma
 
 abbrev pub body_of : List model.Known → Record → model.Body
 body_of ks (Content id length) = model.Content id length
-body_of ks (Whole id length parts) = model.Whole id length (arc_value parts).items
+body_of ks (Whole whole) = model.Whole whole.value.id whole.value.length (arc_value whole.value.parts).items
 body_of ks (Change number) = model.Change (changeset_at ks number)
-body_of ks (Book movement) = model.Book (move_of movement)
-body_of ks (Land landing) = model.Land (landing_of ks landing)
-body_of ks (Policy caller text) = model.Policy caller text.items
+body_of ks (Book movement) = model.Book (move_of movement.value)
+body_of ks (Land landing) = model.Land (landing_of ks landing.value)
+body_of ks (Policy policy) = model.Policy policy.value.caller policy.value.text.items
 body_of ks (Fault breaking) = model.Fault breaking
 
 abbrev pub entry_of : List model.Known → Entry → model.Entry
@@ -33,11 +33,11 @@ history_of ks es = map (entry_of ks) es
 
 abbrev pub RecordWithin : ℕ → Record → Type 0
 RecordWithin count (Content id length) = Unit {0}
-RecordWithin count (Whole id length parts) = Unit {0}
+RecordWithin count (Whole whole) = Unit {0}
 RecordWithin count (Change number) = number < count
 RecordWithin count (Book movement) = Unit {0}
-RecordWithin count (Land landing) = AllByRecursion (λ n. n < count) landing.numbers.items
-RecordWithin count (Policy caller text) = Unit {0}
+RecordWithin count (Land landing) = AllByRecursion (λ n. n < count) landing.value.numbers.items
+RecordWithin count (Policy policy) = Unit {0}
 RecordWithin count (Fault breaking) = Unit {0}
 
 abbrev pub IsWithin : ℕ → Entry → Type 0
@@ -45,11 +45,11 @@ IsWithin count e = RecordWithin count e.record
 
 abbrev pub is_record_kept : Record → Bool
 is_record_kept (Content id length) = true
-is_record_kept (Whole id length parts) = true
+is_record_kept (Whole whole) = true
 is_record_kept (Change number) = true
 is_record_kept (Book movement) = true
 is_record_kept (Land landing) = true
-is_record_kept (Policy caller text) = true
+is_record_kept (Policy policy) = true
 is_record_kept (Fault breaking) = false
 
 abbrev pub is_kept : Entry → Bool

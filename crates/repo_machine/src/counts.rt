@@ -43,23 +43,42 @@ impl Machine {
     }
 }
 
+impl Entry {
+    fn is_content(&self) -> bool
+        ensures { result ≡ is_content_entry self.now }
+    {
+        matches!(self.record, Record::Content { .. } | Record::Whole(_))
+    }
+
+    fn is_landing(&self) -> bool
+        ensures { result ≡ is_landing_entry self.now }
+    {
+        matches!(self.record, Record::Land(_))
+    }
+}
+
 fn contents_in(entries: &[Entry]) -> u64
     ensures { result ≡ count_by is_content_entry entries.now }
 {
-    let contents = entries.iter().filter(|entry| matches!(
-        entry.record,
-        Record::Content { .. } | Record::Whole { .. }
-    ));
-    contents.count() as u64
+    let mut count = 0;
+    'entries: for entry in entries {
+        if entry.is_content() {
+            count += 1;
+        }
+    }
+    count
 }
 
 fn landings_in(entries: &[Entry]) -> u64
     ensures { result ≡ count_by is_landing_entry entries.now }
 {
-    let landings = entries
-        .iter()
-        .filter(|entry| matches!(entry.record, Record::Land(_)));
-    landings.count() as u64
+    let mut count = 0;
+    'entries: for entry in entries {
+        if entry.is_landing() {
+            count += 1;
+        }
+    }
+    count
 }
 
 // How many names have a head.

@@ -3,53 +3,46 @@ ghost use Rattle.std.specs.Prelude.{◌≡◌, None, [], option_map};
 ghost use Rattle.repo_calls.specs.Calls.{granted_seen};
 
 use crate::frame::Frame;
+use crate::records::{LandRecord, PolicyRecord, WholeRecord};
 use bonsai::Commit;
 use land_policy::Rules;
 use object_id::Id;
 use repo_calls::Granted;
 use repo_events::Move;
-use repo_path::BookName;
 use std::alloc::Global;
 use std::marker::Model;
 use std::sync::Arc;
 
-/// A landing with memory for the numbers of its changesets.
+/// A landing: what its entry keeps, with memory for the numbers of its changesets, and those changesets.
 #[derive(Drop)]
 pub(crate) struct LandMade {
-    pub(crate) name: BookName,
-    pub(crate) old: Id,
-    pub(crate) draft: Id,
+    pub(crate) kept: Box<LandRecord>,
     pub(crate) new: Vec<Arc<Commit>>,
-    pub(crate) moment: Option<u64>,
-    pub(crate) caller: Option<BookName>,
-    pub(crate) numbers: Vec<u32>,
 }
 
-/// A whole: its parts, and the same once more.
+/// A whole: what its entry keeps, and its parts once more.
 #[derive(Drop)]
 pub(crate) struct WholeMade {
-    pub(crate) id: Id,
-    pub(crate) length: u64,
-    pub(crate) parts: Arc<Vec<Id>>,
+    pub(crate) kept: Box<WholeRecord>,
     pub(crate) shared: Arc<Vec<Id>>,
+}
+
+/// A policy: what its entry keeps, and its rules.
+#[derive(Drop)]
+pub(crate) struct PolicyMade {
+    pub(crate) kept: Box<PolicyRecord>,
+    pub(crate) rules: Rules,
 }
 
 /// What a change makes, ready to be entered without memory.
 #[derive(Drop)]
 pub(crate) enum Made {
-    Content {
-        id: Id,
-        length: u64,
-    },
+    Content { id: Id, length: u32 },
     Whole(WholeMade),
     Change(Arc<Commit>),
-    Book(Move),
+    Book(Box<Move>),
     Land(LandMade),
-    Policy {
-        caller: BookName,
-        text: Vec<u8>,
-        rules: Rules,
-    },
+    Policy(PolicyMade),
 }
 
 /// A change that was judged at a history: who asked for it, what it is granted, the entry that it makes, if it makes one,

@@ -74,12 +74,12 @@ fn line_of(
     match record {
         Record::Content { id, length } => Ok(LogEntry::Content {
             id: *id,
-            size: *length,
+            size: *length as u64,
         }),
-        Record::Whole { id, length, parts } => Ok(LogEntry::Whole {
-            id: *id,
-            size: *length,
-            parts: Vec::from_slice(alloc, parts.as_slice())?,
+        Record::Whole(whole) => Ok(LogEntry::Whole {
+            id: whole.id,
+            size: whole.length,
+            parts: Vec::from_slice(alloc, whole.parts.as_slice())?,
         }),
         Record::Change { number } => Ok(LogEntry::Changeset {
             id: changesets.at(*number).id(),
@@ -98,9 +98,9 @@ fn line_of(
             ids: ids_of(changesets, alloc, landing.numbers.as_slice())?,
             caller: copied(alloc, &landing.caller)?,
         }),
-        Record::Policy { caller, text } => Ok(LogEntry::Policy {
-            caller: caller.copy(alloc)?,
-            rules: lines_in(text.as_slice()),
+        Record::Policy(policy) => Ok(LogEntry::Policy {
+            caller: policy.caller.copy(alloc)?,
+            rules: lines_in(policy.text.as_slice()),
         }),
         Record::Fault { breaking: _ } => unreachable!(),
     }

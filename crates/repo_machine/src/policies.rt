@@ -15,9 +15,9 @@ ghost use Rattle.reply_model.specs.Legal.{IsLegal};
 ghost use Rattle.repo_calls.specs.Refusing.{IsRefusal};
 ghost use Rattle.repo_machine.specs.Entering.{Judges};
 
-use crate::judged::{Judged, Made};
+use crate::judged::{Judged, Made, PolicyMade};
 use crate::machine::Machine;
-use crate::records::Record;
+use crate::records::{PolicyRecord, Record};
 use held_policy::check_policy;
 use land_policy::{PolicyFault, Rules};
 use repo_calls::{Granted, Refusal};
@@ -209,22 +209,21 @@ fn framed_policy(
         text: Vec::from_slice(alloc, text)?,
     };
     let frame = encode_entry(alloc, &body, &[])?;
-    let made = policy_made(body, rules);
+    let made = policy_made(alloc, body, rules)?;
     Ok(ReadPolicy { made, frame })
 }
 
 // What is entered of a policy.
-fn policy_made(body: Body, rules: Rules) -> Made
+fn policy_made(alloc: Global, body: Body, rules: Rules) -> Result<Made, AllocError>
     requires { (caller text : List ℕ) × (body_of body ≡ Policy caller text) × (parse text ≡ Ok rules) }
-    ensures made { made_of result ≡ body_of body }
-    ensures ready { IsMadeReady result }
+    ensures made { IfOk result (λ made. made_of made ≡ body_of body) }
+    ensures ready { IfOk result IsMadeReady }
 {
     match body {
-        Body::Policy { caller, text } => Made::Policy {
-            caller,
-            text,
-            rules,
-        },
+        Body::Policy { caller, text } => {
+            let kept = Box::new(alloc, PolicyRecord { caller, text })?;
+            Ok(Made::Policy(PolicyMade { kept, rules }))
+        }
         _ => unreachable!(),
     }
 }
@@ -242,9 +241,9 @@ fn text_of(record: &Record) -> Option<&[u8]>
     ensures { (ks : List Known) → option_map (λ text. text.now) result ≡ policy_text (record_of ks «record».now) }
 {
     match record {
-        Record::Policy { caller: _, text } => Some(text.as_slice()),
+        Record::Policy(policy) => Some(policy.text.as_slice()),
         Record::Content { .. }
-        | Record::Whole { .. }
+        | Record::Whole(_)
         | Record::Change { .. }
         | Record::Book(_)
         | Record::Land(_)

@@ -61,7 +61,7 @@ impl Model for Rebased {
 
     ghost coded = { coded_rebased };
 
-    ghost view = { λ r. record { name = r.landing.name; draft = r.landing.draft; old = r.landing.old; new = values r.landing.new.items; touched = r.touched.items; asked = r.asked; moment = r.landing.moment; caller = r.caller } };
+    ghost view = { λ r. record { name = r.landing.kept.value.name; draft = r.landing.kept.value.draft; old = r.landing.kept.value.old; new = values r.landing.new.items; touched = r.touched.items; asked = r.asked; moment = r.landing.kept.value.moment; caller = r.caller } };
 
     ghost invariant = { λ r. IsRecorded r.landing r.caller r.ids.items r.length r.told_length r.frame.items };
 }
@@ -190,14 +190,14 @@ impl Rebased {
     pub fn name(&self) -> &BookName
         ensures { result.now ≡ self.now.name }
     {
-        &self.landing.name
+        &self.landing.kept.name
     }
 
     /// The planned head, on which the stack stands now.
     pub fn old(&self) -> Id
         ensures { result ≡ self.now.old }
     {
-        self.landing.old
+        self.landing.kept.old
     }
 
     /// The new changesets.
@@ -274,7 +274,7 @@ impl Rebased {
             frame,
         } = self;
         if told {
-            landing.caller = Some(caller);
+            landing.kept.caller = Some(caller);
             return landed(who, landing, ids, Frame::whole(frame));
         }
         let frame = Frame::untold(frame, &caller, length as u32);
@@ -298,9 +298,9 @@ impl Rebased {
 // A landing that is judged so.
 fn landed(who: u64, landing: LandMade, ids: Vec<Id>, frame: Frame) -> Judged
     requires { HasNumbers landing }
-    ensures { result ≡ record { who = who; granted = LandedSo landing.old ids.items; made = Some (Land (landing_made landing)); frame = frame } }
+    ensures { result ≡ record { who = who; granted = LandedSo landing.kept.value.old ids.items; made = Some (Land (landing_made landing)); frame = frame } }
 {
-    let old = landing.old;
+    let old = landing.kept.old;
     Judged {
         who,
         granted: Granted::Landing(Landed { old, ids }),

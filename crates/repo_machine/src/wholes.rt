@@ -19,6 +19,7 @@ ghost use Rattle.repo_machine.specs.Wholes.{pieces_judged, IsWholeOf};
 use crate::found::Joined;
 use crate::judged::{Judged, Made, WholeMade};
 use crate::machine::Machine;
+use crate::records::WholeRecord;
 use content_table::Part;
 use object_id::Id;
 use repo_calls::{Granted, Refusal};
@@ -144,12 +145,8 @@ fn whole_of(alloc: Global, body: Body) -> Result<WholeMade, AllocError>
         Body::Whole { id, length, parts } => {
             let parts = Arc::new(alloc, parts)?;
             let shared = Arc::try_clone(&parts)?;
-            Ok(WholeMade {
-                id,
-                length,
-                parts,
-                shared,
-            })
+            let kept = Box::new(alloc, WholeRecord { id, length, parts })?;
+            Ok(WholeMade { kept, shared })
         }
         _ => unreachable!(),
     }

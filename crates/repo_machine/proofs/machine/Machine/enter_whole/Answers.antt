@@ -1,7 +1,7 @@
 use Rattle.std.proofs.Common.{refl, sym, ap, ◌∙◌, arith}
-use Rattle.std.specs.Prelude.{cond, bytes_eq, Some}
+use Rattle.std.specs.Prelude.{cond, bytes_eq, None, Some}
 use Rattle.std.specs.Arc.{arc_value}
-use Rattle.content_table.specs.Table.{joined}
+use Rattle.content_table.specs.Table.{joined, places}
 use Rattle.repo_machine.specs.Held.{repository}
 use Rattle.repo_machine.specs.Made.{whole_made}
 use Rattle.repo_machine.specs.Records.{history_of}
@@ -23,18 +23,18 @@ invariant_of-self c =
     let h = history_of c.self.inside.changesets.known c.self.inside.entries.items in
     let k = c.self.invariant.1 in
     let w = c.args.whole in
-    let parts = (arc_value w.parts).items in
+    let parts = (arc_value w.kept.value.parts).items in
     let can = enterable_as (repository c.args.self.now) (whole_made w) (ap repository c.self.view_is) c.requires.can in
     let grows = history_pushed_same c.self.inside.changesets.known c.self.inside.entries.items c.self.invariant.0 _ _ refl _ c.push_reserved-2.ensures.items in (
       within_pushed_same c.self.inside.changesets.known c.self.inside.entries.items c.self.invariant.0 _ _ refl _ c.push_reserved-2.ensures.items tt,
       indexes_grown k c.args.who (whole_made w) can refl _ grows _ _ _ _
-          (k.known_are ∙ sym (known-whole h c.args.who w.id w.length parts))
+          (k.known_are ∙ sym (known-whole h c.args.who w.kept.value.id w.kept.value.length parts))
           (λ name. k.heads_are name ∙ sym (head-push h c.args.who (whole_made w) name))
-          (λ y. lengths_entered c.self.inside.contents c.enter.new.self w.id _ c.enter.ensures.entered y ∙ ap (cond (bytes_eq w.id y) (Some w.length)) (k.lengths_are y) ∙ sym (content_len-whole h c.args.who w.id w.length parts y can.new))
+          (λ y. lengths_entered c.self.inside.contents c.enter.new.self c.deref-joined.result.now.id _ c.enter.ensures.entered y ∙ (λ i. cond (bytes_eq (c.deref-joined.ensures i).id y) (Some (c.deref-joined.ensures i).length) (k.lengths_are y i)) ∙ sym (content_len-whole h c.args.who w.kept.value.id w.kept.value.length parts y can.new))
           (omega (arith, c.requires.length)),
-      places_kept h c.args.who w.id w.length parts can.new _ _ c.self.invariant.2 (places_entered c.self.inside.contents c.enter.new.self w.id _ c.enter.ensures.entered) _ grows,
+      places_kept h c.args.who w.kept.value.id w.kept.value.length parts can.new _ _ c.self.invariant.2 (λ y. places_entered c.self.inside.contents c.enter.new.self c.deref-joined.result.now.id _ c.enter.ensures.entered y ∙ (λ i. cond (bytes_eq (c.deref-joined.ensures i).id y) None (places c.self.inside.contents y))) _ grows,
       kept_grown c.self.inside.entries.items _ c.self.invariant.3 _ _ c.push_reserved-2.ensures.items refl _ (omega (arith, c.len.ensures)) _ c.push_reserved.ensures.items,
       held_stays h c.args.who (whole_made w) refl c.self.inside.held c.self.invariant.4 _ grows,
-      joined_new h c.args.who w.id w.length parts can.new _ _ c.self.invariant.5 (λ y. joined_entered c.self.inside.contents c.enter.new.self w.id _ c.enter.ensures.entered y ∙ ap (λ ps. cond (bytes_eq w.id y) (Some ps) (joined c.self.inside.contents y)) (ap (λ v. v.items) c.requires.shared)) _ grows,
+      joined_new h c.args.who w.kept.value.id w.kept.value.length parts can.new _ _ c.self.invariant.5 (λ y. joined_entered c.self.inside.contents c.enter.new.self c.deref-joined.result.now.id _ c.enter.ensures.entered y ∙ (λ i. cond (bytes_eq (c.deref-joined.ensures i).id y) (Some (c.requires.shared i).items) (joined c.self.inside.contents y))) _ grows,
       c.self.invariant.6,
     )

@@ -1,0 +1,12 @@
+use Rattle.std.proofs.Common.{sym, ◌∙◌, arith}
+use Rattle.repo_machine.specs.Counting.{is_content_entry}
+use Rattle.repo_machine.proofs.Kept.{few_counted, all_counted}
+use Rattle.repo_machine.proofs.counts.contents_in.Goals as goal
+
+pub overflow_add-count : goal.overflow_add-count
+overflow_add-count c =
+    let few = few_counted is_content_entry c.args.entries.now c.entries.entry-index c.entries.count c.entries.invariant c.entry-item.result c.entries-test.true c.entry-item.is (sym c.is_content.ensures ∙ c.if-is_content.true) in
+    omega arith
+
+pub returns : goal.returns
+returns c = all_counted is_content_entry c.args.entries.now c.entries.entry-index c.entries.count c.entries.invariant c.entries-test.false
