@@ -1,0 +1,3 @@
+pub mod Onward
+pub mod Marks
+pub mod Fronts
