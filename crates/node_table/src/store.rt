@@ -1,17 +1,26 @@
 //! Nodes by their ids.
-ghost use Rattle.std.specs.Prelude.{◌≡◌, ◌∷◌, [], map as map_list, if◌then◌else◌, Some, None, OnOk, OnErr, IfOk, IfErr, IfSome};
+ghost use Rattle.std.specs.Prelude.{◌≡◌, ◌∷◌, [], Some, None, OnOk, OnErr, IfOk, IfErr, IfSome, option_map};
 ghost use Rattle.std.specs.Option.{option_copied};
+ghost use Rattle.std.specs.Ordering.{nat_cmp};
+ghost use Rattle.std.specs.Cmp.Lexicographic.{slice_cmp};
+ghost use Rattle.std.specs.BTreeMap.{get as get_entry};
 ghost use Rattle.std.specs.FinMap as map;
 ghost use Rattle.sha2.specs.Sha256.{sha256};
 ghost use Rattle.node_table.specs.Table.{AreDigests, collides, first_collision, with_node, with_nodes, without};
 ghost use Rattle.node_table.specs.Faults.{FaultOf, IsHeld};
+ghost use Rattle.node_table.specs.Parts.{nodes_of_entries};
+ghost use Rattle.node_table.specs.Reads.{bytes_seen};
 
+use crate::bytes::NodeBytes;
 use crate::fault::TableFault;
 use crate::node::Node;
+use crate::stored::Stored;
+use node_parts::PartPool;
 use object_id::Id;
 use std::alloc::{AllocError, Global};
 use std::collections::BTreeMap;
 use std::marker::Model;
+use wide_node::WideNode;
 
 /// What stands under the id of a node.
 pub enum Held {
@@ -20,10 +29,11 @@ pub enum Held {
     Other,
 }
 
-/// Nodes, each under the SHA-256 (FIPS 180-4) of its bytes.
+/// Nodes, each under the SHA-256 (FIPS 180-4) of its bytes. The parts of wide ones are shared.
 #[derive(Debug, Drop)]
 pub struct Store {
-    nodes: BTreeMap<Id, Vec<u8>>,
+    nodes: BTreeMap<Id, Stored>,
+    pool: PartPool,
 }
 
 impl Model for Store {
@@ -47,17 +57,28 @@ impl Store {
     {
         Store {
             nodes: BTreeMap::new(alloc),
+            pool: PartPool::new(alloc),
         }
     }
 
-    pub fn get(&self, id: &Id) -> Option<&[u8]>
+    /// The node of an id, as it is kept.
+    pub fn stored(&self, id: &Id) -> Option<&Stored>
         ensures found { option_copied result ≡ map.get self.now id.now }
-        ensures digest { IfSome result (λ bytes. sha256 bytes.now ≡ id.now) }
+        ensures digest { IfSome result (λ node. sha256 node.now ≡ id.now) }
         ensures digests { AreDigests self.now }
     {
-        match self.nodes.get(id) {
-            Some(bytes) => Some(bytes.as_slice()),
-            None => None,
+        self.nodes.get(id)
+    }
+
+    /// The bytes of the node of an id.
+    pub fn get(&self, alloc: Global, id: &Id) -> Result<Option<NodeBytes<'_>>, AllocError>
+        ensures found { IfOk result (λ node. option_map bytes_seen node ≡ map.get self.now id.now) }
+        ensures digest { IfOk result (λ node. IfSome node (λ bytes. sha256 (bytes_seen bytes) ≡ id.now)) }
+        ensures digests { AreDigests self.now }
+    {
+        match self.stored(id) {
+            Some(node) => Ok(Some(node.bytes(alloc)?)),
+            None => Ok(None),
         }
     }
 
@@ -66,7 +87,7 @@ impl Store {
         ensures err { OnErr result (self.new ≡ self.old) }
     {
         let id = node.id();
-        self.nodes.insert(id, node.into_bytes())?;
+        self.nodes.insert(id, Stored::whole(node.into_bytes()))?;
         Ok(())
     }
 
@@ -80,9 +101,9 @@ impl Store {
     fn held(&self, node: &Node) -> Held
         ensures { IsHeld result node.now (map.get self.now (sha256 node.now)) }
     {
-        match self.get(&node.id()) {
+        match self.stored(&node.id()) {
             None => Held::Nothing,
-            Some(found) if found == node.bytes() => Held::Same,
+            Some(found) if found.is_same(node.bytes()) => Held::Same,
             Some(_) => Held::Other,
         }
     }
@@ -147,5 +168,54 @@ impl Store {
         while let Some(id) = noted.pop() {
             self.remove(&id);
         }
+    }
+
+    /// Puts those of the nodes of these ids into parts that are wide. One for whose parts there is no memory stays whole.
+    pub fn cut_all(&mut self, alloc: Global, ids: &[Id])
+        ensures { self.new ≡ self.old }
+    {
+        for id in ids {
+            let _ = self.cut(alloc, id);
+        }
+    }
+
+    fn cut(&mut self, alloc: Global, id: &Id) -> Result<(), AllocError>
+        ensures { self.new ≡ self.old }
+    {
+        cut_under(alloc, &mut self.nodes, id, &mut self.pool)
+    }
+}
+
+// Puts the node of an id into parts if it is wide.
+fn cut_under(
+    alloc: Global,
+    nodes: &mut BTreeMap<Id, Stored>,
+    id: &Id,
+    pool: &mut PartPool,
+) -> Result<(), AllocError>
+    ensures { nodes_of_entries nodes.new.entries ≡ nodes_of_entries nodes.old.entries }
+{
+    let Some(node) = wide_under(alloc, nodes, id, pool)? else {
+        return Ok(());
+    };
+    nodes.insert(*id, Stored::wide(alloc, node)?)?;
+    Ok(())
+}
+
+// The node of an id in parts, if it is kept whole and is wide.
+fn wide_under(
+    alloc: Global,
+    nodes: &BTreeMap<Id, Stored>,
+    id: &Id,
+    pool: &mut PartPool,
+) -> Result<Option<WideNode>, AllocError>
+    ensures { IfOk result (λ node. IfSome node (λ n. get_entry (slice_cmp nat_cmp) nodes.now id.now ≡ Some n)) }
+{
+    let Some(stored) = nodes.get(id) else {
+        return Ok(None);
+    };
+    match stored.as_whole() {
+        Some(bytes) => WideNode::of(alloc, bytes, pool),
+        None => Ok(None),
     }
 }

@@ -1,12 +1,13 @@
 //! The table of nodes.
-ghost use Rattle.std.specs.Prelude.{◌≡◌, ◌↔◌, ◌++◌, ◌∷◌, [], ℕ, List, true, false, Some, None, IsSome, IsOk, is_some, nat_eq, OnOk, OnErr, IfOk, IfErr, IfSome};
+ghost use Rattle.std.specs.Prelude.{◌≡◌, ◌↔◌, ◌++◌, ◌∷◌, [], ℕ, List, true, false, Some, None, IsSome, IsOk, is_some, nat_eq, OnOk, OnErr, IfOk, IfErr, IfSome, option_map};
 ghost use Rattle.std.specs.List.{IsDistinct};
-ghost use Rattle.std.specs.Option.{option_copied};
 ghost use Rattle.std.specs.FinMap as map;
 ghost use Rattle.sha2.specs.Sha256.{sha256};
 ghost use Rattle.node_table.specs.Table.{AreApart, AreDigests, Has, IsAmong, empty_table, first_collision, is_settled, settled_with, with_node};
 ghost use Rattle.node_table.specs.Faults.{FaultOf, OfTwo};
+ghost use Rattle.node_table.specs.Reads.{bytes_seen};
 
+use crate::bytes::NodeBytes;
 use crate::fault::TableFault;
 use crate::node::Node;
 use crate::root_table::RootTable;
@@ -19,7 +20,7 @@ use std::marker::Model;
 /// Nodes by their ids, no two different ones under one id, and the roots of the settled changesets.
 #[derive(Debug, Drop)]
 pub struct NodeTable {
-    store: Store,
+    pub(crate) store: Store,
     roots: RootTable,
     settled: Vec<u32>,
 }
@@ -48,13 +49,13 @@ impl NodeTable {
         }
     }
 
-    /// The node of an id.
-    pub fn get(&self, id: &Id) -> Option<&[u8]>
-        ensures found { option_copied result ≡ map.get self.now.nodes id.now }
-        ensures digest { IfSome result (λ bytes. sha256 bytes.now ≡ id.now) }
+    /// The node of an id. It takes memory only where the node is kept in parts.
+    pub fn get(&self, alloc: Global, id: &Id) -> Result<Option<NodeBytes<'_>>, AllocError>
+        ensures found { IfOk result (λ node. option_map bytes_seen node ≡ map.get self.now.nodes id.now) }
+        ensures digest { IfOk result (λ node. IfSome node (λ bytes. sha256 (bytes_seen bytes) ≡ id.now)) }
         ensures digests { AreDigests self.now.nodes }
     {
-        self.store.get(id)
+        self.store.get(alloc, id)
     }
 
     /// The roots of a settled changeset. No other has any.
@@ -114,7 +115,15 @@ impl NodeTable {
             self.store.undo(noted);
             return Err(TableFault::Memory);
         }
+        self.cut_new(alloc, &noted);
         Ok(())
+    }
+
+    // Puts those of new nodes into parts that are wide.
+    fn cut_new(&mut self, alloc: Global, ids: &[Id])
+        ensures { self.new ≡ self.old }
+    {
+        self.store.cut_all(alloc, ids);
     }
 
     // Adds a number that isn't settled and its roots, or nothing.

@@ -16,7 +16,7 @@ pub returns-clause-nodes : goal.returns-clause-nodes
 returns-clause-nodes c = λ new n.
     let m = c.self.inside.store in
     let ns = c.args.nodes.items in
-    let after : c.note.new.self.nodes ≡ with_nodes m ns = ap (λ t. t.nodes) (not_failed c.note.result c.is_err.result c.is_err.ensures.value c.if-is_err.false c.note.ensures.ok) ∙ c.in_default.ensures.ok in
+    let after : c.cut_new.new.self.nodes ≡ with_nodes m ns = ap (λ t. t.nodes) (c.cut_new.ensures ∙ not_failed c.note.result c.is_err.result c.is_err.ensures.value c.if-is_err.false c.note.ensures.ok) ∙ c.in_default.ensures.ok in
     rw (← c.self.view_is) (subst (λ k. Has k n ↔ IsAmong m ns n) (sym after) (has_just m ns c.in_default.ensures.apart n))
 
 pub returns-clause-apart : goal.returns-clause-apart
