@@ -14,12 +14,14 @@ use Rattle.history_model.specs.History.{Known, is_known}
 use Rattle.history_model.specs.Past.{Past, Begin}
 use Rattle.history_model.specs.Tree.{files_in, is_dir, tree_of}
 use Rattle.manifest_model.specs.Unode.{Unode, UnodeEntry, UnodeFile, UnodeDir, linknode_of}
-use Rattle.manifest_model.specs.NodeReading.{deleted_of}
 use Rattle.manifest_model.specs.Merged.{unode_at as unode_of}
-use Rattle.manifest_model.specs.Deleted.{DeletedNode, deleted, deleted_at as deleted_in, deleted_bytes, last_deletion}
+use Rattle.manifest_model.specs.Deleted.{deleted, deleted_at as deleted_in, deleted_bytes, last_deletion}
+use Rattle.deleted_node.specs.Lookup.{link_in as link_read}
+use Rattle.deleted_node.proofs.Named.{link_found}
 use Rattle.deleted_node.proofs.Spelled.{deleted_is_read}
 use Rattle.deleted_node.proofs.Within.{link_is, nothing_without}
 use Rattle.reply_model.specs.Reply.{Absent, AbsentChangeset, NoPath, refuse_if, ◌>>=◌}
+use Rattle.node_table.specs.Reads.{deleted_link_in}
 use Rattle.node_table.specs.Table.{Table, is_settled}
 use Rattle.node_table.specs.declared.roots.Roots.{Roots}
 use Rattle.changeset_store.specs.Store.{number_in, known_at, changeset_at, parent_at, second_parent_at}
@@ -125,16 +127,14 @@ module _ (ks : List Known) (t : Table) (a : AreManifests ks t) where
       no_deleter e = sym (nothing_without (past_at ks n) p (gone_missing ks t a n settled r at p e)) ∙ deleted_told (past_at ks n) p
 
       module _ (e : UnodeEntry) (id : Id) (same : id ≡ entry_id e) (h : Some e ≡ walk (deleted_entry_under t.nodes) (UnodeDir r.deleted) p) where
-        pub deleter_there : map.get t.nodes id ≡ Some (deleted_bytes (deleted (past_at ks n) p))
+        deleter_there : map.get t.nodes id ≡ Some (deleted_bytes (deleted (past_at ks n) p))
         deleter_there = gone_got ks t a n settled r at p e id same h
 
-        pub deleter_kept : None ≡ map.get t.nodes id → ⊥
-        deleter_kept gone = absurd (cc (gone ∙ deleter_there))
-
-        pub deleter_is : (bytes : List ℕ) → Some bytes ≡ map.get t.nodes id → (x : Option Id) → ((m : DeletedNode) → deleted_of bytes ≡ Ok m → x ≡ m.link) → x ≡ cond (has_file_at ks p n) None (id_in (last_past (past_at ks n) p))
-        deleter_is bytes got x link =
-            let read = ap deleted_of (same_some bytes _ (got ∙ deleter_there)) ∙ deleted_is_read (deleted (past_at ks n) p) ((a.right n (a.numbered n settled)).deletions p) in
-            link (deleted (past_at ks n) p) read ∙ link_is (past_at ks n) p ∙ deleted_told (past_at ks n) p
+        pub deleter_read : (x : Option Id) → x ≡ deleted_link_in t.nodes id → x ≡ cond (has_file_at ks p n) None (id_in (last_past (past_at ks n) p))
+        deleter_read x is =
+            is ∙ ap (option_and_then link_read) deleter_there
+            ∙ link_found (deleted_bytes (deleted (past_at ks n) p)) (deleted (past_at ks n) p) (deleted_is_read (deleted (past_at ks n) p) ((a.right n (a.numbered n settled)).deletions p))
+            ∙ link_is (past_at ks n) p ∙ deleted_told (past_at ks n) p
 
   -- ---- the whole log
 

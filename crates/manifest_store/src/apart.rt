@@ -11,8 +11,8 @@ use crate::dirs::nodes_at;
 use crate::nodes::{child_ids, dir_under};
 use crate::under::path_in;
 use derive_step::{DirIds, DirNodes, Parent};
-use marked_table::MarkedTable;
 use node_fields::Name;
+use node_table::NodeTable;
 use repo_path::{LONGEST_PATH, RepoPath};
 use std::alloc::{AllocError, Global};
 
@@ -29,7 +29,7 @@ struct ApartChild {
 /// least, so that none lies below the last turn's level.
 pub(crate) fn add_apart(
     alloc: Global,
-    table: &MarkedTable,
+    table: &NodeTable,
     first: &mut Parent,
     second: &mut Parent,
 ) -> Result<(), AllocError>
@@ -57,7 +57,7 @@ pub(crate) fn add_apart(
 // Adds those directly in these directories, and gives their paths.
 fn level_under(
     alloc: Global,
-    table: &MarkedTable,
+    table: &NodeTable,
     level: &[RepoPath],
     first: &mut Parent,
     second: &mut Parent,
@@ -79,7 +79,7 @@ fn level_under(
 // Adds those directly in a directory, or in the root, and their paths.
 fn add_children(
     alloc: Global,
-    table: &MarkedTable,
+    table: &NodeTable,
     dir: Option<&RepoPath>,
     first: &mut Parent,
     second: &mut Parent,
@@ -108,7 +108,7 @@ fn add_children(
 // Adds one in a directory, and its path, where that isn't too long.
 fn add_child(
     alloc: Global,
-    table: &MarkedTable,
+    table: &NodeTable,
     dir: Option<&RepoPath>,
     child: &ApartChild,
     first: &mut Parent,

@@ -25,9 +25,8 @@ use crate::nodes::fsnode_under;
 use crate::under::path_in;
 use bonsai::Edit;
 use fsnode::{FsChild, FsEntry, Fsnode};
-use marked_table::MarkedTable;
 use node_fields::Name;
-use node_table::Roots;
+use node_table::{NodeTable, Roots};
 use object_id::Id;
 use repo_path::{LONGEST_PATH, RepoPath};
 use std::alloc::{AllocError, Global};
@@ -45,7 +44,7 @@ struct Brought {
 /// whose fsnodes differ. An element of a path takes a byte at least, so that no directory lies below the last turn's level.
 pub(crate) fn add_brought(
     alloc: Global,
-    table: &MarkedTable,
+    table: &NodeTable,
     first: &Option<Roots>,
     second: &Roots,
     edits: &[Edit],
@@ -90,7 +89,7 @@ fn fsnode_of(roots: &Option<Roots>) -> Option<Id>
 // Adds the files directly in these directories, and gives the directories in them.
 fn level_under(
     alloc: Global,
-    table: &MarkedTable,
+    table: &NodeTable,
     level: &[Brought],
     decided: &Decided,
     come: &mut Vec<RepoPath>,
@@ -109,7 +108,7 @@ fn level_under(
 // Equal ids are those of equal fsnodes, so that nothing is brought there.
 fn add_entries(
     alloc: Global,
-    table: &MarkedTable,
+    table: &NodeTable,
     dir: &Brought,
     decided: &Decided,
     next: &mut Vec<Brought>,
@@ -141,7 +140,7 @@ fn is_alike(dir: &Brought) -> bool
 
 fn first_fsnode(
     alloc: Global,
-    table: &MarkedTable,
+    table: &NodeTable,
     dir: &Brought,
 ) -> Result<Option<Fsnode>, AllocError>
     ensures { IfOk result (λ node. option_map fsnode_seen node ≡ option_and_then (fsnode_in_table table.now.nodes) dir.now.first) }

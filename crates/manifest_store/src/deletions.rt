@@ -14,8 +14,7 @@ use crate::holding::hold_ways;
 use crate::moves::{Moved, moved_by};
 use bonsai::Edit;
 use derive_step::{Deletions, HeldNodes};
-use marked_table::MarkedTable;
-use node_table::Roots;
+use node_table::{NodeTable, Roots};
 use repo_path::RepoPath;
 use std::alloc::{AllocError, Global};
 use std::collections::BTreeMap;
@@ -23,7 +22,7 @@ use std::collections::BTreeMap;
 /// What edits and a second parent change of the files under the first parent's roots, or of none.
 pub(crate) fn deletions_from(
     alloc: Global,
-    table: &MarkedTable,
+    table: &NodeTable,
     parent: &Option<Roots>,
     second: &Option<Roots>,
     edits: &[Edit],
@@ -39,7 +38,7 @@ pub(crate) fn deletions_from(
 // The deleted nodes of the parent at these paths and above them.
 fn held_at(
     alloc: Global,
-    table: &MarkedTable,
+    table: &NodeTable,
     parent: &Option<Roots>,
     gone: &[RepoPath],
     come: &[RepoPath],

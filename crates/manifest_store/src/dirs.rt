@@ -16,8 +16,7 @@ use crate::nodes::{child_ids, dir_under};
 use crate::place::{front_of, parted};
 use bonsai::Edit;
 use derive_step::{DirIds, DirNodes, Parent, text_above};
-use marked_table::MarkedTable;
-use node_table::Roots;
+use node_table::{NodeTable, Roots};
 use repo_path::{RepoPath, has_elements, path_of};
 use std::alloc::{AllocError, Global};
 use std::collections::BTreeMap;
@@ -28,7 +27,7 @@ pub(crate) type Dirs = BTreeMap<RepoPath, DirNodes>;
 /// Of a settled changeset: the nodes of the root, and of the directories above edits that are there.
 pub(crate) fn parent_nodes(
     alloc: Global,
-    table: &MarkedTable,
+    table: &NodeTable,
     number: u32,
     edits: &[Edit],
 ) -> Result<Option<Parent>, AllocError>
@@ -59,7 +58,7 @@ fn ids_of(roots: &Roots) -> DirIds
 // Adds the directories above edits. Neighbours often lie in one directory.
 fn add_all_above(
     alloc: Global,
-    table: &MarkedTable,
+    table: &NodeTable,
     root: &DirNodes,
     edits: &[Edit],
     dirs: &mut Dirs,
@@ -94,7 +93,7 @@ fn is_same(last: Option<&str>, dir: &str) -> bool
 // Adds a directory and those above it, down from the root as far as they are there.
 fn add_above(
     alloc: Global,
-    table: &MarkedTable,
+    table: &NodeTable,
     root: &DirNodes,
     dir: &str,
     dirs: &mut Dirs,
@@ -122,7 +121,7 @@ fn add_above(
 // Adds a directory in the one above it, and tells whether it is there.
 fn add_dir(
     alloc: Global,
-    table: &MarkedTable,
+    table: &NodeTable,
     root: &DirNodes,
     above: Option<&RepoPath>,
     name: &str,
@@ -167,7 +166,7 @@ pub(crate) fn nodes_at<'a>(
 // The nodes of a directory in another one.
 fn child_under(
     alloc: Global,
-    table: &MarkedTable,
+    table: &NodeTable,
     nodes: Option<&DirNodes>,
     name: &str,
 ) -> Result<Option<DirNodes>, AllocError>

@@ -21,13 +21,13 @@ use object_id::Id;
 use repo_path::RepoPath;
 use std::alloc::{AllocError, Global};
 use std::collections::BTreeMap;
-use unode::{FileUnode, Nodes, Parents, UnodeEntry, decode_file};
+use unode::{FileUnode, Nodes, Parents, UnodeEntry};
 
 impl<'a> Nodes for Unodes<'a> {
     ghost file_at = { λ t x. file_under t.table.now.nodes x };
 
     fn file_unode(&self, id: &Id) -> Option<FileUnode> {
-        decode_file(self.table.get(id)?)
+        self.table.file_unode(id)
     }
 }
 

@@ -7,8 +7,7 @@ ghost use Rattle.manifest_store.specs.Nodes.{deleted_entry_under};
 ghost use Rattle.manifest_store.specs.Holding.{AreOf, IsMore, IsHere, AreOnWay};
 
 use crate::place::parted;
-use marked_table::MarkedTable;
-use node_table::Node;
+use node_table::{Node, NodeTable};
 use object_id::Id;
 use repo_path::RepoPath;
 use std::alloc::{AllocError, Global};
@@ -17,7 +16,7 @@ use std::collections::BTreeMap;
 /// Holds the deleted nodes at paths and above them, down from the root as far as there are any.
 pub(crate) fn hold_ways(
     alloc: Global,
-    table: &MarkedTable,
+    table: &NodeTable,
     root: &Id,
     paths: &[RepoPath],
     nodes: &mut BTreeMap<Id, Node>,
@@ -37,7 +36,7 @@ pub(crate) fn hold_ways(
 
 fn hold_way(
     alloc: Global,
-    table: &MarkedTable,
+    table: &NodeTable,
     root: &Id,
     path: &str,
     nodes: &mut BTreeMap<Id, Node>,
@@ -63,7 +62,7 @@ fn hold_way(
 }
 
 // What a deleted node has under a name.
-fn id_in(table: &MarkedTable, id: &Id, name: &str) -> Option<Id>
+fn id_in(table: &NodeTable, id: &Id, name: &str) -> Option<Id>
     ensures { option_map UnodeDir result ≡ deleted_entry_under table.now.nodes id.now name.now }
 {
     let entry = table.deleted_entry(id, name)?;
@@ -73,7 +72,7 @@ fn id_in(table: &MarkedTable, id: &Id, name: &str) -> Option<Id>
 // Holds the node of an id, if there is one.
 fn hold(
     alloc: Global,
-    table: &MarkedTable,
+    table: &NodeTable,
     id: &Id,
     nodes: &mut BTreeMap<Id, Node>,
 ) -> Result<(), AllocError>
@@ -85,8 +84,8 @@ fn hold(
     if nodes.contains_key(id) {
         return Ok(());
     }
-    if let Some(bytes) = table.get(id) {
-        nodes.insert(*id, Node::of(Vec::from_slice(alloc, bytes)?))?;
+    if let Some(bytes) = table.get(alloc, id)? {
+        nodes.insert(*id, Node::of(bytes.into_vec(alloc)?))?;
     }
     Ok(())
 }

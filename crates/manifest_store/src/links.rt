@@ -15,8 +15,7 @@ use crate::reads::id_of;
 use crate::walk::{DeletedNodes, Unodes, walk};
 use bonsai::Change;
 use changeset_store::ChangesetStore;
-use deleted_node::link_in;
-use marked_table::MarkedTable;
+use node_table::NodeTable;
 use object_id::Id;
 use path_log::{Lines, Members};
 use repo_path::RepoPath;
@@ -25,7 +24,7 @@ use unode::{Nodes, UnodeEntry};
 /// The settled changesets, each with its line of first parents.
 #[derive(Clone, Copy)]
 pub(crate) struct SettledLines<'a> {
-    pub(crate) table: &'a MarkedTable,
+    pub(crate) table: &'a NodeTable,
     pub(crate) changesets: &'a ChangesetStore,
     pub(crate) ghost manifests: { ∥ AreManifests changesets.now.known table.now ∥₁ },
     pub(crate) ghost earlier: { IsEarlier (is_settled table.now) (parent_at changesets.now.known) },
@@ -65,11 +64,7 @@ impl<'a> SettledLines<'a> {
         let Some(entry) = walk(&deleted, roots.deleted, Some(path)) else {
             return None;
         };
-        let id = id_of(entry);
-        match self.table.get(&id) {
-            Some(bytes) => link_in(bytes),
-            None => unreachable!(),
-        }
+        self.table.deleted_link(&id_of(entry))
     }
 
     // The first on the line of `at` that is the one of the link or has two parents: numbers fall along the line, so that it

@@ -44,9 +44,7 @@ impl ManifestStore {
         let Some(right) = self.root_of(changesets, second) else {
             unreachable!()
         };
-        let fsnodes = Fsnodes {
-            table: self.table.nodes(),
-        };
+        let fsnodes = Fsnodes { table: &self.table };
         least_unresolved(alloc, &fsnodes, left, right, change, steps)
     }
 

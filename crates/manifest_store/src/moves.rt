@@ -16,8 +16,7 @@ use crate::under::add_files_under;
 use crate::walk::{Fsnodes, walk};
 use bonsai::{Change, Edit};
 use derive_step::text_above;
-use marked_table::MarkedTable;
-use node_table::Roots;
+use node_table::{NodeTable, Roots};
 use object_id::Id;
 use repo_path::{RepoPath, has_elements, path_of};
 use std::alloc::{AllocError, Global};
@@ -34,7 +33,7 @@ pub(crate) struct Moved {
 /// that edits leave.
 pub(crate) fn moved_by(
     alloc: Global,
-    table: &MarkedTable,
+    table: &NodeTable,
     parent: &Option<Roots>,
     second: &Option<Roots>,
     edits: &[Edit],
@@ -54,7 +53,7 @@ pub(crate) fn moved_by(
 // The files that edits add, and those that they take away.
 fn moved_by_edits(
     alloc: Global,
-    table: &MarkedTable,
+    table: &NodeTable,
     parent: &Option<Roots>,
     edits: &[Edit],
 ) -> Result<Moved, AllocError>
@@ -75,7 +74,7 @@ fn moved_by_edits(
 // a file takes that file away.
 fn add_edit(
     alloc: Global,
-    table: &MarkedTable,
+    table: &NodeTable,
     parent: &Option<Roots>,
     edit: &Edit,
     moved: &mut Moved,
@@ -91,7 +90,7 @@ fn add_edit(
 
 fn add_set(
     alloc: Global,
-    table: &MarkedTable,
+    table: &NodeTable,
     parent: &Option<Roots>,
     path: &RepoPath,
     moved: &mut Moved,
@@ -122,7 +121,7 @@ fn dir_id(entry: &UnodeEntry) -> Option<Id>
 
 fn add_delete(
     alloc: Global,
-    table: &MarkedTable,
+    table: &NodeTable,
     parent: &Option<Roots>,
     path: &RepoPath,
     gone: &mut Vec<RepoPath>,
@@ -138,7 +137,7 @@ fn add_delete(
 // Adds the file above a path, if there is one.
 fn add_file_above(
     alloc: Global,
-    table: &MarkedTable,
+    table: &NodeTable,
     parent: &Option<Roots>,
     path: &RepoPath,
     gone: &mut Vec<RepoPath>,
@@ -157,14 +156,14 @@ fn add_file_above(
     Ok(())
 }
 
-fn is_file_before(table: &MarkedTable, parent: &Option<Roots>, path: &RepoPath) -> bool
+fn is_file_before(table: &NodeTable, parent: &Option<Roots>, path: &RepoPath) -> bool
     ensures { (past : Past) → Stands table.now.nodes parent.now past → result ≡ has_file past path.now }
 {
     matches!(entry_before(table, parent, path), Some(UnodeEntry::File(_)))
 }
 
 // What is at a path, by the fsnodes.
-fn entry_before(table: &MarkedTable, parent: &Option<Roots>, path: &RepoPath) -> Option<UnodeEntry>
+fn entry_before(table: &NodeTable, parent: &Option<Roots>, path: &RepoPath) -> Option<UnodeEntry>
     ensures entry { (past : Past) → Stands table.now.nodes parent.now past → IsEntryAt past path.now (option_map entry_seen result) }
     ensures path { 0 < length path.now }
 {

@@ -13,8 +13,8 @@ ghost use Rattle.manifest_store.specs.Nodes.{fsnode_under as fsnode_in_table, ma
 
 use derive_step::{DirIds, DirNodes};
 use fsnode::{FsChild, FsEntry, Fsnode};
-use marked_table::MarkedTable;
 use node_fields::NodeFault;
+use node_table::NodeTable;
 use object_id::Id;
 use std::alloc::{AllocError, Global};
 use unode::{Unode, UnodeChild, UnodeEntry, UnodeManifest};
@@ -22,15 +22,15 @@ use unode::{Unode, UnodeChild, UnodeEntry, UnodeManifest};
 /// The fsnode under an id.
 pub(crate) fn fsnode_under(
     alloc: Global,
-    table: &MarkedTable,
+    table: &NodeTable,
     id: &Id,
 ) -> Result<Option<Fsnode>, AllocError>
     ensures { IfOk result (λ node. option_map fsnode_seen node ≡ fsnode_in_table table.now.nodes id.now) }
 {
-    let Some(bytes) = table.get(id) else {
+    let Some(bytes) = table.get(alloc, id)? else {
         return Ok(None);
     };
-    match fsnode::decode(alloc, bytes) {
+    match fsnode::decode(alloc, bytes.as_slice()) {
         Ok(node) => Ok(Some(node)),
         Err(NodeFault::BadNode { .. }) => Ok(None),
         Err(NodeFault::Memory) => Err(AllocError),
@@ -40,15 +40,15 @@ pub(crate) fn fsnode_under(
 /// The unode of a directory under an id.
 pub(crate) fn manifest_under(
     alloc: Global,
-    table: &MarkedTable,
+    table: &NodeTable,
     id: &Id,
 ) -> Result<Option<UnodeManifest>, AllocError>
     ensures { IfOk result (λ node. option_map manifest_seen node ≡ manifest_in_table table.now.nodes id.now) }
 {
-    let Some(bytes) = table.get(id) else {
+    let Some(bytes) = table.get(alloc, id)? else {
         return Ok(None);
     };
-    match unode::decode(alloc, bytes) {
+    match unode::decode(alloc, bytes.as_slice()) {
         Ok(Unode::Manifest(node)) => Ok(Some(node)),
         Ok(Unode::File(_)) | Err(NodeFault::BadNode { .. }) => Ok(None),
         Err(NodeFault::Memory) => Err(AllocError),
@@ -58,7 +58,7 @@ pub(crate) fn manifest_under(
 /// Both nodes of a directory.
 pub(crate) fn dir_under(
     alloc: Global,
-    table: &MarkedTable,
+    table: &NodeTable,
     ids: &DirIds,
 ) -> Result<Option<DirNodes>, AllocError>
     ensures { IfOk result (λ nodes. option_map before_seen nodes ≡ dir_in_table table.now.nodes ids.now) }

@@ -92,10 +92,10 @@ impl ManifestStore {
         requires { (bytes : List ℕ) × (map.get self.now.nodes id.now ≡ Some bytes) }
         ensures { IfOk result (λ bytes. map.get self.now.nodes id.now ≡ Some bytes.items) }
     {
-        let Some(bytes) = self.table.get(id) else {
+        let Some(bytes) = self.table.get(alloc, id)? else {
             unreachable!()
         };
-        Ok(Vec::from_slice(alloc, bytes)?)
+        bytes.into_vec(alloc)
     }
 }
 

@@ -7,8 +7,7 @@ ghost use Rattle.derive_step.specs.Pasts.{roots_of};
 ghost use Rattle.manifest_store.specs.Lines.{IsStore};
 ghost use Rattle.manifest_store.specs.Manifests.{AreManifests, AreRight};
 
-use marked_table::MarkedTable;
-use node_table::Roots;
+use node_table::{NodeTable, Roots};
 use std::alloc::Global;
 use std::marker::Model;
 
@@ -16,7 +15,7 @@ use std::marker::Model;
 /// its parents.
 #[derive(Debug, Drop)]
 pub struct ManifestStore {
-    pub(crate) table: MarkedTable,
+    pub(crate) table: NodeTable,
 }
 
 impl Model for ManifestStore {
@@ -36,7 +35,7 @@ impl ManifestStore {
         ensures manifests { (ks : List Known) → IsStore ks → AreRight ks → AreManifests ks result }
     {
         ManifestStore {
-            table: MarkedTable::new(alloc),
+            table: NodeTable::new(alloc),
         }
     }
 

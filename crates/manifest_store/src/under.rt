@@ -14,8 +14,8 @@ ghost use Rattle.manifest_store.specs.Levels.{AreDirectories, AreDeep, is_reache
 
 use crate::nodes::fsnode_under;
 use fsnode::{FsChild, FsEntry};
-use marked_table::MarkedTable;
 use node_fields::Name;
+use node_table::NodeTable;
 use object_id::Id;
 use repo_path::{LONGEST_PATH, PathFault, RepoPath};
 use std::alloc::{AllocError, Global};
@@ -31,7 +31,7 @@ pub(crate) struct Directory {
 /// takes a byte at least, so that no directory lies below the last turn's level.
 pub(crate) fn add_files_under(
     alloc: Global,
-    table: &MarkedTable,
+    table: &NodeTable,
     dir: &RepoPath,
     id: &Id,
     gone: &mut Vec<RepoPath>,
@@ -55,7 +55,7 @@ pub(crate) fn add_files_under(
 // Adds the files directly in these directories, and gives the directories in them.
 fn level_under(
     alloc: Global,
-    table: &MarkedTable,
+    table: &NodeTable,
     level: &[Directory],
     gone: &mut Vec<RepoPath>,
 ) -> Result<Vec<Directory>, AllocError>
@@ -72,7 +72,7 @@ fn level_under(
 
 fn add_children(
     alloc: Global,
-    table: &MarkedTable,
+    table: &NodeTable,
     dir: &Directory,
     left: &mut Vec<Directory>,
     gone: &mut Vec<RepoPath>,

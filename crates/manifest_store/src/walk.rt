@@ -12,7 +12,7 @@ ghost use Rattle.manifest_store.specs.Reads.{dir_of};
 use crate::place::parted;
 use deleted_node::DeletedEntry;
 use fsnode::FsEntry;
-use marked_table::MarkedTable;
+use node_table::NodeTable;
 use object_id::Id;
 use repo_path::RepoPath;
 use unode::UnodeEntry;
@@ -29,13 +29,13 @@ pub(crate) trait Tree {
 /// The fsnodes of a table.
 #[derive(Clone, Copy)]
 pub(crate) struct Fsnodes<'a> {
-    pub(crate) table: &'a MarkedTable,
+    pub(crate) table: &'a NodeTable,
 }
 
 /// The unodes of a table.
 #[derive(Clone, Copy)]
 pub(crate) struct Unodes<'a> {
-    pub(crate) table: &'a MarkedTable,
+    pub(crate) table: &'a NodeTable,
 }
 
 impl<'a> Tree for Fsnodes<'a> {
@@ -57,7 +57,7 @@ impl<'a> Tree for Unodes<'a> {
 /// The deleted nodes of a table. Each has its entries, as a directory.
 #[derive(Clone, Copy)]
 pub(crate) struct DeletedNodes<'a> {
-    pub(crate) table: &'a MarkedTable,
+    pub(crate) table: &'a NodeTable,
 }
 
 impl<'a> Tree for DeletedNodes<'a> {

@@ -20,8 +20,8 @@ impl<'a> Directories for Fsnodes<'a> {
     ghost listed = { λ dirs x. entries_under dirs.table.now.nodes x };
 
     fn entries(&self, alloc: Global, dir: &Id) -> Result<Vec<FsChild>, AllocError> {
-        match self.table.get(dir) {
-            Some(bytes) => entries_of(alloc, bytes),
+        match self.table.get(alloc, dir)? {
+            Some(bytes) => entries_of(alloc, bytes.as_slice()),
             None => Ok(Vec::new(alloc)),
         }
     }

@@ -15,3 +15,5 @@ mod nodes;
 mod tables;
 #[cfg(test)]
 mod unodes;
+#[cfg(test)]
+mod wide;

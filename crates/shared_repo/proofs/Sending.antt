@@ -7,10 +7,13 @@ use Rattle.std.proofs.MapsCrossing as maps
 use Rattle.blob_disk.specs.declared.disk.Disk as disks
 use Rattle.bonsai.specs.contracts.commit.Commit as Commit
 use Rattle.changeset_store.specs.contracts.store.ChangesetStore as Store
+use Rattle.node_parts.specs.contracts.part.Part as Part
+use Rattle.node_parts.specs.contracts.pool.PartPool as Pool
+use Rattle.wide_node.specs.contracts.wide.WideNode as Wide
+use Rattle.node_table.specs.contracts.stored.Stored as Stored
 use Rattle.node_table.specs.contracts.store.Store as Nodes
 use Rattle.node_table.specs.contracts.root_table.RootTable as Roots
 use Rattle.node_table.specs.contracts.table.NodeTable as NodeTable
-use Rattle.marked_table.specs.contracts.table.MarkedTable as MarkedTable
 use Rattle.manifest_store.specs.contracts.store.ManifestStore as Manifests
 use Rattle.repo_journal.specs.contracts.journal.Journal as Journal
 use Rattle.repo_machine.specs.contracts.machine.Machine as Machine
@@ -52,8 +55,20 @@ machine_send = search (store_send, entry_send, held_send, own.crosses, maps.cros
 pub journal_send : IsSend Journal.the_row
 journal_send = search (own.crosses, sendable) depth 60
 
+pub part_send : IsSend Part.the_row
+part_send = search (own.crosses, sendable) depth 60
+
+pub pool_send : IsSend Pool.the_row
+pool_send = let p = part_send in search (own.crosses, maps.crosses, sendable) depth 60
+
+pub wide_send : IsSend Wide.the_row
+wide_send = let p = part_send in search (own.crosses, sendable) depth 60
+
+pub stored_send : IsSend Stored.the_row
+stored_send = let w = wide_send in search (own.crosses, sendable) depth 60
+
 pub nodes_send : IsSend Nodes.the_row
-nodes_send = search (own.crosses, maps.crosses, sendable) depth 60
+nodes_send = let s = stored_send in let p = pool_send in search (own.crosses, maps.crosses, sendable) depth 60
 
 pub roots_send : IsSend Roots.the_row
 roots_send = search (own.crosses, maps.crosses, sendable) depth 60
@@ -61,11 +76,8 @@ roots_send = search (own.crosses, maps.crosses, sendable) depth 60
 pub node_table_send : IsSend NodeTable.the_row
 node_table_send = let n = nodes_send in let r = roots_send in search (own.crosses, sendable) depth 60
 
-pub marked_table_send : IsSend MarkedTable.the_row
-marked_table_send = let t = node_table_send in search (own.crosses, maps.crosses, sendable) depth 60
-
 pub manifests_send : IsSend Manifests.the_row
-manifests_send = let t = marked_table_send in search sendable depth 20
+manifests_send = let t = node_table_send in search sendable depth 20
 
 pub table_sync : (S V K P : RattleType) (g : rules.Ghosts P.Denot S.Denot V.Denot K.Denot) → IsSend S → IsSync (Table.the_field S V K P Heap.the_row g ghosts).row
 table_sync S V K P g s = let h = own.send in let y = own.sync in let f = own.frees in let a = shares.the_sync S V K P g s in search (leases.the_sync, sendable) depth 20
