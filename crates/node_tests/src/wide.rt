@@ -1,5 +1,4 @@
 //! A directory of many files.
-use bonsai::FileKind;
 use fsnode::FsEntry;
 use node_table::{Node, NodeTable, Roots};
 use object_id::Id;
@@ -46,15 +45,9 @@ fn settle(alloc: Global, table: &mut NodeTable, number: u32, bytes: &[u8]) -> Re
 }
 
 fn content(table: &NodeTable, bytes: &[u8], name: &str) -> Option<Id> {
-    match table.fs_entry(&Id::of(bytes), name) {
-        Some(
-            FsEntry::File {
-                content,
-                kind: FileKind::Regular,
-                size: 0,
-            },
-        ) => Some(content),
-        _ => None,
+    match table.fs_entry(&Id::of(bytes), name)? {
+        FsEntry::File { content, .. } => Some(content),
+        FsEntry::Directory { .. } => None,
     }
 }
 
