@@ -1,4 +1,4 @@
-use Rattle.std.proofs.Common.{◌≡◌, ℕ, ◌+◌, ◌≤◌, drop, sym, ap, subst, ◌∙◌}
+use Rattle.std.proofs.Common.{ℕ, ◌+◌, ◌≤◌, drop, sym, ap, subst, ◌∙◌}
 use Rattle.history_model.specs.Tree.{files_of}
 use Rattle.node_table.specs.Table.{Table}
 use Rattle.merge_walk.specs.Table.{entries_under}
@@ -13,11 +13,10 @@ returns-clause-exact g c =
     let first = c.first-item.result in
     let second = c.second-item.result in
     let are = sym c.parents.ensures.parents ∙ two_of c.parents.result.now c.in-len2-up.len_at_least first second c.first-item.is c.second-item.is in
-    let same : c.nodes.result.now ≡ c.args.self.now = c.nodes.ensures ∙ c.self.view_is in
     let held = λ (t : Table). IsTreeAt (entries_under t.nodes) c.in-Some.left (files_of ks first) in
     let held_too = λ (t : Table). IsTreeAt (entries_under t.nodes) c.in-Some-root_of.right (files_of ks second) in
-    left_between ks c.nodes.result.now c.args.change.now c.args.change.now.parents first second (drop 2 c.parents.result.now) are c.in-Some.left c.in-Some-root_of.right c.least_unresolved.result c.least_unresolved.ensures.exact
-    (subst held (sym same) c.in-Some.ensures.tree) (subst held_too (sym same) c.in-Some-root_of.ensures.tree)
+    left_between ks c.self.inside.table c.args.change.now c.args.change.now.parents first second (drop 2 c.parents.result.now) are c.in-Some.left c.in-Some-root_of.right c.least_unresolved.result c.least_unresolved.ensures.exact
+    (subst held (sym c.self.view_is) c.in-Some.ensures.tree) (subst held_too (sym c.self.view_is) c.in-Some-root_of.ensures.tree)
 
 pub returns-clause-cost : goal.returns-clause-cost
 returns-clause-cost g c =
@@ -26,7 +25,6 @@ returns-clause-cost g c =
     let first = c.first-item.result in
     let second = c.second-item.result in
     let are = sym c.parents.ensures.parents ∙ two_of c.parents.result.now c.in-len2-up.len_at_least first second c.first-item.is c.second-item.is in
-    let same : c.nodes.result.now ≡ c.args.self.now = c.nodes.ensures ∙ c.self.view_is in
     subst (λ (k : ℕ). c.least_unresolved.new.steps ≤ c.args.steps.now + k)
-    (read_by ks c.nodes.result.now change change.parents first second (drop 2 c.parents.result.now) are c.in-Some.left c.in-Some-root_of.right c.in-Some.ensures.root c.in-Some-root_of.ensures.root ∙ ap (λ (t : Table). read_between ks t change change.parents) same)
+    (read_by ks c.self.inside.table change change.parents first second (drop 2 c.parents.result.now) are c.in-Some.left c.in-Some-root_of.right c.in-Some.ensures.root c.in-Some-root_of.ensures.root ∙ ap (λ (t : Table). read_between ks t change change.parents) c.self.view_is)
     c.least_unresolved.ensures.cost
