@@ -60,7 +60,7 @@ fn apart(alloc: Global, fields: Fields) -> Result<Changeset, DecodeFault>
         let long = conflict.long.copy(alloc)?;
         return Err(DecodeFault::SelfConflict { short, long });
     }
-    Ok(Changeset { fields })
+    Ok(Changeset::of_fields(alloc, fields)?)
 }
 
 // The fault at a field before which all but these bytes were read.

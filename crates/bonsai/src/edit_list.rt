@@ -34,17 +34,6 @@ pub(crate) fn paths_of(alloc: Global, edits: &[Edit]) -> Result<Vec<RepoPath>, A
     Ok(paths)
 }
 
-/// The same edits, in memory of their own.
-pub(crate) fn copy_of(alloc: Global, edits: &[Edit]) -> Result<Vec<Edit>, AllocError>
-    ensures { IfOk result (λ copies. edits_view copies.items ≡ edits_view edits.now) }
-{
-    let mut copies = Vec::with_capacity(alloc, edits.len())?;
-    for edit in edits {
-        copies.push(edit.copy(alloc)?)?;
-    }
-    Ok(copies)
-}
-
 /// Whether two lists have the same edits.
 pub(crate) fn are_equal(left: &[Edit], right: &[Edit]) -> bool
     ensures { result ≡ pointwise edit_eq (edits_view left.now) (edits_view right.now) }

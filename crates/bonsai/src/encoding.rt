@@ -6,14 +6,14 @@ ghost use Rattle.byte_fields.specs.Bytes.{sized};
 ghost use Rattle.changeset_model.specs.Changeset as model;
 ghost use Rattle.changeset_model.specs.Version.{version_byte};
 ghost use Rattle.bonsai.specs.Versions.{version_view};
-ghost use Rattle.bonsai.specs.View.{source_view, change_view, edit_view, edits_view, fields_view};
+ghost use Rattle.bonsai.specs.View.{source_view, change_view, edit_view, edits_view, parts_view};
 
 use crate::change::Change;
 use crate::changeset::Changeset;
 use crate::copy_source::CopySource;
 use crate::edit::Edit;
-use crate::fields::Fields;
 use crate::limits::{LONGEST_AUTHOR, LONGEST_MESSAGE, MOST_EDITS, MOST_PARENTS};
+use crate::told::Parts;
 use crate::version::Version;
 use object_id::Id;
 use repo_path::LONGEST_PATH;
@@ -23,7 +23,7 @@ use std::alloc::{AllocError, Global};
 pub fn encode(alloc: Global, changeset: &Changeset) -> Result<Vec<u8>, AllocError>
     ensures { IfOk result (λ bytes. bytes.items ≡ model.spelling changeset.now) }
 {
-    let mut out = Vec::with_capacity(alloc, room_for(&changeset.fields))?;
+    let mut out = Vec::with_capacity(alloc, room_for(changeset))?;
     encode_into(&mut out, changeset)?;
     Ok(out)
 }
@@ -32,15 +32,15 @@ pub fn encode(alloc: Global, changeset: &Changeset) -> Result<Vec<u8>, AllocErro
 pub fn encode_into(out: &mut Vec<u8>, changeset: &Changeset) -> Result<(), AllocError>
     ensures { OnOk result (out.new.items ≡ out.old.items ++ model.spelling changeset.now) }
 {
-    put_fields(out, &changeset.fields)
+    put_parts(out, changeset.parts())
 }
 
 // As many bytes as the encoding has, so that it is written without moving.
-fn room_for(fields: &Fields) -> usize {
-    let ids = fields.parents.len().saturating_mul(32);
-    let texts = fields.author.len().saturating_add(fields.message.len());
-    fields
-        .edits
+fn room_for(changeset: &Changeset) -> usize {
+    let told = &*changeset.told;
+    let ids = changeset.parents.len().saturating_mul(32);
+    let texts = told.author.len().saturating_add(told.message.len());
+    told.edits
         .iter()
         .fold(ids.saturating_add(texts).saturating_add(25), |room, edit| {
             room.saturating_add(room_for_edit(edit))
@@ -64,15 +64,16 @@ fn room_for_source(copied: &Option<CopySource>) -> usize
     }
 }
 
-fn put_fields(out: &mut Vec<u8>, fields: &Fields) -> Result<(), AllocError>
-    requires { IsTrue (model.is_changeset (fields_view fields.now)) }
-    ensures { OnOk result (out.new.items ≡ out.old.items ++ model.spelling (fields_view fields.now)) }
+fn put_parts(out: &mut Vec<u8>, parts: Parts<'_>) -> Result<(), AllocError>
+    requires { IsTrue (model.is_changeset (parts_view parts)) }
+    ensures { OnOk result (out.new.items ≡ out.old.items ++ model.spelling (parts_view parts.entry)) }
 {
-    put_head(out, fields.version, fields.parents.as_slice())?;
-    put_author(out, fields.author.as_str())?;
-    put_date(out, fields.seconds, fields.offset)?;
-    put_message(out, fields.message.as_str())?;
-    put_edit_list(out, fields.version, fields.edits.as_slice())?;
+    let told = parts.told;
+    put_head(out, parts.version, parts.parents)?;
+    put_author(out, told.author.as_str())?;
+    put_date(out, parts.date.seconds, parts.date.offset)?;
+    put_message(out, told.message.as_str())?;
+    put_edit_list(out, parts.version, told.edits.as_slice())?;
     Ok(())
 }
 

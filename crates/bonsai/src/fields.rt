@@ -1,22 +1,19 @@
 //! A changeset's fields.
-ghost use Rattle.std.specs.Prelude.{◌≡◌, IfOk, IsTrue, option_map};
+ghost use Rattle.std.specs.Prelude.{◌≡◌, IsTrue, option_map};
 ghost use Rattle.changeset_model.specs.Changeset as model;
 ghost use Rattle.changeset_model.specs.Decoding as decoding;
 ghost use Rattle.byte_fields.specs.Reads.{Reads};
-ghost use Rattle.bonsai.specs.Equal.{changeset_eq};
 ghost use Rattle.bonsai.specs.View.{fields_view};
 
 use crate::conflict::{Conflict, first_conflict};
 use crate::edit::Edit;
-use crate::edit_list::{are_equal, copy_of};
 use crate::edits::edit_list_at;
-use crate::moment::Date;
 use crate::parts::{author_at, message_at, parent_list_at};
 use crate::version::{Version, version_at};
 use byte_fields::FieldFault;
 use byte_fields::fields::{exactly_at, i32_at, i64_at};
 use object_id::Id;
-use std::alloc::{AllocError, Global};
+use std::alloc::Global;
 
 /// The fields of a changeset. Whether they keep its rules is known once they are in a `Changeset`.
 #[derive(Debug, Drop)]
@@ -38,29 +35,6 @@ pub struct Fields {
 }
 
 impl Fields {
-    /// The same fields but for the parents and the date, in memory of their own.
-    pub(crate) fn with_parents(
-        &self,
-        alloc: Global,
-        parents: Vec<Id>,
-        date: Date,
-    ) -> Result<Fields, AllocError>
-        ensures { IfOk result (λ f. fields_view f ≡ record (fields_view self.now) { parents = parents.items; seconds = date.seconds; offset = date.offset }) }
-    {
-        let author = String::from_str(alloc, self.author.as_str())?;
-        let message = String::from_str(alloc, self.message.as_str())?;
-        let edits = copy_of(alloc, self.edits.as_slice())?;
-        Ok(Fields {
-            version: self.version,
-            parents,
-            author,
-            seconds: date.seconds,
-            offset: date.offset,
-            message,
-            edits,
-        })
-    }
-
     /// The first set path under another set path, with the shortest set path above it.
     pub(crate) fn self_conflict(&self) -> Option<Conflict<'_>>
         requires { IsTrue (model.is_changeset (fields_view self.now)) }
@@ -92,17 +66,4 @@ pub(crate) fn fields_at(alloc: Global, bytes: &[u8]) -> Result<(Fields, &[u8]), 
         edits,
     };
     Ok((fields, rest))
-}
-
-/// Whether all fields are the same.
-pub(crate) fn are_same(left: &Fields, right: &Fields) -> bool
-    ensures { result ≡ changeset_eq (fields_view left.now) (fields_view right.now) }
-{
-    left.version.to_byte() == right.version.to_byte()
-        && left.parents == right.parents
-        && left.author == right.author
-        && left.seconds == right.seconds
-        && left.offset == right.offset
-        && left.message == right.message
-        && are_equal(left.edits.as_slice(), right.edits.as_slice())
 }

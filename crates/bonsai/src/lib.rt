@@ -19,6 +19,7 @@ pub mod making;
 mod moment;
 mod parts;
 mod text;
+mod told;
 pub mod version;
 
 pub use change::Change;

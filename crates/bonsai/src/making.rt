@@ -79,7 +79,7 @@ impl Changeset {
             let long = conflict.long.copy(alloc)?;
             return Err(FieldsFault::SelfConflict { short, long });
         }
-        Ok(Changeset { fields })
+        Ok(Changeset::of_fields(alloc, fields)?)
     }
 
     /// Whether its copy sources name a parent that is there once it has one parent, whichever it is.
@@ -89,10 +89,10 @@ impl Changeset {
         ensures alone { length self.now.parents ≤ 1 → IsTrue result }
     {
         let place = Place {
-            version: self.fields.version,
+            version: self.version,
             parents: 1,
         };
-        keep_sources(place, self.fields.edits.as_slice())
+        keep_sources(place, self.told.edits.as_slice())
     }
 }
 
