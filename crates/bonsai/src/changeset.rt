@@ -20,6 +20,7 @@ use crate::version::Version;
 use object_id::Id;
 use repo_path::RepoPath;
 use std::alloc::{AllocError, Global};
+use std::fmt;
 use std::marker::Model;
 use std::sync::Arc;
 
@@ -170,6 +171,17 @@ impl Changeset {
         ensures { version_view result ≡ self.now.version }
     {
         self.version
+    }
+}
+
+impl fmt::Debug for Changeset {
+    fn fmt<W: fmt::Write>(&self, f: &mut fmt::Formatter<W>) -> fmt::Result {
+        f.debug_struct("Changeset")
+            .field("version", &self.version)
+            .field("parents", &self.parents)
+            .field("date", &self.date)
+            .field("told", &*self.told)
+            .finish()
     }
 }
 

@@ -19,7 +19,7 @@ const ID_LENGTH: usize = 32;
 
 /// A changeset with its id and the length of its spelling, so that neither is worked out again. Contracts see the
 /// changeset, which both follow from.
-#[derive(Drop)]
+#[derive(Debug, Drop)]
 pub struct Commit {
     id: Id,
     encoded_length: usize,

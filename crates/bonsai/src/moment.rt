@@ -6,7 +6,7 @@ ghost use Rattle.bonsai.specs.Versions.{version_view};
 use crate::version::Version;
 
 /// When a changeset was made: seconds since 1970-01-01 00:00 UTC, and the offset of a clock from UTC in seconds.
-#[derive(Clone, Copy)]
+#[derive(Clone, Copy, Debug)]
 pub(crate) struct Date {
     pub(crate) seconds: i64,
     pub(crate) offset: i32,

@@ -5,7 +5,7 @@ use crate::version::Version;
 use object_id::Id;
 
 /// What a changeset tells, whatever its parents and its date are.
-#[derive(Drop)]
+#[derive(Debug, Drop)]
 pub(crate) struct Told {
     /// 1 to `LONGEST_AUTHOR` bytes without 00 and 0A.
     pub(crate) author: String,
