@@ -1,5 +1,5 @@
 //! An open journal: how far it reaches, and whether a record may be added.
-ghost use Rattle.std.specs.Prelude.{◌≡◌, ◌↔◌, ◌+◌, ◌-◌, ◌≤◌, ◌<◌, ◌^◌, ℕ, List, [], length, false, take, drop, is_err, is_some, IsOk, IsSome, IsTrue, IfErr, None, OnErr, OnOk, Some};
+ghost use Rattle.std.specs.Prelude.{◌≡◌, ◌⊎◌, ◌↔◌, ◌+◌, ◌-◌, ◌≤◌, ◌<◌, ◌^◌, ℕ, List, [], length, false, take, drop, is_err, is_some, IsOk, IsSome, IsTrue, IfErr, None, OnErr, OnOk, Some};
 ghost use Rattle.std.specs.Option.{ForSome};
 ghost use Rattle.ports.specs.Faults.{Counts};
 ghost use Rattle.disk_model.specs.Images.{IsImage};
@@ -16,7 +16,7 @@ use crate::cut::Cut;
 use crate::fault::{AppendFault, DiskFault};
 use crate::header::EMPTY_SIZE;
 use crate::opening::Opening;
-use crate::pending::Pending;
+use crate::pending::{KEPT_ROOM, Pending};
 use crate::seal;
 use blob_disk::Disk;
 use std::alloc::{AllocError, Global};
@@ -205,6 +205,25 @@ impl Journal {
         self.pending.hold(frame);
     }
 
+    /// Makes room for so many bytes behind the records that wait. Where nothing waits, none is wanted.
+    pub fn reserve_behind(&mut self, count: usize) -> Result<(), AllocError>
+        ensures same { self.new ≡ record self.old { pending = self.new.pending } }
+        ensures bytes { self.new.pending.bytes ≡ self.old.pending.bytes }
+        ensures room { OnOk result ((self.new.pending.bytes ≡ []) ⊎ (count ≤ self.new.pending.room)) }
+    {
+        self.pending.reserve_behind(count)
+    }
+
+    /// A record more that waits, as `hold` has it. Where nothing waits, a long frame isn't copied. It takes no memory, and
+    /// calls no disk.
+    pub fn take(&mut self, frame: Vec<u8>)
+        requires { (self.old.pending.bytes ≡ []) ⊎ (length frame.items ≤ self.old.pending.room) }
+        ensures same { self.new ≡ record self.old { pending = self.new.pending } }
+        ensures bytes { self.new.pending.bytes ≡ grown self.old.pending.bytes frame.items }
+    {
+        self.pending.take(frame);
+    }
+
     /// Appends the records that wait, as `append_group` does. After a fault of the disk they wait on, so
     /// they are read as before.
     pub fn seal<D: Disk>(&mut self, disk: &mut D) -> Result<(), DiskFault>
@@ -215,7 +234,7 @@ impl Journal {
 
         ensures ok { OnOk result (self.new ≡ record self.old { size = self.old.size + length self.old.pending.bytes; pending = self.new.pending }) }
         ensures emptied { OnOk result (self.new.pending.bytes ≡ []) }
-        ensures keeps { self.old.pending.room ≤ self.new.pending.room }
+        ensures room { OnOk result (self.new.pending.room ≤ KEPT_ROOM) }
 
         // It fails only where a call of the disk did, and then the journal is broken by it.
         ensures faults { Counts (D.meaning disk.old).faults (D.meaning disk.new).faults (is_err result) }

@@ -24,7 +24,7 @@ pub use fault::{AppendFault, DiskFault, InitFault, ScanFault};
 pub use header::{EMPTY_SIZE, FIRST_GATE, LEAST_CAPACITY, MARK, MOST_CAPACITY, SECOND_MARK};
 pub use journal::Journal;
 pub use opening::Opening;
-pub use pending::Pending;
+pub use pending::{KEPT_ROOM, Pending};
 pub use scanner::Scanner;
 pub use span::Span;
 pub use step::Step;

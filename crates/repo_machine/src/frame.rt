@@ -56,6 +56,20 @@ impl Frame {
         self.bytes.len() - self.start
     }
 
+    /// The bytes alone. It takes no memory.
+    pub(crate) fn into_bytes(self) -> Vec<u8>
+        ensures { result.items ≡ self }
+    {
+        let count = self.len();
+        let Frame { mut bytes, start } = self;
+        if start == 0 {
+            return bytes;
+        }
+        bytes.rotate_left(start);
+        bytes.truncate(count);
+        bytes
+    }
+
     /// The bytes.
     pub(crate) fn as_slice(&self) -> &[u8]
         ensures { result.now ≡ self.now }
