@@ -192,10 +192,11 @@ impl<D: Disk> RepoState<D> {
         let Some(frame) = judged.frame() else {
             return Ok(self.machine.admit(judged));
         };
-        if self.journal.reserve(frame.len()).is_err() {
+        if self.journal.reserve_behind(frame.len()).is_err() {
             return Err(Refusal::Memory);
         }
-        self.journal.hold(frame);
-        Ok(self.machine.admit(judged))
+        let (granted, frame) = self.machine.admit_framed(judged);
+        self.journal.take(frame);
+        Ok(granted)
     }
 }
