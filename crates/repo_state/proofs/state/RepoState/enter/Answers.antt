@@ -51,16 +51,16 @@ pub invariant_of-self-2 : goal.invariant_of-self-2
 invariant_of-self-2 g c =
     let judged = subst (λ (s : State). (ask : Ask) × Judges s.header s.history s.room c.args.judged.who ask c.args.judged) (sym c.self.view_is) c.requires.judged in
     let made = making _ _ judged.0 c.args.judged c.in-Some.frame.now judged.1.is_judged c.in-Some.ensures.frame in
-    let admitted = c.admit_framed.ensures in
-    let frame_out : c.admit_framed.result.1.items ≡ c.in-Some.frame.now = c.admit_framed.ensures.frame ∙ sym (frame_by c.in-Some.frame.now c.args.judged.frame c.args.judged.made c.in-Some.ensures.frame) in
+    let admitted = c.admit_framed-granted.ensures in
+    let frame_out : c.admit_framed-granted.result.1.items ≡ c.in-Some.frame.now = c.admit_framed-granted.ensures.frame ∙ sym (frame_by c.in-Some.frame.now c.args.judged.frame c.args.judged.made c.in-Some.ensures.frame) in
     let same = c.take.ensures.same ∙ ap (λ (j : JournalView). record j { pending = c.take.new.self.pending }) c.reserve_behind.ensures.same in
     let bytes = c.take.ensures.bytes ∙ (λ i. grown (c.reserve_behind.ensures.bytes i) (frame_out i)) in (
       (
-        holds_entered c.self.inside.machine.header c.self.inside.machine.header c.admit_framed.new.self.header c.self.inside.machine.history c.self.inside.machine.history c.admit_framed.new.self.history
+        holds_entered c.self.inside.machine.header c.self.inside.machine.header c.admit_framed-granted.new.self.header c.self.inside.machine.history c.self.inside.machine.history c.admit_framed-granted.new.self.history
             c.self.inside.sealed judged.0 c.args.judged c.in-Some.frame.now c.self.inside.journal c.take.new.self (g.D.Disk.meaning c.self.inside.first.value) (g.D.Disk.meaning c.self.inside.disk)
             refl admitted.header refl admitted.history made (g.met.D.Disk.sound c.self.inside.disk) same bytes
             (holds_made c.self.view_is c.self.inside.journal c.args.judged.made made.body made.made_is c.self.invariant.0.0.1.size_is refl c.requires.holds) c.self.invariant.0.0,
-        room_entered c.self.inside.machine.header c.self.inside.machine.history c.admit_framed.new.self.history c.self.inside.sealed judged.0 c.args.judged c.in-Some.frame.now c.admit_framed.new.self.room made admitted.room,
+        room_entered c.self.inside.machine.header c.self.inside.machine.history c.admit_framed-granted.new.self.history c.self.inside.sealed judged.0 c.args.judged c.in-Some.frame.now c.admit_framed-granted.new.self.room made admitted.room,
       ),
       manifests_grow _ _ _ _ _ _ admitted.header admitted.history admitted.legal c.self.invariant.1,
     )
@@ -73,5 +73,5 @@ returns-clause-leaves_now g c = (invariant_of-self-2 g c).0.0.1.left
 
 pub returns-clause-reply : goal.returns-clause-reply
 returns-clause-reply g c =
-    rw (← c.self.view_is, c.admit_framed.ensures.granted)
-    (λ ask judges. granted_replies c.self.inside.machine.header c.self.inside.machine.history c.self.inside.machine.history c.admit_framed.new.self.history c.args.judged.who ask c.args.judged refl c.admit_framed.ensures.history judges.by judges.is_judged)
+    rw (← c.self.view_is, c.admit_framed-granted.ensures.granted)
+    (λ ask judges. granted_replies c.self.inside.machine.header c.self.inside.machine.history c.self.inside.machine.history c.admit_framed-granted.new.self.history c.args.judged.who ask c.args.judged refl c.admit_framed-granted.ensures.history judges.by judges.is_judged)
