@@ -29,9 +29,11 @@ def contents(bench: Bench) -> Iterator[Figure]:
         pass
     with bench.program.serve(file) as served:
         link = opened(served.address)
+        link.ask("PUT", "/content", block[:12])
+        idle = memory(served.pid)
         link.ask("PUT", "/content", block)
         forget_peak(served.pid)
-        idle = memory(served.pid)
+        stays = memory(served.pid) - idle
         for turn in range(rounds):
             data = [b"%12d" % (turn * each + it) + block[12:] for it in range(each)]
             for kind, cost in costs.items():
@@ -49,6 +51,7 @@ def contents(bench: Bench) -> Iterator[Figure]:
         yield Figure(what, cost.milliseconds, "ms of processor", share)
     what = "the most in memory over an idle server"
     yield Figure(what, peak / KIB, "KiB", peak / size, "at most 1")
+    yield Figure("what stays after the first upload", stays / KIB, "KiB")
     for kind, count in kept.items():
         yield Figure(f"kept of a {kind} content", count / costs[kind].count / KIB, "KiB")
 
