@@ -12,7 +12,8 @@ use Rattle.http_model.proofs.Streams.{head_end-append, head_end_two}
 use Rattle.http_wire.specs.declared.head.Framing.{Framing}
 use Rattle.http_wire.specs.declared.next as declared
 use Rattle.http_wire.specs.Seen.{seen, request_at}
-use Rattle.http_wire.specs.Answers.{Answers, OnMessage, OnMemory}
+use Rattle.http_wire.specs.Answers.{Answers, OnMessage, OnMemory, OnNeedMore, OnRefused}
+use Rattle.http_model.specs.declared.head_refusal.HeadRefusal.{HeadRefusal}
 use Rattle.http_wire.specs.FirstThing.{HasGoodHead}
 use Rattle.http_wire.specs.Holding.{Awaits}
 
@@ -107,6 +108,25 @@ answers_memory asked (declared.Next.TheVariants.Memory close head_only) P answer
 answers_memory asked declared.Next.TheVariants.NeedMore P answers holds = tt
 answers_memory asked (declared.Next.TheVariants.Refused status code) P answers holds = tt
 
+pub answers_head_only : (asked : model.Request) (next : declared.Next.Next) → Answers asked next → OnMessage next (λ request. request.head_only ≡ model.is_head_only (seen request))
+answers_head_only asked (declared.Next.TheVariants.Message request) answers = answers.1 ∙ ap model.is_head_only (sym answers.0)
+answers_head_only asked (declared.Next.TheVariants.Memory close head_only) answers = tt
+answers_head_only asked declared.Next.TheVariants.NeedMore answers = tt
+answers_head_only asked (declared.Next.TheVariants.Refused status code) answers = tt
+
+-- it is never less than a request, and no refusal
+pub answers_whole : (asked : model.Request) (next : declared.Next.Next) (P : Type 0) → Answers asked next → OnNeedMore next P
+answers_whole asked (declared.Next.TheVariants.Message request) P answers = tt
+answers_whole asked (declared.Next.TheVariants.Memory close head_only) P answers = tt
+answers_whole asked declared.Next.TheVariants.NeedMore P answers = absurd answers
+answers_whole asked (declared.Next.TheVariants.Refused status code) P answers = tt
+
+pub answers_granted : (asked : model.Request) (next : declared.Next.Next) (P : ℕ → HeadRefusal → Type 0) → Answers asked next → OnRefused next P
+answers_granted asked (declared.Next.TheVariants.Message request) P answers = tt
+answers_granted asked (declared.Next.TheVariants.Memory close head_only) P answers = tt
+answers_granted asked declared.Next.TheVariants.NeedMore P answers = tt
+answers_granted asked (declared.Next.TheVariants.Refused status code) P answers = absurd answers
+
 -- ---- the bytes that are not consumed, as the code sees them
 
 pub waiting_is : (slice items old : List ℕ) (start : ℕ) → slice ≡ items → drop start items ≡ old → take (length slice - start) (drop start slice) ≡ old
@@ -126,3 +146,10 @@ whole_at waiting old items start len spans framing same view good long =
     ap (λ r. Whole (request_at (take len waiting) spans framing (take framing.body (drop len waiting))) r) rest
     ∙ ap (λ n. Whole (request_at (take len waiting) spans framing (take n (drop len waiting))) (drop (start + (len + framing.body)) items)) (sym body) in
     subst P same (subst Q next here)
+
+pub whole_behind : (waiting old : List ℕ) (len : ℕ) (spans : RequestSpans) (framing : Framing) → waiting ≡ old → HasGoodHead waiting len spans framing → len + framing.body ≤ length waiting
+    → Stands old (Whole (request_at (take len waiting) spans framing (take ((len + framing.body) - len) (drop len old))) (drop (len + framing.body) old))
+whole_behind waiting old len spans framing same good long =
+    let body : framing.body ≡ (len + framing.body) - len = omega arith in
+    let P : List ℕ → Type 0 = λ bs. Stands bs (Whole (request_at (take len waiting) spans framing (take ((len + framing.body) - len) (drop len bs))) (drop (len + framing.body) bs)) in
+    subst P same (subst (λ n. Stands waiting (Whole (request_at (take len waiting) spans framing (take n (drop len waiting))) (drop (len + framing.body) waiting))) body (good_whole waiting len spans framing good long))

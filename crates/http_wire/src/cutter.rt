@@ -1,5 +1,5 @@
 //! The stream so far, and the next request on it.
-ghost use Rattle.std.specs.Prelude.{◌≡◌, ◌≤◌, length, drop, vec_capacity};
+ghost use Rattle.std.specs.Prelude.{◌≡◌, ◌≤◌, ◌+◌, length, drop, vec_capacity, IfOk};
 
 use crate::cutting::blank_len;
 use crate::head::{HEADER_ROOM, MOST_HEAD};
@@ -10,12 +10,16 @@ use crate::texts::MOST_BODY;
 use httparse::spans::HeaderSpan;
 use std::alloc::{AllocError, Global};
 use std::marker::Model;
+use std::mem::replace;
 
 /// The most bytes of one piece.
 pub const MOST_PIECE: usize = 65_536;
 
 /// The most bytes of a request, head and body.
 pub const MOST_REQUEST: usize = MOST_HEAD + MOST_BODY;
+
+// The least body that is handed out in the room in which it came, and not copied out of it.
+const LONG_BODY: usize = 65_536;
 
 /// Cuts a stream into its requests. Contracts see it as the bytes that were fed and are not consumed,
 /// but for empty lines before them.
@@ -45,18 +49,18 @@ impl Model for Cutter {
 }
 
 impl Cutter {
-    ghost use Rattle.std.specs.Prelude.{◌≡◌, ◌<◌, ◌≤◌, ◌++◌, [], length, IfOk};
+    ghost use Rattle.std.specs.Prelude.{◌≡◌, ◌<◌, ◌≤◌, ◌-◌, ◌++◌, [], length, take, drop, IfOk};
     ghost use Rattle.http_model.specs.Refusals.{status_of};
     ghost use Rattle.http_model.specs.Stream as model;
     ghost use Rattle.http_wire.specs.Seen.{seen};
-    ghost use Rattle.http_wire.specs.Answers.{OnMessage, OnMemory, OnNeedMore, OnRefused};
+    ghost use Rattle.http_wire.specs.Answers.{Answers, OnMessage, OnMemory, OnNeedMore, OnRefused};
 
     /// A cutter of an empty stream, with all its room.
     pub fn new(alloc: Global) -> Result<Cutter, AllocError>
         ensures { IfOk result (λ cutter. cutter ≡ []) }
     {
         Ok(Cutter {
-            bytes: Vec::with_capacity(alloc, MOST_REQUEST + MOST_PIECE)?,
+            bytes: room_with(alloc, &[])?,
             start: 0,
             scanned: 0,
             wanted: 0,
@@ -150,6 +154,10 @@ impl Cutter {
                     return Next::NeedMore;
                 }
                 let (head, body) = (&waiting[..len], &waiting[len..end]);
+                if body.len() >= LONG_BODY {
+                    let answer = message(alloc, head, &spans, framing, &[]);
+                    return self.with_body(alloc, answer, len, end);
+                }
                 let answer = message(alloc, head, &spans, framing, body);
                 self.start += end;
                 self.scanned = 0;
@@ -158,6 +166,76 @@ impl Cutter {
             }
         }
     }
+
+    // The answer to a request whose body stands from `len` to `end`, of the answer to its head alone. It is consumed.
+    fn with_body(&mut self, alloc: Global, answer: Next, len: usize, end: usize) -> Next
+        requires order { len ≤ end }
+        requires within { end ≤ length self.old }
+        ensures answers { (asked : model.Request) → Answers (record asked { body = [] }) answer → Answers (record asked { body = take (end - len) (drop len self.old) }) result }
+        ensures rest { self.new ≡ drop end self.old }
+    {
+        let mut request = match answer {
+            Next::Message(request) => request,
+            other => {
+                self.skip(end);
+                return other;
+            }
+        };
+        match self.take_body(alloc, len, end) {
+            Ok(body) => {
+                request.body = body;
+                Next::Message(request)
+            }
+            Err(AllocError) => Next::Memory {
+                close: request.close,
+                head_only: request.head_only,
+            },
+        }
+    }
+
+    // The bytes from `len` to `end`, in the room in which they came. Those behind them get a room of their own.
+    fn take_body(&mut self, alloc: Global, len: usize, end: usize) -> Result<Vec<u8>, AllocError>
+        requires order { len ≤ end }
+        requires within { end ≤ length self.old }
+        ensures body { IfOk result (λ body. body.items ≡ take (end - len) (drop len self.old)) }
+        ensures rest { self.new ≡ drop end self.old }
+    {
+        let begin = self.start + len;
+        let rest = match room_with(alloc, &self.bytes.as_slice()[self.start + end..]) {
+            Ok(rest) => rest,
+            Err(AllocError) => {
+                self.skip(end);
+                return Err(AllocError);
+            }
+        };
+        let mut body = replace(&mut self.bytes, rest);
+        self.start = 0;
+        self.scanned = 0;
+        self.wanted = 0;
+        move_to_front(&mut body, begin);
+        body.truncate(end - len);
+        Ok(body)
+    }
+
+    // Consumes the first bytes.
+    fn skip(&mut self, end: usize)
+        requires { end ≤ length self.old }
+        ensures { self.new ≡ drop end self.old }
+    {
+        self.start += end;
+        self.scanned = 0;
+        self.wanted = 0;
+    }
+}
+
+// These bytes, with all the room of a cutter.
+fn room_with(alloc: Global, bytes: &[u8]) -> Result<Vec<u8>, AllocError>
+    ensures items { IfOk result (λ room. room.items ≡ bytes.now) }
+    ensures room { IfOk result (λ room. MOST_REQUEST + MOST_PIECE ≤ vec_capacity room) }
+{
+    let mut room = Vec::with_capacity(alloc, MOST_REQUEST + MOST_PIECE)?;
+    room.extend_from_slice(bytes)?;
+    Ok(room)
 }
 
 /// Drops the bytes before `start`, and keeps the room.
