@@ -7,6 +7,7 @@ server too.
 from __future__ import annotations
 
 import json
+import random
 import socket
 import time
 import unittest
@@ -73,6 +74,22 @@ class Exchange(Case):
         self.answers("GET", f"/content/{ABC.upper()}", None, 200, "abc")
         text = f'{{"code":"no-content","id":"{NOTHING}"}}'
         self.answers("GET", f"/content/{NOTHING}", None, 404, text)
+
+    def test_long_bodies_one_behind_another(self):
+        """Bodies below, of and over 65,536 bytes, from which on the program doesn't copy them."""
+        source = random.Random(fresh())
+        sizes = [12, 65_535, 65_536, 65_537, 1_048_576, 0, 300_000, 65_536, 5]
+        bodies = [source.randbytes(size) for size in sizes]
+        sent, wanted = b"", b""
+        for body in bodies:
+            sent += f"PUT /content HTTP/1.1\r\nContent-Length: {len(body)}\r\n\r\n".encode() + body
+            text = f'{{"code":"content","id":"{digest(body)}","size":{len(body)}}}'
+            head = f"Content-Type: application/json\r\nContent-Length: {len(text)}\r\n\r\n"
+            wanted += f"HTTP/1.1 200 OK\r\n{head}{text}".encode()
+        for piece in (None, 100_003):
+            self.assertEqual(self.session(sent, piece=piece), wanted)
+        for body in bodies:
+            self.assertEqual(self.one("GET", f"/content/{digest(body)}"), (200, body))
 
     def test_changesets(self):
         self.one("PUT", "/content", b"abc")
