@@ -201,6 +201,7 @@ impl Journal {
         requires { length frame.now ≤ self.old.pending.room }
         ensures same { self.new ≡ record self.old { pending = self.new.pending } }
         ensures bytes { self.new.pending.bytes ≡ grown self.old.pending.bytes frame.now }
+        ensures spent { (self.new.pending.memory ≤ KEPT_ROOM) ⊎ (self.new.pending.room ≡ 0) }
     {
         self.pending.hold(frame);
     }
@@ -220,6 +221,7 @@ impl Journal {
         requires { (self.old.pending.bytes ≡ []) ⊎ (length frame.items ≤ self.old.pending.room) }
         ensures same { self.new ≡ record self.old { pending = self.new.pending } }
         ensures bytes { self.new.pending.bytes ≡ grown self.old.pending.bytes frame.items }
+        ensures spent { (self.new.pending.memory ≤ KEPT_ROOM) ⊎ (self.new.pending.room ≡ 0) }
     {
         self.pending.take(frame);
     }
@@ -234,7 +236,9 @@ impl Journal {
 
         ensures ok { OnOk result (self.new ≡ record self.old { size = self.old.size + length self.old.pending.bytes; pending = self.new.pending }) }
         ensures emptied { OnOk result (self.new.pending.bytes ≡ []) }
-        ensures room { OnOk result (self.new.pending.room ≤ KEPT_ROOM) }
+        ensures keeps { self.old.pending.room ≤ self.new.pending.room }
+        ensures memory { OnOk result ((self.new.pending.memory ≤ KEPT_ROOM) ⊎ (1 ≤ self.old.pending.room)) }
+        ensures shrinks { self.new.pending.memory ≤ self.old.pending.memory }
 
         // It fails only where a call of the disk did, and then the journal is broken by it.
         ensures faults { Counts (D.meaning disk.old).faults (D.meaning disk.new).faults (is_err result) }
