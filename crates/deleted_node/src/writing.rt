@@ -12,17 +12,31 @@ use crate::node::DeletedNode;
 use object_id::Id;
 use std::alloc::{AllocError, Global};
 
+// The bytes of a deleted node before its entries, at most, and of an entry beside its name.
+const HEAD: usize = 39;
+
+const ENTRY: usize = 33;
+
 /// The one spelling of a deleted node.
 pub fn encode(alloc: Global, node: &DeletedNode) -> Result<Vec<u8>, AllocError>
     ensures spelling { IfOk result (λ bytes. bytes.items ≡ deleted_bytes (deleted_seen node.now)) }
     ensures valid { is_deleted (deleted_seen node.now) ≡ true }
 {
-    let mut out = Vec::new(alloc);
+    let mut out = Vec::with_capacity(alloc, room_for(&node.entries))?;
     out.extend_from_slice(&[0x44, 1])?;
     put_link(&mut out, node.link)?;
     out.extend_from_slice(&(node.entries.len() as u32).to_be_bytes())?;
     put_children(&mut out, &node.entries)?;
     Ok(out)
+}
+
+// How many bytes the node with these entries has at most, for which there is room then from the start.
+fn room_for(children: &[DeletedChild]) -> usize {
+    let mut room = HEAD;
+    for child in children {
+        room = room.saturating_add(ENTRY + child.name.as_bytes().len());
+    }
+    room
 }
 
 // An id that may be absent, with its flag.

@@ -6,7 +6,7 @@ ghost use Rattle.std.specs.Ordering.{nat_cmp, eq_by_cmp};
 ghost use Rattle.std.specs.Cmp.Lexicographic.{slice_cmp};
 ghost use Rattle.std.specs.List.{list_all};
 ghost use Rattle.std.specs.BTreeMap.{get};
-ghost use Rattle.changeset_model.specs.Path.{path_cmp};
+ghost use Rattle.changeset_model.specs.Path.{is_element, path_cmp};
 ghost use Rattle.manifest_model.specs.Fsnode.{are_entries};
 ghost use Rattle.node_fields.specs.Children.{children_seen};
 ghost use Rattle.derive_step.specs.Places.{dir_of};
@@ -27,6 +27,32 @@ use std::collections::VecDeque;
 /// The entries of a directory, or of the root, from those of both parents after the edits of a changeset. The own nodes of
 /// the files that are new at it are put to the nodes.
 pub(crate) fn joined<K: Kind>(
+    alloc: Global,
+    kind: &K,
+    first: Vec<Child<K::Entry>>,
+    second: Vec<Child<K::Entry>>,
+    dir: Option<&RepoPath>,
+    made: &MadeDirs,
+    nodes: &mut Vec<Node>,
+) -> Result<Vec<Child<K::Entry>>, AllocError>
+    requires first { is_sorted (slice_cmp nat_cmp) (children_seen K.seen first.items) ≡ true }
+    requires named { list_all (λ e. is_element e.0) (children_seen K.seen first.items) ≡ true }
+    requires kept { list_all (λ e. K.is_kept e.1) (children_seen K.seen first.items) ≡ true }
+    requires second { is_sorted (slice_cmp nat_cmp) (children_seen K.seen second.items) ≡ true }
+    ensures entries { IfOk result (λ children. (n : List ℕ) → entry_among K.seen children.items n ≡ joined_by (K.joined kind.now (dir_of dir.entry) n (made_at (made_in K.made made.now) (dir_of dir.entry ++ n ∷ []))) (entries_among K.seen first.items second.items n)) }
+    ensures rising { IfOk result (λ children. are_entries (children_seen K.seen children.items) ≡ true) }
+    ensures fields { IfOk result (λ children. list_all (λ e. K.is_kept e.1) (children_seen K.seen children.items) ≡ true) }
+    ensures nodes { OnOk result (nodes.new.items ≡ nodes.old.items ++ joined_nodes (K.own_joined kind.now (dir_of dir.entry)) (entry_among K.seen first.items) (children_seen K.seen second.items)) }
+{
+    // Mostly there is one parent, of which nothing is copied then.
+    if second.is_empty() {
+        return counted::<K>(first);
+    }
+    joined_to(alloc, kind, first, second, dir, made, nodes)
+}
+
+// The same where there are entries of the second parent.
+fn joined_to<K: Kind>(
     alloc: Global,
     kind: &K,
     first: Vec<Child<K::Entry>>,
@@ -128,14 +154,23 @@ pub(crate) fn made_in_dir<'a>(
     }
 }
 
-// The entries by rising names. So many that their number doesn't fit its field don't fit the memory either.
+// The entries by rising names.
 fn children_of<K: Kind>(entries: Merge<K::Entry>) -> Result<Vec<Child<K::Entry>>, AllocError>
     requires { IsMerge K.is_kept (children_seen K.seen entries.done.items) (children_seen K.seen entries.left.items) }
     ensures entries { IfOk result (λ children. (n : List ℕ) → entry_among K.seen children.items n ≡ entry_in K.seen entries n) }
     ensures rising { IfOk result (λ children. are_entries (children_seen K.seen children.items) ≡ true) }
     ensures fields { IfOk result (λ children. list_all (λ e. K.is_kept e.1) (children_seen K.seen children.items) ≡ true) }
 {
-    let children = finished::<K>(entries)?;
+    counted::<K>(finished::<K>(entries)?)
+}
+
+// So many entries that their number doesn't fit its field don't fit the memory either.
+fn counted<K: Kind>(children: Vec<Child<K::Entry>>) -> Result<Vec<Child<K::Entry>>, AllocError>
+    requires sorted { is_sorted (slice_cmp nat_cmp) (children_seen K.seen children.items) ≡ true }
+    requires named { list_all (λ e. is_element e.0) (children_seen K.seen children.items) ≡ true }
+    ensures same { IfOk result (λ counted. counted.items ≡ children.items) }
+    ensures rising { IfOk result (λ counted. are_entries (children_seen K.seen counted.items) ≡ true) }
+{
     if children.len() > u32::MAX as usize {
         return Err(AllocError);
     }

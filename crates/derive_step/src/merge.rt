@@ -71,6 +71,7 @@ fn pass<K: Kind>(entries: &mut Merge<K::Entry>, name: &[u8]) -> Result<(), Alloc
     ensures same { OnOk result (whole K.seen entries.new ≡ whole K.seen entries.old) }
     ensures next { OnOk result (comes_before name.now entries.new.left.items ≡ false) }
 {
+    entries.done.try_reserve(entries.left.len())?;
     'passing: while is_next_before(&entries.left, name) {
         let Some(child) = entries.left.pop_front() else {
             unreachable!()
@@ -172,6 +173,7 @@ pub(crate) fn finished<K: Kind>(
     ensures kept { IfOk result (λ children. list_all (λ e. K.is_kept e.1) (children_seen K.seen children.items) ≡ true) }
 {
     let Merge { mut done, mut left } = entries;
+    done.try_reserve(left.len())?;
     'finishing: while let Some(child) = left.pop_front() {
         push_child::<K>(&mut done, child)?;
     }

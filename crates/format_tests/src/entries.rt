@@ -9,9 +9,8 @@ use crate::samples::{
     ABC, CALLED, CHANGESET, CONTENT, COPY, COPY_ID, DATED, DATED_LANDING, DELETED, LANDING, MADE,
     MOVED, NEW, NO_HEADS, OLD, POLICY, WHOLE,
 };
-use bonsai::Commit;
 use object_id::Id;
-use repo_events::{Body, FRAME, Landing, Move, decode_payload, encode_entry};
+use repo_events::{Body, FRAME, Landing, Move, Spelled, decode_payload, encode_entry};
 use repo_path::BookName;
 use std::alloc::Global;
 
@@ -89,18 +88,18 @@ fn head(text: &str) -> Option<Id> {
     Id::from_hex(text).ok()
 }
 
-fn is_one(commits: &[Commit], wanted: Id) -> bool {
+fn is_one(alloc: Global, commits: &[Spelled], wanted: Id) -> bool {
     match commits {
-        [commit] => commit.id() == wanted,
+        [commit] => commit.changeset().id(alloc).ok() == Some(wanted),
         _ => false,
     }
 }
 
-fn lands(landing: &Landing, old: Id, new: Id, moment: Option<u64>) -> bool {
+fn lands(alloc: Global, landing: &Landing, old: Id, new: Id, moment: Option<u64>) -> bool {
     landing.name.as_str() == "main"
         && landing.old == old
         && landing.draft == new
-        && is_one(&landing.new, new)
+        && is_one(alloc, &landing.new, new)
         && landing.moment == moment
         && landing.caller.is_none()
 }
@@ -108,7 +107,7 @@ fn lands(landing: &Landing, old: Id, new: Id, moment: Option<u64>) -> bool {
 fn is_landing(alloc: Global, payload: &str, old: Id, new: Id, moment: Option<u64>) -> bool {
     let body = read(alloc, payload);
     match &body {
-        Some(Body::Land(landing)) => lands(landing, old, new, moment),
+        Some(Body::Land(landing)) => lands(alloc, landing, old, new, moment),
         Some(_) | None => false,
     }
 }

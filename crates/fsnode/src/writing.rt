@@ -11,17 +11,38 @@ use crate::node::Fsnode;
 use crate::summary::Summary;
 use std::alloc::{AllocError, Global};
 
+// The bytes of an fsnode before its entries: a mark, a version, five numbers and a count.
+const HEAD: usize = 46;
+
+// The bytes of an entry beside its name, of a file and of a directory.
+const FILE: usize = 43;
+
+const DIRECTORY: usize = 74;
+
 /// The one spelling of an fsnode.
 pub fn encode(alloc: Global, node: &Fsnode) -> Result<Vec<u8>, AllocError>
     ensures spelling { IfOk result (λ bytes. bytes.items ≡ fsnode_bytes (fsnode_seen node.now)) }
     ensures valid { is_fsnode (fsnode_seen node.now) ≡ true }
 {
-    let mut out = Vec::new(alloc);
+    let mut out = Vec::with_capacity(alloc, room_for(&node.entries))?;
     out.extend_from_slice(&[0x46, 1])?;
     put_summary(&mut out, &node.summary)?;
     out.extend_from_slice(&(node.entries.len() as u32).to_be_bytes())?;
     put_children(&mut out, &node.entries)?;
     Ok(out)
+}
+
+// How many bytes the fsnode with these entries has, for which there is room then from the start.
+fn room_for(children: &[FsChild]) -> usize {
+    let mut room = HEAD;
+    for child in children {
+        let fields = match child.entry {
+            FsEntry::File { .. } => FILE,
+            FsEntry::Directory { .. } => DIRECTORY,
+        };
+        room = room.saturating_add(fields + child.name.as_bytes().len());
+    }
+    room
 }
 
 fn put_summary(out: &mut Vec<u8>, summary: &Summary) -> Result<(), AllocError>

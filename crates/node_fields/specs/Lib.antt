@@ -1,3 +1,4 @@
 pub mod Answers
 pub mod Children
 pub mod Lookup
+pub mod Names

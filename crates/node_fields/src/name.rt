@@ -6,26 +6,38 @@ ghost use Rattle.std.specs.Int.{w8};
 ghost use Rattle.std.specs.Ordering.{nat_cmp};
 ghost use Rattle.byte_fields.specs.Bytes.{sized};
 ghost use Rattle.changeset_model.specs.Path.{is_element};
+ghost use Rattle.node_fields.specs.Names.{IsText, text_bytes};
 
 use std::alloc::{AllocError, Global};
 use std::cmp::Ordering;
 use std::marker::Model;
 
+// The most bytes that a name has in place: with their number and what tells the forms apart it is as large as a list.
+const SHORT: usize = 22;
+
+// The bytes of a name. Most are few, and take no memory of their own.
+#[derive(Debug, Drop)]
+enum Text {
+    Short { bytes: [u8; SHORT], len: u8 },
+    Long(Vec<u8>),
+}
+
 /// A name in a directory: an element of a path, 1 to 255 bytes of UTF-8. Names are ordered by their bytes.
 #[derive(Debug, Drop)]
 pub struct Name {
-    bytes: Vec<u8>,
+    text: Text,
 }
 
 impl Model for Name {
     ghost use Rattle.std.specs.Prelude.{◌≡◌, true, List, ℕ};
     ghost use Rattle.changeset_model.specs.Path.{is_element};
+    ghost use Rattle.node_fields.specs.Names.{IsText, text_bytes};
 
     ghost Value = { List ℕ };
 
-    ghost view = { λ n. n.bytes.items };
+    ghost view = { λ n. text_bytes n.text };
 
-    ghost invariant = { λ n. is_element n.bytes.items ≡ true };
+    ghost invariant = { λ n. (is_element (text_bytes n.text) ≡ true) × IsText n.text };
 }
 
 impl Name {
@@ -34,8 +46,8 @@ impl Name {
         requires { is_element element.now ≡ true }
         ensures { IfOk result (λ name. name ≡ element.now) }
     {
-        let bytes = Vec::from_slice(alloc, element)?;
-        Ok(Name { bytes })
+        let text = text_of(alloc, element)?;
+        Ok(Name { text })
     }
 
     /// Its bytes.
@@ -43,18 +55,39 @@ impl Name {
         ensures bytes { result.now ≡ self.now }
         ensures element { is_element self.now ≡ true }
     {
-        self.bytes.as_slice()
+        match &self.text {
+            Text::Short { bytes, len } => &bytes[..usize::from(*len)],
+            Text::Long(bytes) => bytes.as_slice(),
+        }
     }
 
     /// Writes its length and its bytes at the end.
     pub fn put_sized(&self, out: &mut Vec<u8>) -> Result<(), AllocError>
         ensures { OnOk result (out.new.items ≡ out.old.items ++ sized w8 self.now) }
     {
-        let len = self.bytes.len() as u8;
+        let bytes = self.as_bytes();
+        let len = bytes.len() as u8;
         out.extend_from_slice(&len.to_be_bytes())?;
-        out.extend_from_slice(&self.bytes)?;
+        out.extend_from_slice(bytes)?;
         Ok(())
     }
+}
+
+// The same bytes, in place if they are few.
+fn text_of(alloc: Global, element: &[u8]) -> Result<Text, AllocError>
+    ensures bytes { IfOk result (λ text. text_bytes text ≡ element.now) }
+    ensures text { IfOk result IsText }
+{
+    let count = element.len();
+    if count > SHORT {
+        return Ok(Text::Long(Vec::from_slice(alloc, element)?));
+    }
+    let mut bytes = [0; SHORT];
+    bytes[..count].copy_from_slice(element);
+    Ok(Text::Short {
+        bytes,
+        len: count as u8,
+    })
 }
 
 impl PartialEq for Name {
@@ -63,7 +96,7 @@ impl PartialEq for Name {
     ghost laws = { partial_equiv_from_equiv nat_list_eq_equiv };
 
     fn eq(&self, other: &Name) -> bool {
-        self.bytes == other.bytes
+        self.as_bytes() == other.as_bytes()
     }
 }
 
@@ -91,6 +124,6 @@ impl Ord for Name {
     ghost matches_eq = { texts_ties };
 
     fn cmp(&self, other: &Name) -> Ordering {
-        self.bytes.as_slice().cmp(other.bytes.as_slice())
+        self.as_bytes().cmp(other.as_bytes())
     }
 }

@@ -15,6 +15,14 @@ use crate::parents::Parents;
 use object_id::Id;
 use std::alloc::{AllocError, Global};
 
+// The bytes of a unode beside its entries and the names in them, at most: of a file's, and of a directory's.
+const FILE: usize = 164;
+
+const MANIFEST: usize = 103;
+
+// The bytes of an entry beside its name.
+const ENTRY: usize = 34;
+
 /// The one spelling of a unode.
 pub fn encode(alloc: Global, node: &Unode) -> Result<Vec<u8>, AllocError>
     ensures spelling { IfOk result (λ bytes. bytes.items ≡ unode_bytes (unode_seen node.now)) }
@@ -29,7 +37,7 @@ pub fn encode(alloc: Global, node: &Unode) -> Result<Vec<u8>, AllocError>
 fn encode_manifest(alloc: Global, manifest: &UnodeManifest) -> Result<Vec<u8>, AllocError>
     ensures { IfOk result (λ bytes. bytes.items ≡ unode_bytes (manifest_seen manifest.now)) }
 {
-    let mut out = Vec::new(alloc);
+    let mut out = Vec::with_capacity(alloc, room_for(&manifest.entries))?;
     put_head(&mut out, 0x55, manifest.parents)?;
     put_id(&mut out, &manifest.linknode)?;
     out.extend_from_slice(&(manifest.entries.len() as u32).to_be_bytes())?;
@@ -37,11 +45,20 @@ fn encode_manifest(alloc: Global, manifest: &UnodeManifest) -> Result<Vec<u8>, A
     Ok(out)
 }
 
+// How many bytes the unode of a directory with these entries has at most, for which there is room then from the start.
+fn room_for(children: &[UnodeChild]) -> usize {
+    let mut room = MANIFEST;
+    for child in children {
+        room = room.saturating_add(ENTRY + child.name.as_bytes().len());
+    }
+    room
+}
+
 fn encode_file(alloc: Global, file: &FileUnode) -> Result<Vec<u8>, AllocError>
     ensures spelling { IfOk result (λ bytes. bytes.items ≡ unode_bytes (file_seen file.now)) }
     ensures valid { OnOk result (is_unode (file_seen file.now) ≡ true) }
 {
-    let mut out = Vec::new(alloc);
+    let mut out = Vec::with_capacity(alloc, FILE)?;
     put_head(&mut out, 0x56, file.parents)?;
     put_id(&mut out, &file.content)?;
     out.push(file.kind.to_byte())?;

@@ -1,5 +1,4 @@
 use Rattle.std.proofs.Common.{sym}
-use Rattle.std.specs.Prelude.{option_map}
 use Rattle.node_fields.specs.Lookup.{named_in}
 use Rattle.node_fields.proofs.Named.{goes_on, is_here, is_past, no_entry, no_name}
 use Rattle.node_fields.proofs.lookup.first_named.Goals as goal

@@ -7,7 +7,7 @@ use Rattle.derive_step.specs.Walk.{entries_among, entry_among, made_in}
 use Rattle.derive_step.specs.Join.{joined_by, joined_nodes, made_at}
 use Rattle.derive_step.proofs.Entries.{by_name}
 use Rattle.derive_step.proofs.JoinedWalk.{AreLater}
-use Rattle.derive_step.proofs.join.joined.Given as goal
+use Rattle.derive_step.proofs.join.joined_to.Given as goal
 
 -- what is left of the second parent's entries, joined to what is there, and the nodes with those that this puts to them
 abbrev pub invariant-joining : goal.invariant-joining

@@ -10,7 +10,7 @@ use Rattle.derive_step.proofs.Entries.{by_name}
 use Rattle.derive_step.proofs.Given.{always_ok, if_ok}
 use Rattle.derive_step.proofs.JoinedWalk.{AreLater, joined_alone, later_start, none_left_of, one_more, rest_later, rest_nodes, rest_rises}
 use Rattle.derive_step.proofs.Merged.{merge_start}
-use Rattle.derive_step.proofs.join.joined.Goals as goal
+use Rattle.derive_step.proofs.join.joined_to.Goals as goal
 
 pub joining-init : goal.joining-init
 joining-init g c =
