@@ -60,10 +60,10 @@ module _ {X : Type 0} (r : Reader X) (on : ReadsOn r) where
 
   -- ---- a part
 
-  pub run_first : (bytes : Bytes) (before : Option Bytes) (name rest : Bytes) → IsNext r bytes before name rest → (part : Bytes) × IsRunOn r bytes before part 1 name rest
+  pub run_first : (bytes : Bytes) (before : Option Bytes) (name rest : Bytes) → IsNext r bytes before name rest → (first : Bytes) × IsRunOn r bytes before first 1 name rest
   run_first bytes before name rest next = by (one_of bytes before name rest next)
     where
-      by : IsOne r bytes name rest → (part : Bytes) × IsRunOn r bytes before part 1 name rest
+      by : IsOne r bytes name rest → (first : Bytes) × IsRunOn r bytes before first 1 name rest
       by one = (
         one.front,
         record {
