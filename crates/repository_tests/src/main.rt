@@ -36,3 +36,5 @@ mod steps;
 mod store;
 #[cfg(test)]
 mod trees;
+
+fn main() {}

@@ -29,3 +29,5 @@ mod swapping;
 mod threads;
 #[cfg(test)]
 mod ticking;
+
+fn main() {}

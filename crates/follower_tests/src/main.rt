@@ -9,3 +9,5 @@ mod following;
 mod replying;
 #[cfg(test)]
 mod repository;
+
+fn main() {}

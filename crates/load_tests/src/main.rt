@@ -6,3 +6,5 @@
 mod in_turn;
 #[cfg(test)]
 mod runs;
+
+fn main() {}

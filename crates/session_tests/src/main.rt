@@ -24,3 +24,5 @@ mod session;
 mod stops;
 #[cfg(test)]
 mod words;
+
+fn main() {}

@@ -14,3 +14,5 @@ mod landings;
 mod moves;
 #[cfg(test)]
 mod servers;
+
+fn main() {}

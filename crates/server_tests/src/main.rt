@@ -14,3 +14,5 @@ mod repository;
 mod serving;
 #[cfg(test)]
 mod watched;
+
+fn main() {}

@@ -10,3 +10,5 @@ mod moves;
 mod policies;
 #[cfg(test)]
 mod repository;
+
+fn main() {}
