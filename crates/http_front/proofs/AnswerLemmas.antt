@@ -5,7 +5,7 @@ use Rattle.history_model.specs.History.{Entry}
 use Rattle.history_model.specs.Journal.{Header}
 use Rattle.reply_model.specs.Reply as reply
 use Rattle.reply_model.specs.Log.{LogLine, line_of, lines_of}
-use Rattle.reply_model.specs.After.{Relation, Call, Answer, Looks, Shows, Memory}
+use Rattle.reply_model.specs.After.{Relation, Call, Answer, Asks, Looks, Shows, Memory}
 use Rattle.repo_calls.specs.declared.log.LogEntry.{LogEntry}
 use Rattle.repo_calls.specs.declared.ask.Ask.{Ask}
 use Rattle.repo_calls.specs.declared.ask.Ask.TheVariants as asks
@@ -35,6 +35,7 @@ use Rattle.repo_text.proofs.Answered.{change_response-refused}
 use Rattle.http_front.specs.Answered.{IsPut, Replied}
 use Rattle.http_front.specs.Reading as reading
 use Rattle.http_front.specs.Reading.{seen_response, Suits, SuitsKind}
+use Rattle.http_front.proofs.Uploads.{content_is_body}
 
 -- a refusal makes nothing
 makes_nothing : (refusal : calls.Refusal) → MakesNothing (refused refusal)
@@ -228,6 +229,13 @@ module _ (replies : Relation) (header : Header) (h : List Entry) (who : ℕ) whe
   change_answers q ask text after is r =
       let same = r.text ∙ ap (λ x. text_of x q.close (is_head_only q)) (response_to_change ask r.answer) in
       inl (subst (λ b. AnswersAsked replies header who h b q text after) (sym is) (record { answer = r.answer; answered = r.answered; text = same }))
+
+  -- or by a content, where it's the body that is stored
+  pub content_answers : (q : Request) (bytes : List ℕ) (text : List ℕ) (after : List Entry) → asked q ≡ model.Calls (Asks (reply.PutContent bytes))
+      → Replied replies header who h (Asks (reply.PutContent q.body)) (change_response (Asks (reply.PutContent q.body))) q.close (is_head_only q) text after → Answers replies header who h q text after
+  content_answers q bytes text after asks r =
+      let stored = asks ∙ ap (λ b. model.Calls (Asks (reply.PutContent b))) (content_is_body q bytes asks) in
+      inl (subst (λ b. AnswersAsked replies header who h b q text after) (sym stored) (record { answer = r.answer; answered = r.answered; text = r.text }))
 
   -- or by the read
   pub read_answers : (q : Request) (question : reply.Question) (text : List ℕ) (after : List Entry) → asked q ≡ model.Calls (Looks question)

@@ -1,9 +1,10 @@
 //! The answers to changes.
-ghost use Rattle.std.specs.Prelude.{◌≡◌, Err};
-ghost use Rattle.reply_model.specs.After.{Call};
+ghost use Rattle.std.specs.Prelude.{◌≡◌, ℕ, List, length, Err};
+ghost use Rattle.reply_model.specs.After.{Asks, Call};
+ghost use Rattle.reply_model.specs.Reply.{PutContent};
 ghost use Rattle.repo_calls.specs.Asking.{stored_answer};
 ghost use Rattle.repo_calls.specs.Calls.{call_seen, granted_seen};
-ghost use Rattle.repo_calls.specs.Replying.{Fits};
+ghost use Rattle.repo_calls.specs.Replying.{ContentGrant, Fits, IsGrant};
 ghost use Rattle.session_model.specs.Asking.{change_response, granted as granted_response};
 ghost use Rattle.session_model.specs.Dating.{Dated};
 ghost use Rattle.session_model.specs.Responses.{text_of};
@@ -33,6 +34,26 @@ pub(crate) fn change<T: Seat, C: Clock>(
     ensures home { T.home seat.new ≡ T.home seat.old }
 {
     make(alloc, seat, buffer, &dated(clock, ask), form);
+}
+
+/// Stores a content, whose bytes are handed over. The text of the response is in the buffer then.
+pub(crate) fn store<T: Seat>(
+    alloc: Global,
+    seat: &mut T,
+    buffer: &mut ResponseBuffer,
+    bytes: Vec<u8>,
+    form: ResponseForm,
+)
+    ensures answers { Replied (T.replies (T.home seat.old)) (T.header seat.old) (T.number seat.old) (T.front seat.old) (Asks (PutContent bytes.items)) (change_response (Asks (PutContent bytes.items))) form.close form.head_only buffer.new (T.front seat.new) }
+    ensures header { T.header seat.new ≡ T.header seat.old }
+    ensures number { T.number seat.new ≡ T.number seat.old }
+    ensures home { T.home seat.new ≡ T.home seat.old }
+{
+    let size = bytes.len();
+    match seat.put_content(alloc, bytes) {
+        Ok(granted) => put_stored(buffer, &granted, size, form),
+        Err(fault) => put_fault(alloc, buffer, &fault, form),
+    }
 }
 
 // The same change, where it's a landing at the moment that the clock tells.
@@ -108,6 +129,17 @@ fn put_fault(alloc: Global, buffer: &mut ResponseBuffer, fault: &ChangeFault, fo
             buffer.put_body(Status::InternalServerError, &body, form)
         }
     }
+}
+
+// Puts the response to a content of this many bytes that is stored, which takes no memory.
+fn put_stored(buffer: &mut ResponseBuffer, granted: &Granted, size: usize, form: ResponseForm)
+    requires { IsGrant ContentGrant (granted_seen granted.now) }
+    ensures { (bytes : List ℕ) → length bytes ≡ size → buffer.new ≡ text_of (granted_response (Asks (PutContent bytes)) (granted_seen granted.now)) form.close form.head_only }
+{
+    let Granted::Content(id) = granted else {
+        unreachable!()
+    };
+    buffer.put_body(Status::Fine, &Body::Content { id: *id, size }, form)
 }
 
 // Puts the response to a change that is granted, which takes no memory.

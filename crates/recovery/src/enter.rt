@@ -30,7 +30,7 @@ use bonsai::{Changeset, Commit, MOST_CONTENT};
 use manifest_store::ManifestStore;
 use object_id::Id;
 use repo_events::{Body, Landing, Move, decode_payload};
-use repo_machine::{Found, Judged, Machine};
+use repo_machine::{Judged, Machine};
 use repo_path::{BookName, NameFault, RepoPath};
 use settled_merge::{derive_parents, left_unresolved};
 use std::alloc::{AllocError, Global};
@@ -136,8 +136,11 @@ fn enter_content(
     if content.len() as u64 > MOST_CONTENT {
         return Err(ReplayFault::BadPayload);
     }
-    let judged = machine.judge_hashed(alloc, NO_SEAT, id, content)?;
-    enter_judged(machine, judged)
+    let made = machine.replay_content(alloc, NO_SEAT, id, content)?;
+    if !made {
+        return Err(ReplayFault::BadPayload);
+    }
+    Ok(())
 }
 
 // Enters a changeset that may be put there. Of a merge the parents' pasts are derived first, so that only the directories in
@@ -160,9 +163,11 @@ fn enter_changeset(
     ensures calm { is_read_fault result ≡ false }
 {
     let left = left_by(alloc, machine, manifests, commit.changeset())?;
-    let found = Found::Unresolved(left);
-    let judged = machine.judge_commit(alloc, NO_SEAT, commit, payload, found)?;
-    enter_judged(machine, judged)
+    let made = machine.replay_changeset(alloc, NO_SEAT, commit, payload, left)?;
+    if !made {
+        return Err(ReplayFault::BadPayload);
+    }
+    Ok(())
 }
 
 // What a changeset leaves unresolved between its parents, if it has two, whose pasts are derived first.

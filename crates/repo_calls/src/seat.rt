@@ -2,7 +2,8 @@
 ghost use Rattle.std.specs.Prelude.{◌≡◌, ℕ, List};
 ghost use Rattle.history_model.specs.History.{Entry};
 ghost use Rattle.history_model.specs.Journal.{Header};
-ghost use Rattle.reply_model.specs.After.{Relation, Answer, Looks};
+ghost use Rattle.reply_model.specs.After.{Relation, Answer, Asks, Looks};
+ghost use Rattle.reply_model.specs.Reply.{PutContent};
 ghost use Rattle.repo_calls.specs.Calls.{call_seen};
 ghost use Rattle.repo_calls.specs.Asking.{IsAnswer, question_seen, stored_answer};
 ghost use Rattle.repo_calls.specs.Replying.{IsReplying};
@@ -37,6 +38,17 @@ pub trait Seat {
         ensures header { header self.new ≡ header self.old }
         ensures number { number self.new ≡ number self.old }
         ensures home { home self.new ≡ home self.old };
+
+    /// Stores a content that is handed over, as `change` does for `PutContent`. A seat may make its record in the room of the
+    /// bytes, so that they aren't copied.
+    fn put_content(&mut self, alloc: Global, bytes: Vec<u8>) -> Result<Granted, ChangeFault>
+        ensures reply { replies (home self.old) (header self.old) (front self.old) (number self.old) (Asks (PutContent bytes.items)) (stored_answer result) (front self.new) }
+        ensures header { header self.new ≡ header self.old }
+        ensures number { number self.new ≡ number self.old }
+        ensures home { home self.new ≡ home self.old }
+    {
+        self.change(alloc, &Ask::PutContent(bytes.as_slice()))
+    }
 
     /// Answers a read.
     fn look(&mut self, alloc: Global, question: &Question) -> Result<Seen, AskFault>

@@ -1,4 +1,5 @@
 pub mod Accepted
+pub mod Content
 pub mod Decoded
 pub mod Lengths
 pub mod Names

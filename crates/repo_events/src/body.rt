@@ -9,6 +9,7 @@ ghost use Rattle.history_model.specs.History.{Book, Land, changesets_in};
 ghost use Rattle.history_model.specs.Journal.{moment_bytes, optional_id, payload_len};
 ghost use Rattle.repo_events.specs.Entries.{caller_bytes, commits_length, move_of, landing_of, body_of};
 
+use crate::spelled::Spelled;
 use bonsai::Commit;
 use object_id::Id;
 use repo_path::BookName;
@@ -31,7 +32,7 @@ pub struct Landing {
     pub old: Id,
     pub draft: Id,
     /// The rewritten changesets, of which the last is the head after.
-    pub new: Vec<Commit>,
+    pub new: Vec<Spelled>,
     /// When it was landed, told where one of them is of the second version.
     pub moment: Option<u64>,
     /// Who landed it, told where a policy was held.
@@ -120,7 +121,7 @@ impl Landing {
 }
 
 // The length in bytes of the encodings, each behind its length.
-fn commits_length(commits: &[Commit]) -> u64
+fn commits_length(commits: &[Spelled]) -> u64
     requires { length commits.now < 2 ^ 16 }
     ensures value { result ≡ commits_length commits.now }
     ensures short { result ≤ 2 ^ 27 * length commits.now }

@@ -1,8 +1,8 @@
 //! The payloads of entries, and the frames that a journal takes. Numbers stand high byte first.
-ghost use Rattle.std.specs.Prelude.{◌≡◌, ◌<◌, ◌^◌, ◌∷◌, [], ◌++◌, length, map, IfOk, OnOk};
+ghost use Rattle.std.specs.Prelude.{◌≡◌, ◌≤◌, ◌<◌, ◌+◌, ◌^◌, ◌∷◌, [], ◌++◌, length, take, drop, map, IfOk, OnOk};
 ghost use Rattle.std.specs.List.{concat};
 ghost use Rattle.std.specs.Option.{option_copied};
-ghost use Rattle.std.specs.Int.{w8, w32};
+ghost use Rattle.std.specs.Int.{w8, w32, to_be_bytes};
 ghost use Rattle.byte_fields.specs.Bytes.{sized};
 ghost use Rattle.changeset_model.specs.Changeset.{spelling};
 ghost use Rattle.bonsai.specs.Encodings.{encodings};
@@ -14,10 +14,17 @@ ghost use Rattle.repo_events.specs.Entries.{caller_bytes, landing_head, body_of,
 use crate::body::{Body, Landing, Move};
 use crate::limits::FRAME;
 use crate::mark;
-use bonsai::{Commit, encode_into};
+use crate::spelled::Spelled;
+use bonsai::encode_into;
 use object_id::Id;
 use repo_path::BookName;
 use std::alloc::{AllocError, Global};
+
+// The bytes of a length before a payload.
+const LENGTH: usize = 4;
+
+// What stands before a content's bytes in its frame: the length of the payload, and a mark.
+const CONTENT_HEAD: usize = LENGTH + 1;
 
 /// The payload of an entry behind its length in 32 bits, and a closed gate after it. `content` has the bytes of a
 /// content, and isn't looked at for other entries. A payload has fewer than 4,294,967,296 bytes, a landing at most
@@ -46,6 +53,30 @@ pub fn frame_payload(alloc: Global, payload: &[u8]) -> Result<Vec<u8>, AllocErro
     frame.extend_from_slice(payload)?;
     frame.push(0)?;
     Ok(frame)
+}
+
+/// The frame of a content's payload, made in the room of its bytes. They are moved within it, and copied elsewhere only where
+/// it has no place for six bytes more. A content has fewer than 4,294,967,295 bytes.
+pub fn content_frame(bytes: Vec<u8>) -> Result<Vec<u8>, AllocError>
+    requires { length bytes.items + 1 < 2 ^ 32 }
+    ensures { IfOk result (λ frame. frame.items ≡ framed (0x42 ∷ bytes.items)) }
+{
+    let count = bytes.len();
+    let mut frame = bytes;
+    // The last of these is the closed gate.
+    frame.extend_from_slice(&[0; CONTENT_HEAD + 1])?;
+    frame.copy_within(0..count, CONTENT_HEAD);
+    frame[LENGTH] = mark::CONTENT;
+    put_length(&mut frame, 0, count as u32 + 1);
+    Ok(frame)
+}
+
+// Writes a length over what stands at a place.
+fn put_length(bytes: &mut Vec<u8>, at: usize, count: u32)
+    requires { at + LENGTH ≤ length bytes.old.items }
+    ensures { bytes.new.items ≡ take at bytes.old.items ++ to_be_bytes w32 count ++ drop (at + LENGTH) bytes.old.items }
+{
+    bytes[at..at + LENGTH].copy_from_slice(&count.to_be_bytes());
 }
 
 // The length in bytes of the payload. A content's is that of its bytes, behind a mark.
@@ -227,7 +258,7 @@ fn put_moment(out: &mut Vec<u8>, moment: Option<u64>) -> Result<(), AllocError>
 }
 
 // The spellings, each behind its length.
-fn put_commits(out: &mut Vec<u8>, commits: &[Commit]) -> Result<(), AllocError>
+fn put_commits(out: &mut Vec<u8>, commits: &[Spelled]) -> Result<(), AllocError>
     ensures { OnOk result (out.new.items ≡ out.old.items ++ encodings commits.now) }
 {
     for commit in commits {
@@ -236,7 +267,7 @@ fn put_commits(out: &mut Vec<u8>, commits: &[Commit]) -> Result<(), AllocError>
     Ok(())
 }
 
-fn put_sized(out: &mut Vec<u8>, commit: &Commit) -> Result<(), AllocError>
+fn put_sized(out: &mut Vec<u8>, commit: &Spelled) -> Result<(), AllocError>
     ensures { OnOk result (out.new.items ≡ out.old.items ++ sized w32 (spelling commit.now)) }
 {
     let length = commit.encoded_length() as u32;

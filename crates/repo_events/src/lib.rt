@@ -10,10 +10,12 @@ pub mod limits;
 mod mark;
 mod parts;
 pub mod payload_fault;
+pub mod spelled;
 
 pub use body::{Body, Landing, Move};
 pub use decoding::decode_payload;
-pub use encoding::{LandingHead, encode_entry, frame_payload};
+pub use encoding::{LandingHead, content_frame, encode_entry, frame_payload};
 pub use landing::{begin_landing, landing_length};
 pub use limits::{FRAME, MOST_PAYLOAD, MOST_STACK};
 pub use payload_fault::PayloadFault;
+pub use spelled::Spelled;

@@ -10,6 +10,7 @@ ghost use Rattle.history_model.specs.Bookmark.{is_name};
 ghost use Rattle.history_model.specs.Payload as payload;
 ghost use Rattle.repo_events.specs.Entries.{moment_field};
 
+use crate::spelled::Spelled;
 use bonsai::{Commit, DecodeFault};
 use byte_fields::fields::{bytes_at, id_at, u8_at, u32_at, u64_at};
 use byte_fields::{BadField, FieldFault};
@@ -82,13 +83,13 @@ pub(crate) fn commit_of(alloc: Global, bytes: &[u8]) -> Result<Option<Commit>, F
     }
 }
 
-// A spelling behind its length.
-fn commit_at(alloc: Global, bytes: &[u8]) -> Result<(Commit, &[u8]), FieldFault>
+// A changeset, whose spelling stands behind its length.
+fn commit_at(alloc: Global, bytes: &[u8]) -> Result<(Spelled, &[u8]), FieldFault>
     ensures { Reads (λ x. (x.0, x.1.now)) result (payload.encoded bytes.now) }
 {
     let (len, rest) = u32_at(bytes)?;
     let (spelling, after) = bytes_at(rest, len as usize)?;
-    let Some(commit) = commit_of(alloc, spelling)? else {
+    let Some(commit) = Spelled::read(alloc, spelling)? else {
         return Err(FieldFault::Bad { left: rest.len() });
     };
     Ok((commit, after))
@@ -99,7 +100,7 @@ pub(crate) fn commits_at(
     alloc: Global,
     count: u16,
     bytes: &[u8],
-) -> Result<(Vec<Commit>, &[u8]), FieldFault>
+) -> Result<(Vec<Spelled>, &[u8]), FieldFault>
     ensures { Reads (λ x. (x.0.items, x.1.now)) result (times count payload.encoded bytes.now) }
 {
     // Each has a length of four bytes before it, so a count that is wrong takes no room.

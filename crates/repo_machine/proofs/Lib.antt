@@ -25,6 +25,7 @@ pub mod LandingEntry
 pub mod Planning
 pub mod Kept
 pub mod Granting
+pub mod Replayed
 pub mod Lists
 pub mod Heads
 pub mod Cleared

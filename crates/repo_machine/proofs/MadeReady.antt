@@ -1,15 +1,18 @@
 -- What is made ready of an upload.
-use Rattle.std.proofs.Common.{◌≡◌, ◌≢◌, ℕ, ◌<◌, ◌+◌, Bool, true, false, inr, List, [], ◌∷◌, length, length-append, refl, sym, ap, subst, ◌∙◌, suc, arith}
+use Rattle.std.proofs.Common.{◌≡◌, ◌≢◌, ℕ, ◌<◌, ◌≤◌, ◌+◌, ◌-◌, Bool, true, false, inr, List, [], ◌∷◌, length, length-append, take, drop, refl, sym, ap, subst, ◌∙◌, suc, arith}
 use Rattle.std.specs.Prelude.{Result, Ok, Err, Some, IfOk, IfErr}
+use Rattle.std.proofs.lemmas.List.{take_at}
 use Rattle.byte_fields.specs.Bytes.{Id, IsBytes, are_bytes}
 use Rattle.changeset_model.specs.Changeset.{Changeset, spelling, most_content}
 use Rattle.changeset_model.specs.Decoding.{decoded}
 use Rattle.changeset_model.specs.Decoding as decoding
+use Rattle.changeset_model.proofs.Accepting.{IsBytes-drop, IsBytes-take}
 use Rattle.history_model.specs.History.{Body, Content, Whole, Change, Book, Land, Policy, Fault, Entry, is_down}
 use Rattle.history_model.specs.Journal.{Header, IsPayload, payload_len, record_len, framed}
 use Rattle.bonsai.specs.declared.decode_fault.DecodeFault.{DecodeFault}
 use Rattle.bonsai.specs.declared.decode_fault.DecodeFault.TheVariants as faults
 use Rattle.bonsai.specs.Decodes.{Refuses}
+use Rattle.opening_laws.proofs.Lists.{are_IsBytes}
 use Rattle.reply_model.specs.Reply.{Ask, judge, PutContent, PutChangeset, TooLong, BadEncoding, SelfConflict}
 use Rattle.repo_calls.specs.declared.refusal.Refusal as refusal
 use Rattle.repo_calls.specs.declared.refusal.Refusal.TheVariants as refusals
@@ -17,7 +20,7 @@ use Rattle.repo_calls.specs.Refusing.{IsRefusal}
 use Rattle.sha2.specs.Sha256.{sha256}
 use Rattle.repo_machine.specs.Judged.{Frames}
 use Rattle.repo_machine.specs.Faults.{fault_refusal}
-use Rattle.repo_machine.specs.Prepared.{IsRefusedAs, IsReadyChangeset}
+use Rattle.repo_machine.specs.Prepared.{IsRefusedAs, IsReadyContent, IsReadyChangeset, content_in}
 use Rattle.repo_machine.proofs.Judging.{judged_long, refused_down}
 use Rattle.repo_machine.proofs.Judging.{are_bytes-from}
 use Rattle.repo_machine.proofs.Uploading.{fault_refused}
@@ -70,3 +73,26 @@ refused_as header h ask e result refused up down = by (is_down h) refl
     by : (b : Bool) → is_down h ≡ b → IfErr result (IsRefusal (judge header h ask))
     by true is = subst (λ r. IfErr r (IsRefusal (judge header h ask))) (sym (down is)) (refused_down header h ask is)
     by false is = subst (λ r. IfErr r (IsRefusal (judge header h ask))) (sym (up is)) (inr (refused.refusal, refused.always header h is, refused.same))
+
+-- ---- a content that is read in its record
+
+pub content_read : (bytes frame : List ℕ) → frame ≡ framed (0x42 ∷ bytes) → content_in frame ≡ bytes
+content_read bytes frame is =
+    let long : length frame - 1 ≡ suc (suc (suc (suc (suc (length bytes))))) = let all = ap (λ xs. length xs) is in let rest = length-append bytes (0 ∷ []) in omega arith in
+    (λ i. drop 5 (take (long i) (is i)))
+    ∙ take_at bytes (0 ∷ []) (length bytes) refl
+
+pub framed_ready : (id : Id) (bytes frame : List ℕ) → id ≡ sha256 bytes → length bytes ≤ most_content → frame ≡ framed (0x42 ∷ bytes) → IsReadyContent (content_in frame) id frame
+framed_ready id bytes frame is short e =
+    subst (λ content. IsReadyContent content id frame) (sym (content_read bytes frame e)) (record { id_is = is; short = short; frames = content_framed id bytes frame is e })
+
+-- a record has six bytes beside its content
+pub ready_length : (bytes : List ℕ) (id : Id) (frame : List ℕ) → IsReadyContent bytes id frame → length frame ≡ length bytes + 6
+ready_length bytes id frame ready = let long = frame_length (Content id (length bytes)) frame ready.frames in omega arith
+
+-- how many bytes it has, by how many its record has
+pub count_is : (id : Id) (frame : List ℕ) (long count : ℕ) → IsReadyContent (content_in frame) id frame → long ≡ length frame → count ≡ long - 6 → count ≡ length (content_in frame)
+count_is id frame long count ready long_is is = let six = ready_length (content_in frame) id frame ready in omega arith
+
+pub are_within : (frame : List ℕ) → are_bytes frame ≡ true → are_bytes (content_in frame) ≡ true
+are_within frame are = are_bytes-from (content_in frame) (IsBytes-drop 5 (take (length frame - 1) frame) (IsBytes-take (length frame - 1) frame (are_IsBytes frame are)))

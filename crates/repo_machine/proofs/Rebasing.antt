@@ -72,12 +72,11 @@ has_frame r false frame short frames =
     bare_within r (length frame) (frame_length (landing_for r None) frame frames) short (nat_lt most_payload (payload_len (landing_for r (Some r.caller)))) refl
 
 -- the landing that is made of what was rebased
-abbrev landing_on : List ℕ → Id → Id → List Changeset → Option ℕ → model.Landing
-landing_on name old draft new moment = record { name = name; old = old; draft = draft; new = new; moment = moment; caller = None }
+abbrev landing_on : PlannedLanding → List Changeset → Option ℕ → model.Landing
+landing_on plan new moment = record { name = plan.name; old = plan.old; draft = plan.draft; new = new; moment = moment; caller = None }
 
-pub landing_of_plan : (plan : PlannedLanding) (at : ℕ) (name : List ℕ) (old draft : Id) (new : List Changeset) (moment : Option ℕ) (l : model.Landing) → l ≡ landing_on name old draft new moment → name ≡ plan.name → old ≡ plan.old → draft ≡ plan.draft → new ≡ rewrite plan.stack plan.old at → moment ≡ moment_of plan.stack at
-    → l ≡ landing_in (rebased_of plan at) None
-landing_of_plan plan at name old draft new moment l is name_is old_is draft_is new_is moment_is = is ∙ (λ i. landing_on (name_is i) (old_is i) (draft_is i) (new_is i) (moment_is i))
+pub landing_of_plan : (plan : PlannedLanding) (at : ℕ) (new : List Changeset) (moment : Option ℕ) (l : model.Landing) → l ≡ landing_on plan new moment → new ≡ rewrite plan.stack plan.old at → moment ≡ moment_of plan.stack at → l ≡ landing_in (rebased_of plan at) None
+landing_of_plan plan at new moment l is new_is moment_is = is ∙ (λ i. landing_on plan (new_is i) (moment_is i))
 
 module _ (plan : PlannedLanding) (at : ℕ) (l : LandMade) (made : landing_made l ≡ landing_in (rebased_of plan at) None) (few : length plan.stack ≤ most_stack) where
   few_new : length (landing_in (rebased_of plan at) None).new ≤ most_stack

@@ -23,3 +23,4 @@ pub mod Wholes
 pub mod Found
 pub mod Touches
 pub mod Looked
+pub mod Replaying

@@ -1,10 +1,11 @@
 -- Changes that are made ready where no machine is at hand.
 --     IsRefusedAs ask e      it is refused so at each history at which no disk has failed
 --     IsReadyContent bytes id frame, IsReadyChangeset c frame      an upload that may be judged, with its record
+--     content_in frame      the bytes of the content that a record is of
 --     IsReadyAsk ask ready      this is ready of the change;  IsReadyTo call ready      and of the call that is one
 --     IsReadyToJoin ready      nothing is ready of contents that are to be joined
 --     asked_by p      the call that is the change;  IsPrepared p      what it has is ready of it;  IsPreparedFor call p      so it is, and this is the change
-use Rattle.std.specs.Prelude.{◌≡◌, ◌≤◌, ℕ, true, false, List, length, Some, Ok, Err}
+use Rattle.std.specs.Prelude.{◌≡◌, ◌≤◌, ℕ, ◌-◌, true, false, List, length, take, drop, Some, Ok, Err}
 use Rattle.std.specs.Arc.{arc_value}
 use Rattle.sha2.specs.Sha256.{sha256}
 use Rattle.byte_fields.specs.Bytes.{Id, are_bytes}
@@ -33,6 +34,10 @@ pub record IsReadyContent (bytes : List ℕ) (id : Id) (frame : List ℕ) : Type
   pub id_is : id ≡ sha256 bytes
   pub short : length bytes ≤ most_content
   pub frames : Frames (Some (Content id (length bytes))) frame
+
+-- behind the payload's length and a mark, and before the gate
+abbrev pub content_in : List ℕ → List ℕ
+content_in frame = drop 5 (take (length frame - 1) frame)
 
 pub record IsReadyChangeset (c : Changeset) (frame : List ℕ) : Type 0 where
   pub decodes : decoded (spelling c) ≡ Ok c

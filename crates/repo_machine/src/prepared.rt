@@ -138,7 +138,10 @@ impl Machine {
         match *ask {
             Ask::PutContent(bytes) => match ready {
                 Ready::Refused(refusal) => self.refuse(refusal),
-                Ready::Content { id, frame } => self.judge_content(alloc, who, id, bytes, frame),
+                Ready::Content { id, frame } => {
+                    keep_bytes(bytes);
+                    self.judge_content(alloc, who, id, bytes.len() as u32, frame)
+                }
                 _ => unreachable!(),
             },
             Ask::PutChangeset(_) => match ready {
@@ -172,7 +175,7 @@ impl Machine {
 }
 
 // Bytes are below 256.
-fn keep_bytes(bytes: &[u8])
+pub(crate) fn keep_bytes(bytes: &[u8])
     ensures { are_bytes bytes.now ≡ true }
 {
     let _bytes = bytes;
@@ -204,7 +207,7 @@ fn ready_content(alloc: Global, bytes: &[u8]) -> Result<Ready, AllocError>
 }
 
 // The record of a content of at most 1,048,576 bytes.
-pub(crate) fn content_frame(alloc: Global, id: Id, bytes: &[u8]) -> Result<Vec<u8>, AllocError>
+fn content_frame(alloc: Global, id: Id, bytes: &[u8]) -> Result<Vec<u8>, AllocError>
     requires id { id ≡ sha256 bytes.now }
     requires short { length bytes.now ≤ MOST_CONTENT }
     ensures { IfOk result (λ frame. Frames (Some (Content id (length bytes.now))) frame.items) }
@@ -223,7 +226,7 @@ fn ready_changeset(alloc: Global, bytes: &[u8]) -> Result<Ready, AllocError>
 }
 
 // A changeset that these bytes spell, with their record.
-pub(crate) fn framed_changeset(
+fn framed_changeset(
     alloc: Global,
     commit: Commit,
     bytes: &[u8],

@@ -19,13 +19,13 @@ ghost use Rattle.repo_machine.specs.Plans.{rebased_of, landing_in, told_where, f
 use crate::frame::Frame;
 use crate::judged::{Judged, LandMade, Made};
 use crate::plan::Plan;
-use crate::preparing::land_made;
+use crate::records::LandRecord;
 use bonsai::Commit;
 use held_policy::DeniedAt;
 use object_id::Id;
 use rebase_stack::{rebase, rebase_into, rebased_length};
 use repo_calls::{DeniedPlace, Granted, Landed, Refusal};
-use repo_events::{FRAME, Landing, LandingHead, MOST_PAYLOAD, begin_landing, landing_length};
+use repo_events::{FRAME, LandingHead, MOST_PAYLOAD, begin_landing, landing_length};
 use repo_path::{BookName, RepoPath};
 use std::alloc::{AllocError, Global};
 use std::marker::Model;
@@ -77,18 +77,9 @@ impl Plan {
         let told_length = self.payload_length(Some(&self.caller), told);
         let (new, frame) = self.recorded(alloc, moment, told, length, told_length)?;
         let ids = ids_of(alloc, new.as_slice())?;
-        let name = self.name.copy(alloc)?;
         let touched = copies(alloc, self.touched.as_slice())?;
-        let landing = Landing {
-            name,
-            old: self.old,
-            draft: self.draft,
-            new,
-            moment: told,
-            caller: None,
-        };
         Ok(Rebased {
-            landing: land_made(alloc, landing)?,
+            landing: self.landing(alloc, told, new)?,
             caller: self.caller.copy(alloc)?,
             asked: moment,
             ids,
@@ -96,6 +87,30 @@ impl Plan {
             length,
             told_length,
             frame,
+        })
+    }
+
+    // The landing of these changesets, with memory for their numbers. It tells no caller yet.
+    fn landing(
+        &self,
+        alloc: Global,
+        told: Option<u64>,
+        new: Vec<Commit>,
+    ) -> Result<LandMade, AllocError>
+        ensures made { IfOk result (λ made. landing_made made ≡ record { name = self.now.name; old = self.now.old; draft = self.now.draft; new = new.items; moment = told; caller = None }) }
+        ensures ready { IfOk result HasNumbers }
+    {
+        let kept = LandRecord {
+            name: self.name.copy(alloc)?,
+            old: self.old,
+            draft: self.draft,
+            numbers: Vec::with_capacity(alloc, new.len())?,
+            moment: told,
+            caller: None,
+        };
+        Ok(LandMade {
+            kept: Box::new(alloc, kept)?,
+            new: shared(alloc, new)?,
         })
     }
 
@@ -307,6 +322,18 @@ fn landed(who: u64, landing: LandMade, ids: Vec<Id>, frame: Frame) -> Judged
         made: Some(Made::Land(landing)),
         frame,
     }
+}
+
+// The same changesets, shared.
+fn shared(alloc: Global, commits: Vec<Commit>) -> Result<Vec<Arc<Commit>>, AllocError>
+    ensures { IfOk result (λ shared. values shared.items ≡ commits.items) }
+{
+    let mut shared = Vec::with_capacity(alloc, commits.len())?;
+    let mut rest = commits.into_iter();
+    'commits: while let Some(commit) = rest.next() {
+        shared.push(Arc::new(alloc, commit)?)?;
+    }
+    Ok(shared)
 }
 
 fn copies(alloc: Global, paths: &[RepoPath]) -> Result<Vec<RepoPath>, AllocError>

@@ -5,7 +5,7 @@ ghost use Rattle.disk_model.specs.Images.{IsImage};
 ghost use Rattle.disk_model.specs.Calls.{Kept, LeavesOnly, Looked};
 ghost use Rattle.history_model.specs.History.{is_down};
 ghost use Rattle.reply_model.specs.After.{Asks, Replies};
-ghost use Rattle.reply_model.specs.Reply.{Ask as ModelAsk};
+ghost use Rattle.reply_model.specs.Reply.{Ask as ModelAsk, PutContent};
 ghost use Rattle.repo_calls.specs.Asking.{is_disk_fault, is_misread, is_unread, stored_answer};
 ghost use Rattle.repo_calls.specs.Calls.{call_seen, granted_seen};
 ghost use Rattle.repo_machine.specs.Entering.{Judges};
@@ -21,7 +21,7 @@ use crate::state::RepoState;
 use blob_disk::Disk;
 use bonsai::Commit;
 use repo_calls::{Ask, ChangeFault, Granted, Refusal};
-use repo_machine::{Found, Judged, Prepared, Wanted, prepare};
+use repo_machine::{Found, FramedContent, Judged, Prepared, Wanted, prepare};
 use repo_path::RepoPath;
 use settled_merge::left_unresolved;
 use std::alloc::{AllocError, Global};
@@ -154,6 +154,40 @@ impl<D: Disk> RepoState<D> {
         ensures core { StoresCall self.old.header self.old.history self.old.sealed who (asked_by prepared.entry) (stored_answer result) self.new.history }
     {
         let judged = match self.machine.judge_prepared(alloc, who, prepared, found) {
+            Ok(judged) => judged,
+            Err(refusal) => return Err(ChangeFault::Refused(refusal)),
+        };
+        match self.enter(judged) {
+            Ok(granted) => Ok(granted),
+            Err(refusal) => Err(ChangeFault::Refused(refusal)),
+        }
+    }
+
+    /// Stores a content that is in its record, as `store` does: its bytes aren't hashed and copied here, and the disk isn't
+    /// asked for anything.
+    pub fn store_framed(
+        &mut self,
+        alloc: Global,
+        who: u64,
+        content: FramedContent,
+    ) -> Result<Granted, ChangeFault>
+        ensures reply { Replies self.old.header self.old.history who (Asks (PutContent content)) (stored_answer result) self.new.history }
+        ensures header { self.new.header ≡ self.old.header }
+        ensures opening { self.new.opening ≡ self.old.opening }
+        ensures table { self.new.table ≡ self.old.table }
+        ensures sealed { self.new.sealed ≡ self.old.sealed }
+        ensures sound { IsSound self.new.opening self.new.history self.new.sealed self.new.disk }
+        ensures left { self.new.left ≡ self.old.left }
+        ensures leaves_now { LeavesNow self.new }
+        ensures disk { self.new.disk ≡ self.old.disk }
+        ensures undone { is_disk_fault result ≡ false }
+        ensures unread { is_unread result ≡ false }
+        ensures misread { is_misread result ≡ false }
+
+        // It is these steps of the repository of many seats.
+        ensures core { StoresCall self.old.header self.old.history self.old.sealed who (Asks (PutContent content)) (stored_answer result) self.new.history }
+    {
+        let judged = match self.machine.judge_framed(alloc, who, content) {
             Ok(judged) => judged,
             Err(refusal) => return Err(ChangeFault::Refused(refusal)),
         };

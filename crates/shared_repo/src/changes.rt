@@ -5,9 +5,10 @@
 ghost use Rattle.std.specs.Prelude.{◌≡◌, ◌≤◌, false, IsTrue, None};
 ghost use Rattle.bookmark_lock.specs.Place.{moved};
 ghost use Rattle.bookmark_lock.specs.Turns.{IsTurn};
-ghost use Rattle.reply_model.specs.After.{After, Replies};
+ghost use Rattle.reply_model.specs.After.{After, Asks, Replies};
+ghost use Rattle.reply_model.specs.Reply.{PutContent};
 ghost use Rattle.repo_calls.specs.Calls.{call_seen};
-ghost use Rattle.repo_machine.specs.Prepared.{IsPrepared, asked_by};
+ghost use Rattle.repo_machine.specs.Prepared.{asked_by};
 ghost use Rattle.repo_calls.specs.Asking.{is_disk_fault, is_misread, is_unread, stored_answer};
 ghost use Rattle.repo_state.specs.Asking.{is_join};
 ghost use Rattle.shared_repo.specs.Front.{IsFront, history_of, opening_of, sealed_of};
@@ -17,10 +18,11 @@ use crate::repo::Repo;
 use crate::seat::RepoSeat;
 use crate::turns::{Placed, TurnChange};
 use blob_disk::Disk;
+use bonsai::MOST_CONTENT;
 use bookmark_lock::Seat;
-use ports::Gate;
+use ports::{Gate, NoGate};
 use repo_calls::{Ask, ChangeFault, Granted, Refusal};
-use repo_machine::{Prepared, prepare};
+use repo_machine::{FramedContent, prepare};
 use repo_state::RepoState;
 use std::alloc::Global;
 use std::sync::Wait;
@@ -87,22 +89,51 @@ impl<D: Disk> Repo<D> {
             return Err(ChangeFault::Refused(Refusal::Memory));
         };
         self.derive_parents(rt, alloc, seat, &prepared);
-        self.store_prepared(rt, alloc, seat, prepared)
+        self.store_ready(rt, alloc, seat, prepared)
     }
 
-    // The same of a change that is ready.
-    #[tactic(auto, using(crate::proofs::LastTurns::turn_front))]
-    fn store_prepared<R: Wait>(
+    /// Stores a content that is handed over, as `change` does. Its record is made in the room of its bytes.
+    #[tactic(auto, using(crate::proofs::Sealings::memory_sealed))]
+    pub fn put_owned<R: Wait>(
         &self,
         rt: &R,
         alloc: Global,
         seat: &mut RepoSeat,
-        prepared: Prepared<'_>,
+        bytes: Vec<u8>,
     ) -> Result<Granted, ChangeFault>
         requires place { seat.old.lock ≡ self.now }
-        requires ready { IsPrepared prepared }
         ensures seat { seat.new ≡ moved seat.old seat.new }
-        ensures sealed { IsSealedAfter self.now.opening.header seat.old.front seat.old.number (asked_by prepared.entry) (stored_answer result) seat.new.front seat.new.sealed }
+        ensures after { After self.now.opening.header seat.old.front seat.old.number (Asks (PutContent bytes.items)) (stored_answer result) seat.new.front }
+        ensures sealed { IsSealedAfter self.now.opening.header seat.old.front seat.old.number (Asks (PutContent bytes.items)) (stored_answer result) seat.new.front seat.new.sealed }
+        ensures seals { seat.old.sealed ≤ seat.new.sealed }
+        ensures stands { UnlessRefused result (IsLastTurn self.now.opening seat.old (is_disk_fault result) seat.new) }
+        ensures honest { IsTrue self.now.opening.honest → is_misread result ≡ false }
+        ensures front { IsFront self.now.opening seat.new.front }
+    {
+        if bytes.len() as u64 > MOST_CONTENT {
+            return self.change(rt, alloc, seat, &Ask::PutContent(bytes.as_slice()), &NoGate);
+        }
+        // It keeps its rules.
+        let _ = seat.inner.number();
+        let Ok(content) = FramedContent::new(bytes) else {
+            return Err(ChangeFault::Refused(Refusal::Memory));
+        };
+        self.store_ready(rt, alloc, seat, content)
+    }
+
+    // Stores what is ready.
+    #[tactic(auto, using(crate::proofs::LastTurns::turn_front))]
+    fn store_ready<R: Wait, C: TurnChange<D>>(
+        &self,
+        rt: &R,
+        alloc: Global,
+        seat: &mut RepoSeat,
+        change: C,
+    ) -> Result<Granted, ChangeFault>
+        requires place { seat.old.lock ≡ self.now }
+        requires ready { C.ready change }
+        ensures seat { seat.new ≡ moved seat.old seat.new }
+        ensures sealed { IsSealedAfter self.now.opening.header seat.old.front seat.old.number (C.asked change) (stored_answer result) seat.new.front seat.new.sealed }
         ensures seals { seat.old.sealed ≤ seat.new.sealed }
         ensures stands { UnlessRefused result (IsLastTurn self.now.opening seat.old (is_disk_fault result) seat.new) }
         ensures honest { IsTrue self.now.opening.honest → is_misread result ≡ false }
@@ -110,7 +141,7 @@ impl<D: Disk> Repo<D> {
     {
         // It keeps its rules.
         let _ = seat.inner.number();
-        let entered = self.enter_change(rt, alloc, &mut seat.inner, prepared);
+        let entered = self.enter_change(rt, alloc, &mut seat.inner, change);
         self.answer_sealed(rt, &mut seat.inner, entered)
     }
 

@@ -77,6 +77,11 @@ impl<'a, R: Wait, D: Disk, G: Gate> Seat for Served<'a, R, D, G> {
             .change(self.rt, alloc, &mut self.seat, ask, self.gate)
     }
 
+    #[tactic(auto, using(repo_calls::proofs::Honest::honest_change))]
+    fn put_content(&mut self, alloc: Global, bytes: Vec<u8>) -> Result<Granted, ChangeFault> {
+        self.repo.put_owned(self.rt, alloc, &mut self.seat, bytes)
+    }
+
     #[tactic(auto, using(repo_calls::proofs::Honest::honest_look))]
     fn look(&mut self, alloc: Global, question: &Question) -> Result<Seen, AskFault> {
         self.repo.look(self.rt, alloc, &mut self.seat, question)

@@ -7,7 +7,7 @@ ghost use Rattle.history_model.specs.Bookmark.{head};
 ghost use Rattle.history_model.specs.History.{changeset_of, known};
 ghost use Rattle.reply_model.specs.After.{Answer, Answers, Asks, Call, Looks, Replies, nothing};
 ghost use Rattle.reply_model.specs.Reply as reply;
-ghost use Rattle.reply_model.specs.Reply.{ChangesetOf, ContentOf, LandDraft};
+ghost use Rattle.reply_model.specs.Reply.{ChangesetOf, ContentOf, LandDraft, PutContent};
 ghost use Rattle.repo_machine.specs.Plans.{IsPlan, WasPlanned};
 ghost use Rattle.repo_machine.specs.Prepared.{IsPrepared, asked_by};
 ghost use Rattle.repo_calls.specs.Asking.{IsAnswer, fault_answer, is_bad_bytes, is_disk_fault, is_misread, question_seen, stored_answer};
@@ -20,7 +20,7 @@ use blob_disk::Disk;
 use bonsai::Commit;
 use object_id::Id;
 use repo_calls::{AskFault, ChangeFault, Granted, Question, Refusal, Seen};
-use repo_machine::{Plan, Prepared, Rebased};
+use repo_machine::{FramedContent, Plan, Prepared, Rebased};
 use repo_path::BookName;
 use repo_state::{Exchanged, ReadContent, RepoState};
 use std::alloc::Global;
@@ -101,6 +101,25 @@ impl<D: Disk> TurnChange<D> for Prepared<'_> {
         let granted = state.store_prepared(alloc, who, self);
         let added = differ(before, state.history_length());
         (added, with_counts(state, granted))
+    }
+}
+
+impl<D: Disk> TurnChange<D> for FramedContent {
+    ghost asked = { λ content. Asks (PutContent content) };
+
+    ghost ready = { λ _. Unit {0} };
+
+    #[tactic(auto, using(crate::proofs::Made::change_adds))]
+    fn store_in(
+        self,
+        state: &mut RepoState<D>,
+        alloc: Global,
+        who: u64,
+    ) -> (bool, Result<Placed, ChangeFault>) {
+        let before = state.history_length();
+        let stored = state.store_framed(alloc, who, self);
+        let added = differ(before, state.history_length());
+        (added, with_counts(state, stored))
     }
 }
 
