@@ -14,7 +14,7 @@ use std::alloc::{AllocError, Global};
 use unode::UnodeEntry;
 
 // The fewest entries of which a directory is wide.
-const WIDE: u32 = 128;
+const WIDE: u32 = 16;
 
 // The fewest bytes of an entry: the length of a name, a byte of it, and an id.
 const SHORTEST_ENTRY: usize = 34;
