@@ -7,7 +7,7 @@ import queue
 import threading
 from collections.abc import Callable
 from concurrent.futures import Future
-from contextlib import suppress
+from contextlib import closing, suppress
 from typing import TypeVar
 
 from .refusals import Fault
@@ -54,7 +54,7 @@ class Pool:
         for _ in self.threads:
             self.waiting.put((STOP, next(self.order), None))
         for server in self.servers:
-            server.connection.close()
+            server.cut()
 
     def ask(self, call: Callable[[Server], Answer], *, urgent: bool = False) -> Future[Answer]:
         """Has a connection make a call."""
@@ -65,19 +65,19 @@ class Pool:
 
     def work(self, server: Server) -> None:
         """What the thread of one connection does."""
-        try:
-            server.log(0)
-        except Exception as fault:
-            self.greeted.put(fault)
-            return
-        self.greeted.put(None)
-        while task := self.next_task(server):
-            call, future = task
+        with closing(server):
             try:
-                future.set_result(call(server))
+                server.log(0)
             except Exception as fault:
-                future.set_exception(fault)
-        server.close()
+                self.greeted.put(fault)
+                return
+            self.greeted.put(None)
+            while task := self.next_task(server):
+                call, future = task
+                try:
+                    future.set_result(call(server))
+                except Exception as fault:
+                    future.set_exception(fault)
 
     def next_task(self, server: Server) -> tuple[Callable, Future] | None:
         """The next task; one that would wait for a new connection is left to the others first."""

@@ -8,7 +8,7 @@ import select
 import socket
 import time
 from collections.abc import Iterator, Sequence
-from contextlib import contextmanager
+from contextlib import contextmanager, suppress
 from dataclasses import dataclass
 from typing import IO, Any
 from urllib.parse import quote, urlsplit
@@ -108,6 +108,8 @@ class Server:
             raise Trouble(f"{url} is no URL of a server: {fault}") from None
         self.last_used = 0.0
         self.sent = 0
+        self.is_cut = False
+        """Whether it was ended by another thread than the one that asks."""
 
     def another(self) -> Server:
         """A connection of its own to the same server."""
@@ -117,6 +119,17 @@ class Server:
         """Ends the connection; the next request makes a new one."""
         self.connection.close()
         self.sent = 0
+
+    def cut(self) -> None:
+        """Ends it for the thread that asks: what is asked now, and later, ends with NotReached.
+
+        The socket is that thread's to close, which may be looking at it.
+        """
+        self.is_cut = True
+        link = self.connection.sock
+        if link:
+            with suppress(OSError):
+                socket.socket.shutdown(link, socket.SHUT_RDWR)
 
     def ask(
         self,
@@ -132,7 +145,7 @@ class Server:
             try:
                 return self.ask_once(method, target, body, derives, out)
             except Fault as fault:
-                if not is_passing(fault):
+                if self.is_cut or not is_passing(fault):
                     raise
             time.sleep(seconds)
         return self.ask_once(method, target, body, derives, out)
@@ -170,10 +183,17 @@ class Server:
         if self.connection.sock:
             self.connection.sock.settimeout(seconds)
         named = {"Caller": self.caller} if self.caller and method != "GET" else {}
+        self.need_whole()
         self.connection.request(method, target, body=body, headers={"Accept": "*/*", **named})
+        self.need_whole()
         if derives:
             wait_for_answer(self.connection.sock, "deriving", seconds)
         return self.connection.getresponse()
+
+    def need_whole(self) -> None:
+        """Refuses to go on where it was cut, also while it was being made."""
+        if self.is_cut:
+            raise NotReached(f"the connection to {self.url} was ended")
 
     def refresh(self, length: int) -> None:
         """Ends a connection that the server would end, or has, before a request is on its way."""

@@ -209,6 +209,59 @@ class Waiting(Case):
                 time.sleep(0.5)
 
 
+class Ending(Case):
+    """A pool ends while its connections are at work. Nothing is told of that."""
+
+    def setUp(self) -> None:
+        super().setUp()
+        self.faults: list[object] = []
+        enter(self, mock.patch.object(threading, "excepthook", self.faults.append))
+
+    def assert_ended(self, pool: Pool) -> None:
+        for thread in pool.threads:
+            thread.join(10)
+            self.assertFalse(thread.is_alive())
+        self.assertEqual(self.faults, [])
+        self.assertEqual([one.connection.sock for one in pool.servers], [None] * len(pool.servers))
+
+    def test_while_a_connection_is_looked_at(self):
+        looks, ended = threading.Event(), threading.Event()
+        has_ended = server.has_ended
+
+        def look(link: socket.socket | None) -> bool:
+            looks.set()
+            ended.wait(10)
+            return has_ended(link)
+
+        with Pool(Server(self.server), 1) as pool, mock.patch.object(server, "has_ended", look):
+            pool.ask(lambda one: one.log(0))
+            self.assertTrue(looks.wait(10))
+        with mock.patch.object(server, "has_ended", look):
+            ended.set()
+            self.assert_ended(pool)
+
+    def test_while_connections_wait_for_a_lane(self):
+        """The lane is free at once, and not when the thread whose connection had it comes to its end."""
+        narrow = self.special(lanes=1)
+        ended, working = threading.Event(), []
+
+        def call(_: Server) -> None:
+            working.append(threading.current_thread())
+            ended.wait(20)
+
+        with Pool(Server(narrow.url), 3) as pool:
+            pool.ask(call)
+            while not working:
+                time.sleep(0.01)
+        for thread in pool.threads:
+            if thread not in working:
+                thread.join(10)
+                self.assertFalse(thread.is_alive())
+        ended.set()
+        self.assert_ended(pool)
+        self.assertEqual(Server(narrow.url).log(0).total, 0)
+
+
 class Told(Case):
     """What is told while something takes long."""
 
