@@ -5,15 +5,13 @@ use object_id::Id;
 use std::alloc::{AllocError, Global};
 use std::test::Fail;
 
-const FILES: u32 = 1000;
-
 // The fsnode of the files 0000, 0001 and so on, each of its own name as the content, but for one of which it is `new`.
-fn fsnode_with(alloc: Global, new: u32) -> Result<Vec<u8>, AllocError> {
+fn fsnode_with(alloc: Global, files: u32, new: u32) -> Result<Vec<u8>, AllocError> {
     let mut bytes = Vec::new(alloc);
     bytes.extend_from_slice(&[0x46, 1])?;
     bytes.extend_from_slice(&[0; 40])?;
-    bytes.extend_from_slice(&FILES.to_be_bytes())?;
-    for number in 0..FILES {
+    bytes.extend_from_slice(&files.to_be_bytes())?;
+    for number in 0..files {
         let name = format!(in alloc; "{number:04}")?;
         let content = if number == new {
             Id::of(b"new")
@@ -51,31 +49,55 @@ fn content(table: &NodeTable, bytes: &[u8], name: &str) -> Option<Id> {
     }
 }
 
-// Both versions are read byte for byte, and each has its own content of the changed file.
+// Both versions of so many files are read byte for byte, and each has its own content of the changed file.
+fn two_versions_of(alloc: Global, files: u32, changed: u32) -> Result<(), Fail> {
+    let mut table = NodeTable::new(alloc);
+    let first = fsnode_with(alloc, files, files)?;
+    let second = fsnode_with(alloc, files, changed)?;
+    settle(alloc, &mut table, 1, &first)?;
+    settle(alloc, &mut table, 2, &second)?;
+    let name = format!(in alloc; "{changed:04}")?;
+    is_version(alloc, &table, &first, &name, Id::of(name.as_bytes()))?;
+    is_version(alloc, &table, &second, &name, Id::of(b"new"))
+}
+
+// A version is read byte for byte. It has this content under the name, each other file's own, and no other files.
+fn is_version(
+    alloc: Global,
+    table: &NodeTable,
+    bytes: &[u8],
+    name: &str,
+    set: Id,
+) -> Result<(), Fail> {
+    match table.get(alloc, &Id::of(bytes))? {
+        Some(node) if node.as_slice() == bytes => (),
+        _ => return Err(Fail::from("other bytes")),
+    }
+    if content(table, bytes, name) != Some(set) {
+        return Err(Fail::from("another content of the changed file"));
+    }
+    for other in ["0000", "0001", "0013"] {
+        if content(table, bytes, other) != Some(Id::of(other.as_bytes())) {
+            return Err(Fail::from("another content of a file that wasn't changed"));
+        }
+    }
+    for other in ["", "000", "00000", "0007a", "9999"] {
+        if content(table, bytes, other).is_some() {
+            return Err(Fail::from("a file that isn't there"));
+        }
+    }
+    Ok(())
+}
+
+// From the fewest that are kept in parts, over the fewest that are many, to more.
 #[test]
 fn two_versions(rt: HostRuntime) -> Result<(), Fail> {
     let alloc = rt.alloc();
-    let mut table = NodeTable::new(alloc);
-    let first = fsnode_with(alloc, FILES)?;
-    let second = fsnode_with(alloc, 777)?;
-    settle(alloc, &mut table, 1, &first)?;
-    settle(alloc, &mut table, 2, &second)?;
-    for (bytes, changed) in [(&first, Id::of(b"0777")), (&second, Id::of(b"new"))] {
-        match table.get(alloc, &Id::of(bytes))? {
-            Some(node) => assert_eq!(rt; node.as_slice(), bytes.as_slice()),
-            None => assert!(rt; false),
-        }
-        assert_eq!(rt; content(&table, bytes, "0777"), Some(changed));
-        for name in ["0000", "0776", "0778", "0999"] {
-            assert_eq!(rt;
-                content(&table, bytes, name),
-                Some(Id::of(name.as_bytes())),
-                "of {name}"
-            );
-        }
-        for name in ["", "000", "00000", "0777a", "1000"] {
-            assert_eq!(rt; content(&table, bytes, name), None, "of {name}");
-        }
+    for files in [15, 16, 17, 100, 1000, 2047, 2048, 3000] {
+        two_versions_of(alloc, files, files - 1)?;
+    }
+    for changed in [2, 12, 14] {
+        two_versions_of(alloc, 40, changed)?;
     }
     Ok(())
 }
