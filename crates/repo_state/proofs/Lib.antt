@@ -25,6 +25,7 @@ pub mod Stepping
 pub mod JoinAnswers
 pub mod Crashing
 pub mod Served
+pub mod AloneSteps
 pub mod Known
 pub mod Reading
 pub mod Settling

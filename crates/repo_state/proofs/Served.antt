@@ -356,17 +356,17 @@ ungranted {header} {h} {call} {new} n left (changes.BadBytes wanted found) all m
     }
 
 -- the disk was read, or not even that
-pub ungranted_leaves : (header : Header) (h new : List Entry) (n : ℕ) (m after : Meaning) → IsSealedAlone h n → n ≤ length (bodies h) → bodies new ≡ bodies h → is_down new ≡ is_down h → (is_down h ≡ true → after ≡ m)
-    → ((image : List ℕ) → IsImage after.state image → StandsNow header new n image) → LeavesOnly (IsImage after.state) m after → LeavesChange header h new m after
-ungranted_leaves header h new n m after all most same down still stands only = by (is_down h) refl
+pub ungranted_leaves : (header : Header) (h front new : List Entry) (n : ℕ) (m after : Meaning) → IsSealedAlone h n → n ≤ length (bodies h) → bodies front ≡ bodies h → is_down front ≡ is_down h → (is_down h ≡ true → after ≡ m)
+    → ((image : List ℕ) → IsImage after.state image → StandsNow header front n image) → LeavesOnly (IsImage after.state) m after → LeavesChange header h new m after
+ungranted_leaves header h front new n m after all most same down still stands only = by (is_down h) refl
   where
     by : (t : Bool) → is_down h ≡ t → LeavesChange header h new m after
     by true e = subst (λ (d : Meaning). LeavesChange header h new m d) (sym (still e)) (leaves_nothing m)
     by false e = leaves_map m after (λ image is. (
         let least = all.0 e in
         let whole : n ≡ length (bodies h) = omega arith in
-        let part : bodies (sealed_part n new) ≡ bodies h = ap (λ g. bodies g) (part_same n new h same) ∙ ap (λ k. bodies (sealed_part k h)) whole ∙ part_whole h in
-        inl (elim (stands image is) as (λ _. Stands header image h) [ inl sealed ↦ stands-same header image (sealed_part n new) h part sealed | inr all ↦ absurd (true≢false (sym all.0 ∙ down ∙ e)) ]))) only
+        let part : bodies (sealed_part n front) ≡ bodies h = ap (λ g. bodies g) (part_same n front h same) ∙ ap (λ k. bodies (sealed_part k h)) whole ∙ part_whole h in
+        inl (elim (stands image is) as (λ _. Stands header image h) [ inl sealed ↦ stands-same header image (sealed_part n front) h part sealed | inr all ↦ absurd (true≢false (sym all.0 ∙ down ∙ e)) ]))) only
 
 -- ---- what is told of the seal, of the values before the change
 

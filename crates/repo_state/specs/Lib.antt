@@ -8,3 +8,4 @@ pub mod Exchanging
 pub mod Trees
 pub mod Cores
 pub mod Alone
+pub mod AloneSteps

@@ -1,23 +1,28 @@
 //! A repository that is served alone.
-ghost use Rattle.std.specs.Prelude.{◌≡◌, ◌≤◌, ◌||◌, IsTrue, IfOk, false, length};
+ghost use Rattle.std.specs.Prelude.{◌≡◌, ◌≤◌, ◌||◌, IsTrue, IfOk, Ok, false, length};
 ghost use Rattle.ports.specs.Faults.{Counts};
 ghost use Rattle.disk_model.specs.Calls.{Kept, Looked};
 ghost use Rattle.history_model.specs.History.{bodies};
 ghost use Rattle.bookmark_lock.specs.Opening.{Opening};
+ghost use Rattle.reply_model.specs.After.{Asks, Call};
+ghost use Rattle.reply_model.specs.Reply.{PutContent};
 ghost use Rattle.repo_calls.proofs.Honest.{honestly};
 ghost use Rattle.repo_calls.specs.Calls.{call_seen, granted_seen};
 ghost use Rattle.repo_calls.specs.Asking.{stored_answer, is_disk_fault, is_misread, is_unread};
 ghost use Rattle.repo_calls.specs.Replying.{Honestly};
 ghost use Rattle.repo_state.specs.Asking.{is_join};
 ghost use Rattle.repo_state.specs.Alone.{RepliesAlone, replying_alone};
+ghost use Rattle.repo_state.specs.AloneSteps.{IsSealedFor, IsStored};
 ghost use Rattle.repo_state.specs.Cores.{StoresCallAlone};
 ghost use Rattle.repo_state.specs.Images.{LeavesChange};
-ghost use Rattle.repo_state.specs.State.{IsSealedAlone, IsSound, LeavesNow};
+ghost use Rattle.repo_state.specs.State.{State, IsSealedAlone, IsSound, LeavesNow};
 ghost use Rattle.repo_state.specs.Trees.{LandsAs};
 
 use crate::state::RepoState;
 use blob_disk::Disk;
-use repo_calls::{Ask, AskFault, ChangeFault, Granted, Question, Seat, Seen};
+use bonsai::MOST_CONTENT;
+use repo_calls::{Ask, AskFault, ChangeFault, Granted, Question, Refusal, Seat, Seen};
+use repo_machine::FramedContent;
 use std::alloc::Global;
 use std::marker::Model;
 
@@ -101,12 +106,71 @@ impl<D: Disk> Alone<D> {
         // What is sealed is stored, and the header is that of the opening.
         let _stored = self.state.stored_length();
         let _length = self.state.history_length();
-        let granted = match self.state.store(alloc, 0, ask) {
-            Ok(granted) => granted,
-            Err(fault) => return Err(fault),
-        };
-        let stored = self.state.stored_length();
-        match self.state.seal(0, stored) {
+        let stored = self.state.store(alloc, 0, ask);
+        self.state.seal_stored(stored)
+    }
+
+    /// Stores a content that is in its record, and seals its entry, if it makes one, before it is answered, as `store` does.
+    /// Its bytes aren't hashed and copied here.
+    pub fn store_framed(
+        &mut self,
+        alloc: Global,
+        content: FramedContent,
+    ) -> Result<Granted, ChangeFault>
+        ensures reply { RepliesAlone self.old.header self.old.history 0 (Asks (PutContent content)) (stored_answer result) self.new.history }
+        ensures header { self.new.header ≡ self.old.header }
+        ensures opening { self.new.opening ≡ self.old.opening }
+        ensures table { self.new.table ≡ self.old.table }
+        ensures sound { IsSound self.new.opening self.new.history self.new.sealed self.new.disk }
+        ensures leaves_now { LeavesNow self.new }
+
+        // What is granted is sealed.
+        ensures sealed { IfOk result (λ granted. length (bodies self.new.history) ≤ self.new.sealed) }
+
+        // Where it is refused, and where the content was stored before, all is left as it was.
+        ensures same { is_disk_fault result ≡ false → self.new.history ≡ self.old.history → self.new.disk ≡ self.old.disk }
+
+        // Each image stood for the history before or after.
+        ensures leaves { IsTrue self.old.disk.honest → LeavesChange self.old.header self.old.history self.new.history self.old.disk self.new.disk }
+        ensures kept { Kept self.old.disk self.new.disk }
+
+        // The disk fails it only where a call of it failed, and nothing is read for it.
+        ensures faults { Counts self.old.disk.faults self.new.disk.faults (is_disk_fault result) }
+        ensures unread { is_unread result ≡ false }
+        ensures misread { is_misread result ≡ false }
+
+        // It is these steps of the repository of many seats.
+        ensures core { StoresCallAlone self.old.header self.old.history self.old.sealed self.old.left (Asks (PutContent content)) (stored_answer result) self.new.history self.new.sealed self.new.left }
+    {
+        // What is sealed is stored.
+        let _stored = self.state.stored_length();
+        let entered = self.state.store_framed(alloc, 0, content);
+        self.state.seal_stored(entered)
+    }
+}
+
+impl<D: Disk> RepoState<D> {
+    // Seals the entry of a change of the only seat, if it made one, and answers the change.
+    fn seal_stored(&mut self, stored: Result<Granted, ChangeFault>) -> Result<Granted, ChangeFault>
+        ensures header { self.new.header ≡ self.old.header }
+        ensures opening { self.new.opening ≡ self.old.opening }
+        ensures table { self.new.table ≡ self.old.table }
+        ensures sound { IsSound self.new.opening self.new.history self.new.sealed self.new.disk }
+        ensures leaves_now { LeavesNow self.new }
+        ensures kept { Kept self.old.disk self.new.disk }
+        ensures sealed { IfOk result (λ granted. length (bodies self.new.history) ≤ self.new.sealed) }
+        ensures granted { IfOk result (λ granted. (stored ≡ Ok granted) × (self.new.history ≡ self.old.history)) }
+        ensures unread { is_unread result ≡ is_unread stored }
+        ensures misread { is_misread result ≡ is_misread stored }
+
+        // Whichever change it was.
+        ensures change { (before : State) (call : Call) → IsStored before call stored self.old → IsSealedFor before call self.old result self.new }
+    {
+        // It keeps its rules.
+        let _ = &self.disk;
+        let granted = stored?;
+        let upto = self.stored_length();
+        match self.seal(0, upto) {
             Ok(()) => Ok(granted),
             Err(_) => Err(ChangeFault::DiskFault),
         }
@@ -129,6 +193,17 @@ impl<D: Disk> Seat for Alone<D> {
 
     fn change(&mut self, alloc: Global, ask: &Ask) -> Result<Granted, ChangeFault> {
         self.store(alloc, ask)
+    }
+
+    #[tactic(auto, using(repo_calls::proofs::Honest::honest_change, crate::proofs::AloneSteps::alone_memory))]
+    fn put_content(&mut self, alloc: Global, bytes: Vec<u8>) -> Result<Granted, ChangeFault> {
+        if bytes.len() as u64 > MOST_CONTENT {
+            return self.store(alloc, &Ask::PutContent(bytes.as_slice()));
+        }
+        let Ok(content) = FramedContent::new(bytes) else {
+            return Err(ChangeFault::Refused(Refusal::Memory));
+        };
+        self.store_framed(alloc, content)
     }
 
     fn look(&mut self, alloc: Global, question: &Question) -> Result<Seen, AskFault> {
