@@ -11,7 +11,7 @@ from typing import Any
 
 from . import VERSION
 from .changesets import CannotSpell, SelfConflict
-from .commands import copies, large, policies, reading, writing
+from .commands import backout, copies, large, policies, reading, writing
 from .commands.options import span
 from .fields import BadEncoding
 from .output import Output, as_json, clean
@@ -34,6 +34,7 @@ EXAMPLES = """examples:
   jarrah checkout main folder
   cd folder; jarrah status; jarrah diff; jarrah commit -m 'what I changed'
   jarrah log main
+  jarrah backout 4f0c2a main
   jarrah import-git ~/src/project project
   jarrah browse
 
@@ -71,7 +72,7 @@ def parser() -> argparse.ArgumentParser:
         one.set_defaults(run=run)
         return one
 
-    for module in (writing, copies, reading, policies, large):
+    for module in (writing, backout, copies, reading, policies, large):
         module.add(add)
     return top
 

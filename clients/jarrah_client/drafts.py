@@ -16,9 +16,9 @@ from .changesets import Changeset, File, Kind, refuse_path
 from .contents import Source, in_file, in_memory, in_stream, store_all
 from .names import resolve
 from .paths import is_bookmark_name, path_key
-from .refusals import Refused
+from .refusals import Refused, about
 from .repository import need_head
-from .server import Server, Trouble
+from .server import Landed, Server, Trouble
 from .trees import Tree, tree_of
 
 ROOT = Changeset((), "jarrah", 0, 0, "")
@@ -140,6 +140,12 @@ def head_for_commit(server: Server, bookmark: str) -> str:
     """The head that a commit is made onto."""
     need_name(bookmark)
     return need_head(server, bookmark)
+
+
+def land(server: Server, bookmark: str, draft: str) -> Landed:
+    """Lands a draft that was made for it, which a refusal names."""
+    with about(f"draft {draft}"):
+        return server.land(bookmark, draft)
 
 
 def need_name(name: str) -> None:

@@ -2,12 +2,13 @@
 
 from __future__ import annotations
 
-from collections.abc import Container, Iterable, Iterator
+from collections.abc import Callable, Container, Iterable, Iterator
 from dataclasses import dataclass
 from heapq import heappop, heappush
 from typing import Any
 
 from .changesets import Changeset
+from .progress import Progress
 from .server import Server, Trouble
 
 LEAST_ABBREVIATION = 6
@@ -38,6 +39,8 @@ class Log:
         self.changesets: dict[str, None] = {}
         self.landings: dict[str, Landing] = {}
         """Landed changesets, with the first landing of each."""
+        self.parents: dict[str, str] = {}
+        """The parent of each landed changeset: no merge is landed."""
 
     def read_on(self) -> None:
         """Reads the entries that are new."""
@@ -69,8 +72,9 @@ class Log:
             self.changesets.update(dict.fromkeys(entry["ids"]))
             self.bookmarks[entry["name"]] = entry["ids"][-1]
             landing = Landing(entry["name"], entry["number"], entry.get("moment"))
-            for id in entry["ids"]:
+            for parent, id in zip([entry["old"], *entry["ids"]], entry["ids"]):
                 self.landings.setdefault(id, landing)
+                self.parents[id] = parent
         elif entry["kind"] == "bookmark":
             if entry["to"] is None:
                 self.bookmarks.pop(entry["name"], None)
@@ -144,14 +148,45 @@ def parents_first(changesets: Iterable[Changeset]) -> list[Changeset]:
 
 def last_known_first(server: Server, id: str, places: dict[str, int]) -> Iterator[Changeset]:
     """A changeset and all that it reaches through parents, by falling places."""
+    read: dict[str, Changeset] = {}
+    for one in last_ids_first(id, places, lambda id: read.pop(id).parents):
+        read[one] = server.changeset(one)
+        yield read[one]
+
+
+def last_ids_first(
+    id: str, places: dict[str, int], parents: Callable[[str], Iterable[str]]
+) -> Iterator[str]:
+    """The same by ids. The parents of each are asked for once it was given out."""
     waiting, seen = [(-places[id], id)], {id}
     while waiting:
-        changeset = server.changeset(heappop(waiting)[1])
-        yield changeset
-        for parent in changeset.parents:
+        one = heappop(waiting)[1]
+        yield one
+        for parent in parents(one):
             if parent not in seen:
                 seen.add(parent)
                 heappush(waiting, (-places[parent], parent))
+
+
+def is_reached(server: Server, log: Log, head: str, id: str) -> bool:
+    """Whether a head reaches a changeset through parents.
+
+    The log knows the parents of what was landed. Those of others are read, back to where the
+    changeset came to be known: nothing that is known before it stands on it.
+    """
+    log.read_on()
+    places = log.places()
+    at = places.get(id, len(places))
+    with Progress("changesets", None) as progress:
+
+        def parents(one: str) -> Iterable[str]:
+            if one in log.parents:
+                return (log.parents[one],)
+            progress.step()
+            return server.changeset(one).parents
+
+        line = last_ids_first(head, places, parents)
+        return next((one for one in line if places[one] <= at), None) == id
 
 
 def chain(server: Server, id: str) -> Iterator[Changeset]:

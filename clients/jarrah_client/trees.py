@@ -46,7 +46,7 @@ class Tree(Protocol):
 
 
 class FsnodeTree:
-    """A tree by fsnodes, each directory read once."""
+    """A tree by fsnodes, each directory read once; those that aren't there are asked for once."""
 
     source = "fsnodes"
 
@@ -54,10 +54,18 @@ class FsnodeTree:
         self.server = server
         self.id = id
         self.nodes = {"": root}
+        self.absent: set[str] = set()
 
     def node(self, path: str) -> Fsnode:
+        if path in self.absent:
+            raise no_path()
         if path not in self.nodes:
-            self.nodes[path] = self.server.fsnode(self.id, path)
+            try:
+                self.nodes[path] = self.server.fsnode(self.id, path)
+            except Refused as refusal:
+                if refusal.code == "no-path":
+                    self.absent.add(path)
+                raise
         return self.nodes[path]
 
     def list(self, path: str) -> Listing:

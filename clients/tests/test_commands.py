@@ -28,7 +28,7 @@ from .harness import (
 from .test_encoding import ABC
 
 COMMANDS = (
-    "init draft land commit bookmark checkout status update rebase amend revert resolve"
+    "init draft land commit bookmark backout checkout status update rebase amend revert resolve"
     " log entries ls cat history copies diff policy import-git export-git browse gateway"
 ).split()
 

@@ -3,6 +3,7 @@
 from __future__ import annotations
 
 from argparse import Namespace
+from collections.abc import Iterable
 from typing import Any
 
 from .. import drafts
@@ -13,7 +14,7 @@ from ..log_cache import CachedLog
 from ..names import resolve
 from ..output import Output, changeset_document, counted, day
 from ..reads import refuse_stale
-from ..refusals import WrongWords, about
+from ..refusals import WrongWords
 from ..repository import need_head
 from ..server import Landed, Server
 from .copies import commit_folder, land_folder, need_copy
@@ -118,19 +119,24 @@ def commit_named(options: Namespace, name: str, server: Server, out: Output) -> 
         refuse_stale(server, name, base, written.changes)
     changeset = drafts.upload(server, options, base, written)
     tell_deleted(options, changeset, out)
-    with about(f"draft {changeset.id}"):
-        landed = server.land(name, changeset.id)
+    landed = drafts.land(server, name, changeset.id)
     gone = [path for path, file in changeset.changes.items() if not file]
     tell_landed(landed, name, out, {"deleted": gone} if options.recursive else {})
 
 
-def tell_landed(landed: Landed, name: str, out: Output, further: dict[str, Any] = {}) -> None:
-    """Tells the new head of a landing, and the changesets that led there."""
-    lines = [f"landed {counted(len(landed.ids), 'changeset')}: {name} is at {landed.head}"]
+def tell_landed(
+    landed: Landed,
+    name: str,
+    out: Output,
+    further: dict[str, Any] = {},
+    lines: Iterable[str] = (),
+) -> None:
+    """Tells the new head of a landing, the changesets that led there, and what more there is."""
+    first = [f"landed {counted(len(landed.ids), 'changeset')}: {name} is at {landed.head}"]
     if len(landed.ids) > 1:
-        lines += [f"    {id}" for id in landed.ids]
+        first += [f"    {id}" for id in landed.ids]
     document = {"bookmark": name, "head": landed.head, "ids": landed.ids, "old": landed.old}
-    out.tell(document | further, lines)
+    out.tell(document | further, [*first, *lines])
 
 
 def bookmark(options: Namespace, server: Server, out: Output) -> None:

@@ -4,30 +4,18 @@ from __future__ import annotations
 
 from dataclasses import dataclass, field, replace
 
-from ..changesets import Changeset, File
-from ..contents import fetched, in_memory
-from ..paths import is_above, path_key
-from ..reads import file_at
-from ..refusals import Refused
+from ..contents import fetched
+from ..paths import path_key
 from ..repository import need_head
 from ..server import Server, Trouble
 from ..text_diff import has_marks
-from ..trees import Tree, tree_of
+from ..trees import tree_of
 from . import disk
-from .merging import merge_file
 from .moves import move
+from .onto import Onto, put_onto, store
 from .scan import look_into, scan
 from .stack import need_bookmark, need_no_conflict, need_settled, take, upload
 from .state import Rebase, WorkingCopy
-
-
-@dataclass
-class Onto:
-    """A draft's changes on another parent: files, new bytes, and conflicts with their reasons."""
-
-    changes: dict[str, File | None] = field(default_factory=dict)
-    contents: dict[str, bytes] = field(default_factory=dict)
-    conflicts: dict[str, str] = field(default_factory=dict)
 
 
 @dataclass
@@ -63,7 +51,8 @@ def go_on(copy: WorkingCopy, server: Server, done: Rebased, left: list[str]) -> 
     parent = done.drafts[-1] if done.drafts else done.head
     for number, id in enumerate(left):
         draft = server.changeset(id)
-        onto = put_onto(server, draft, parent)
+        before = tree_of(server, draft.parent) if draft.parent else None
+        onto = put_onto(server, draft.changes, before, tree_of(server, parent))
         if onto.conflicts:
             stop(copy, server, done, onto, parent)
             copy.state.rebase = Rebase(id, left[number + 1 :], begun.root, begun.drafts)
@@ -80,12 +69,6 @@ def go_on(copy: WorkingCopy, server: Server, done: Rebased, left: list[str]) -> 
     return done
 
 
-def store(server: Server, changeset: Changeset, onto: Onto) -> str:
-    """Uploads a draft on its new parent."""
-    upload(server, changeset, {id: in_memory(id, data) for id, data in onto.contents.items()})
-    return changeset.id
-
-
 def stop(copy: WorkingCopy, server: Server, done: Rebased, onto: Onto, parent: str) -> None:
     """Brings the folder to the new parent, with the draft's changes and conflicts in it."""
     move(copy, server, parent)
@@ -98,45 +81,6 @@ def stop(copy: WorkingCopy, server: Server, done: Rebased, onto: Onto, parent: s
             disk.put(copy.top, path, file, fetched(server, file) if data is None else data)
     copy.state.root, copy.state.drafts = done.head, list(done.drafts)
     copy.state.conflicts = sorted(onto.conflicts, key=path_key)
-
-
-def put_onto(server: Server, draft: Changeset, parent: str) -> Onto:
-    """A draft's changes on another parent."""
-    before = tree_of(server, draft.parent) if draft.parent else None
-    there = tree_of(server, parent)
-    onto = Onto()
-    for path, ours in draft.changes.items():
-        was, theirs = file_at(before, path) if before else None, file_at(there, path)
-        merge = merge_file(lambda file: server.content(file.content), was, ours, theirs)
-        why = merge.conflict or (ours and in_the_way(before, there, draft, path))
-        if why:
-            onto.conflicts[path] = why
-        if merge.file != theirs:
-            onto.changes[path] = merge.file
-        if merge.data is not None and merge.file:
-            onto.contents[merge.file.content] = merge.data
-    return onto
-
-
-def in_the_way(before: Tree | None, there: Tree, draft: Changeset, path: str) -> str | None:
-    """Which file that a set would take away is another than the draft saw."""
-    for other in taken_away(there, path):
-        seen = file_at(before, other) if before else None
-        if seen != file_at(there, other) and other not in draft.changes:
-            return f"{other} is in its way there"
-    return None
-
-
-def taken_away(tree: Tree, path: str) -> list[str]:
-    """The files above and under a path."""
-    elements = path.split("/")
-    above = ["/".join(elements[:count]) for count in range(1, len(elements))]
-    found = [front for front in above if file_at(tree, front)]
-    try:
-        tree.list(path)
-    except Refused:
-        return found
-    return found + [other for other, _ in tree.files(path) if is_above(path, other)]
 
 
 def proceed(copy: WorkingCopy, server: Server) -> Rebased:

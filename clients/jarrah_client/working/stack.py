@@ -5,10 +5,11 @@ from __future__ import annotations
 from collections.abc import Iterable
 from dataclasses import dataclass, field
 
+from .. import drafts
 from ..changesets import Changeset, File
 from ..contents import Source, store_all
 from ..paths import path_key
-from ..refusals import Refused, about
+from ..refusals import Refused
 from ..server import Landed, Server, Trouble
 from ..trees import Tree, tree_of
 from .moves import Moved, move
@@ -114,8 +115,7 @@ def land(copy: WorkingCopy, server: Server) -> tuple[Landed, Moved]:
     if not copy.state.drafts:
         raise Trouble(f"there are no drafts to land on {name}")
     try:
-        with about(f"draft {draft}"):
-            landed = server.land(name, draft)
+        landed = drafts.land(server, name, draft)
     except Refused as refusal:
         if refusal.code == "already-in":
             copy.state.root, copy.state.drafts = draft, []
