@@ -11,7 +11,7 @@ from typing import Any
 
 from . import VERSION
 from .changesets import CannotSpell, SelfConflict
-from .commands import backout, copies, large, policies, reading, writing
+from .commands import annotate, backout, copies, large, policies, reading, writing
 from .commands.options import span
 from .fields import BadEncoding
 from .output import Output, as_json, clean
@@ -72,7 +72,7 @@ def parser() -> argparse.ArgumentParser:
         one.set_defaults(run=run)
         return one
 
-    for module in (writing, backout, copies, reading, policies, large):
+    for module in (writing, backout, copies, reading, annotate, policies, large):
         module.add(add)
     return top
 

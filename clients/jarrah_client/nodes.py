@@ -52,6 +52,8 @@ class Unode:
     linknode: str
     entries: dict[str, str] | None
     """A directory's nodes by name; None for a file."""
+    content: str | None = None
+    """A file's content; None for a directory."""
 
 
 def encode_fsnode(node: Fsnode) -> bytes:
@@ -139,12 +141,12 @@ def decode_file_unode(data: bytes) -> Unode:
     fields = Fields(data)
     fields.marks(FILE_UNODE_MARK, VERSION)
     parents = decode_parents(fields)
-    fields.id()
+    content = fields.id()
     fields.number_in(1, 0, 2)
     fields.id()
     linknode = fields.id()
     fields.end()
-    return Unode(parents, linknode, None)
+    return Unode(parents, linknode, None, content)
 
 
 def decode_parents(fields: Fields) -> tuple[str, ...]:

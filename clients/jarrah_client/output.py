@@ -17,6 +17,7 @@ from .repository import Landing
 
 
 PAINTED = re.compile(r"(\x1b\[[0-9;]+m)(.*)(\x1b\[0m)", re.DOTALL)
+ADDRESS = re.compile(r"\s*<[^>]*>\s*$")
 
 
 class Output:
@@ -73,6 +74,11 @@ def date(seconds: int, offset: int) -> str:
 def day(seconds: int, offset: int) -> str:
     """The day of a date."""
     return date(seconds, offset)[:10]
+
+
+def person(author: str) -> str:
+    """An author's name, without the address."""
+    return ADDRESS.sub("", author) or author
 
 
 def title(message: str) -> str:

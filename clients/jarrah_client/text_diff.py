@@ -5,8 +5,11 @@ from __future__ import annotations
 import difflib
 import subprocess
 import tempfile
+from bisect import bisect_left
+from collections import Counter
 from collections.abc import Callable, Iterator
 from dataclasses import dataclass
+from itertools import pairwise
 from pathlib import Path
 
 from .paths import is_text
@@ -17,6 +20,8 @@ MARKS = (b"<<<<<<< ", b"=======", b">>>>>>> ")
 Paint = Callable[[str, str], str]
 """Gives a line the colour of its tag."""
 NO_END = "\\ No newline at end of file"
+WIDTHS = (1, 4, 16)
+"""Lines are looked for that are there once; then so many in a row."""
 
 
 @dataclass(frozen=True)
@@ -197,12 +202,82 @@ def stretches(
 
 
 def places(base: list[str], other: list[str]) -> dict[int, int]:
-    """Where lines of the base are in another text."""
-    found = {}
-    matcher = difflib.SequenceMatcher(None, base, other, autojunk=False)
-    for here, there, length in matcher.get_matching_blocks():
-        found.update({here + step: there + step for step in range(length)})
+    """Where lines of the base are in another text; both rise together.
+
+    Equal ends are taken off, what is left is cut at lines that both have once, and so on.
+    """
+    found: dict[int, int] = {}
+    waiting = [(0, len(base), 0, len(other))]
+    while waiting:
+        here, last, there, end = waiting.pop()
+        length = front(base[here:last], other[there:end])
+        found.update(zip(range(here, here + length), range(there, there + length)))
+        here, there = here + length, there + length
+        if here == last or there == end:
+            continue
+        length = front(base[here:last][::-1], other[there:end][::-1])
+        last, end = last - length, end - length
+        found.update(zip(range(last, last + length), range(end, end + length)))
+        left, right = base[here:last], other[there:end]
+        cuts = [(here + at, there + it) for at, it in anchors(left, right)]
+        if not cuts:
+            found.update((here + at, there + it) for at, it in matched(left, right))
+            continue
+        bounds = pairwise([(here, there), *cuts, (last, end)])
+        waiting += [(i, j, k, m) for (i, k), (j, m) in bounds]
     return found
+
+
+def front(left: list[str], right: list[str]) -> int:
+    """How many lines at the beginning of two texts are equal."""
+    differ = (number for number, (one, other) in enumerate(zip(left, right)) if one != other)
+    return next(differ, min(len(left), len(right)))
+
+
+def matched(left: list[str], right: list[str]) -> Iterator[tuple[int, int]]:
+    """Where lines of two texts are equal, by difflib, which is slow where lines are there often."""
+    matcher = difflib.SequenceMatcher(None, left, right, autojunk=False)
+    for here, there, length in matcher.get_matching_blocks():
+        yield from zip(range(here, here + length), range(there, there + length))
+
+
+def anchors(left: list[str], right: list[str]) -> list[tuple[int, int]]:
+    """Where lines that each of two texts has once are in both, the most that rise together.
+
+    Where no line is so, then some lines in a row. Of those behind one another the first is given.
+    """
+    for width in WIDTHS:
+        here, there = once(left, width), once(right, width)
+        found = rising([(here[lines], there[lines]) for lines in here if lines in there])
+        if found:
+            followers = {(at + 1, it + 1) for at, it in found}
+            return [pair for pair in found if pair not in followers]
+    return []
+
+
+def once(lines: list[str], width: int) -> dict[tuple[str, ...], int]:
+    """So many lines in a row that are there once, in order, and where they are."""
+    rows = list(zip(*(lines[start:] for start in range(width))))
+    counts = Counter(rows)
+    return {row: number for number, row in enumerate(rows) if counts[row] == 1}
+
+
+def rising(pairs: list[tuple[int, int]]) -> list[tuple[int, int]]:
+    """The longest part of some pairs, whose first numbers rise, in which the second rise too."""
+    ends: list[int] = []
+    tops: list[int] = []
+    before: list[int] = []
+    for number, (_, end) in enumerate(pairs):
+        length = bisect_left(ends, end)
+        ends[length : length + 1] = [end]
+        tops[length : length + 1] = [number]
+        before.append(tops[length - 1] if length else -1)
+    found = []
+    number = tops[-1] if tops else -1
+    while number >= 0:
+        found.append(pairs[number])
+        number = before[number]
+    return found[::-1]
 
 
 def ended(lines: list[str]) -> list[str]:

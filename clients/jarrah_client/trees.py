@@ -2,8 +2,9 @@
 
 from __future__ import annotations
 
-from collections.abc import Iterable, Iterator
-from typing import Protocol
+from collections.abc import Callable, Iterable, Iterator
+from functools import partial
+from typing import Protocol, TypeVar
 
 from .changesets import Changeset, File
 from .folded import (
@@ -22,6 +23,8 @@ from .progress import Progress
 from .refusals import Refused
 from .repository import parents_first, reached
 from .server import Server
+
+Told = TypeVar("Told")
 
 
 class Tree(Protocol):
@@ -101,15 +104,31 @@ class FsnodeTree:
         return other
 
 
-def tree_of(server: Server, id: str, *, fold: bool = False) -> Tree:
-    """The tree of a changeset: by fsnodes where the server has that route, else folded."""
+def by_nodes_or_past(
+    server: Server,
+    id: str,
+    fold: bool,
+    by_nodes: Callable[[], Told],
+    by_past: Callable[[list[Changeset]], Told],
+) -> Told:
+    """What manifests tell of a changeset; where there are none, or `fold` is said, its past."""
     if not fold:
         try:
-            return FsnodeTree(server, id, server.fsnode(id))
+            return by_nodes()
         except Refused as refusal:
             if refusal.code != "no-route":
                 raise
-    return folded(whole_past(server, id))
+    return by_past(whole_past(server, id))
+
+
+def tree_of(server: Server, id: str, *, fold: bool = False) -> Tree:
+    """The tree of a changeset: by fsnodes where the server has that route, else folded."""
+    return by_nodes_or_past(server, id, fold, lambda: fsnode_tree(server, id), folded)
+
+
+def fsnode_tree(server: Server, id: str) -> Tree:
+    """The tree of a changeset by fsnodes."""
+    return FsnodeTree(server, id, server.fsnode(id))
 
 
 def last_changes(server: Server, id: str, base: str, names: Iterable[str]) -> dict[str, str]:
@@ -119,24 +138,14 @@ def last_changes(server: Server, id: str, base: str, names: Iterable[str]) -> di
 
 def history_of(server: Server, id: str, path: str, *, fold: bool = False) -> list[str]:
     """The changesets that set a file, newest first, back to where it began."""
-    if not fold:
-        try:
-            return server.history(id, path)
-        except Refused as refusal:
-            if refusal.code != "no-route":
-                raise
-    return folded_history(whole_past(server, id), path)
+    by_nodes = partial(server.history, id, path)
+    return by_nodes_or_past(server, id, fold, by_nodes, lambda past: folded_history(past, path))
 
 
 def path_log_of(server: Server, id: str, path: str, *, fold: bool = False) -> list[str]:
     """The changesets that set a file or took it away, newest first, also before that."""
-    if not fold:
-        try:
-            return server.path_log(id, path)
-        except Refused as refusal:
-            if refusal.code != "no-route":
-                raise
-    return folded_path_log(whole_past(server, id), path)
+    by_nodes = partial(server.path_log, id, path)
+    return by_nodes_or_past(server, id, fold, by_nodes, lambda past: folded_path_log(past, path))
 
 
 def fate(changeset: Changeset, path: str) -> str:

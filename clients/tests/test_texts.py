@@ -6,9 +6,10 @@ import io
 import random
 import subprocess
 from contextlib import redirect_stdout
+from itertools import pairwise
 
 from jarrah_client.output import Output
-from jarrah_client.text_diff import by_lines, merged, unified
+from jarrah_client.text_diff import by_lines, merged, places, unified
 
 from .harness import Case
 from .test_working import LINES, with_line
@@ -60,3 +61,18 @@ class Texts(Case):
         marks = b"<<<<<<< here\nours\n=======\ntheirs\n>>>>>>> there\n"
         self.assertEqual(found, LINES.replace(b"line 4\n", marks))
         self.assertEqual(merged(b"\0", b"\1\0", b"\2\0", names), (b"\1\0", False))
+
+    def test_places(self):
+        chooser = random.Random(6)
+        for kinds in (3, 12, 10**9) * 100:
+            lines = [[chooser.randrange(kinds) for _ in range(chooser.randrange(40))] for _ in "12"]
+            shared = sorted({chooser.randrange(10**9, 10**10) for _ in range(9)})
+            old, new = ([*map(str, sorted([*some, *shared]))] for some in lines)
+            found = sorted(places(old, new).items())
+            self.assertTrue(all(old[here] == new[there] for here, there in found))
+            self.assertTrue(all(one[1] < other[1] for one, other in pairwise(found)))
+            self.assertLessEqual({*map(str, shared)}, {old[here] for here, _ in found})
+            chooser.shuffle(new)
+            found = sorted(places(old, new).items())
+            self.assertTrue(all(old[here] == new[there] for here, there in found))
+            self.assertTrue(all(one[1] < other[1] for one, other in pairwise(found)))

@@ -1,0 +1,74 @@
+"""The subcommand that tells who brought each line of a file."""
+
+from __future__ import annotations
+
+from argparse import Namespace
+from collections.abc import Iterator
+from pathlib import Path
+from typing import Any
+
+from ..annotate import Line, annotated
+from ..names import resolve
+from ..output import Output, clean, date, day, person
+from ..refusals import WrongWords, about
+from ..server import Server
+from .options import REVISION, Add, add_fold
+
+ID_DIGITS = 12
+
+
+def add(add: Add) -> None:
+    """Adds the subcommand."""
+    one = add("annotate", annotate, "tell which changeset brought each line of a file")
+    one.add_argument(
+        "revision",
+        nargs="?",
+        metavar="id",
+        help=f"{REVISION}; in a working copy, its base where it is left out",
+    )
+    one.add_argument("path", help="a file; where the id is left out, as it is named in the folder")
+    one.add_argument(
+        "--no-follow",
+        dest="follows",
+        action="store_false",
+        help="don't go on at what the file was copied or renamed from",
+    )
+    add_fold(one)
+
+
+def annotate(options: Namespace, server: Server, out: Output) -> None:
+    """Tells the lines of a file, each with the changeset that brought it."""
+    id, path = place_of(options, server)
+    with about(path):
+        lines = annotated(server, id, path, fold=options.fold, follows=options.follows)
+    for document, line in zip(documents(lines), columns(lines)):
+        out.tell(document, line)
+
+
+def place_of(options: Namespace, server: Server) -> tuple[str, str]:
+    """The changeset and the path that are meant."""
+    if options.revision is not None:
+        return resolve(server, options.revision), options.path.strip("/")
+    if options.copy is None:
+        raise WrongWords("name a changeset before the path, or work in a working copy")
+    return options.copy.state.base, options.copy.path_of(Path(options.path))
+
+
+def documents(lines: list[Line]) -> Iterator[dict[str, Any]]:
+    """Lines for scripts, numbered from 1."""
+    for number, line in enumerate(lines, 1):
+        by = line.changeset
+        document = {"id": by.id, "author": by.author, "date": date(by.seconds, by.offset)}
+        yield document | {"line": number, "text": line.text}
+
+
+def columns(lines: list[Line]) -> Iterator[str]:
+    """The same for people."""
+    names = [clean(person(line.changeset.author)) for line in lines]
+    width = max(map(len, names), default=0)
+    digits = len(str(len(lines)))
+    for number, (name, line) in enumerate(zip(names, lines), 1):
+        by = line.changeset
+        head = f"{by.id[:ID_DIGITS]}  {name:<{width}}  {day(by.seconds, by.offset):<10}"
+        text = f"  {line.text}" if line.text else ""
+        yield f"{head}  {number:>{digits}}{text}"
