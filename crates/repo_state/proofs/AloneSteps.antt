@@ -9,7 +9,7 @@ use Rattle.disk_model.specs.Calls.{LeavesOnly}
 use Rattle.history_model.specs.History.{Entry, bodies, is_down}
 use Rattle.history_model.specs.Journal.{Header}
 use Rattle.reply_model.specs.After.{Call, Memory, nothing}
-use Rattle.repo_calls.specs.Asking.{stored_answer, is_disk_fault}
+use Rattle.repo_calls.specs.Asking.{stored_answer}
 use Rattle.repo_calls.specs.declared.ask.Granted.{Granted}
 use Rattle.repo_calls.specs.declared.calls.ChangeFault.{ChangeFault}
 use Rattle.repo_calls.specs.declared.calls.ChangeFault.TheVariants as changes

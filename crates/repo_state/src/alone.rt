@@ -195,7 +195,7 @@ impl<D: Disk> Seat for Alone<D> {
         self.store(alloc, ask)
     }
 
-    #[tactic(auto, using(repo_calls::proofs::Honest::honest_change, crate::proofs::AloneSteps::alone_memory))]
+    #[tactic(auto, using(crate::proofs::AloneSteps::alone_memory))]
     fn put_content(&mut self, alloc: Global, bytes: Vec<u8>) -> Result<Granted, ChangeFault> {
         if bytes.len() as u64 > MOST_CONTENT {
             return self.store(alloc, &Ask::PutContent(bytes.as_slice()));

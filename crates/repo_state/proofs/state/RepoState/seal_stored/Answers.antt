@@ -1,4 +1,4 @@
-use Rattle.std.proofs.Common.{◌≤◌, refl, subst, arith}
+use Rattle.std.proofs.Common.{refl, subst, arith}
 use Rattle.std.proofs.lemmas.Result.{err_from_is_err_and}
 use Rattle.repo_state.specs.AloneSteps.{IsStored}
 use Rattle.repo_state.proofs.AloneSteps.{sealed_err, sealed_ok, sealed_failed}
