@@ -2,10 +2,10 @@
 
 from __future__ import annotations
 
-from collections.abc import Iterator
+from collections.abc import Callable, Iterator
 from dataclasses import dataclass
-from functools import cache, partial
-from typing import Protocol
+from functools import cache
+from typing import Protocol, TextIO
 
 from .changesets import MOST_CONTENT_BYTES, Changeset
 from .folded import along, folded
@@ -50,10 +50,10 @@ class Versions(Protocol):
 class NodeVersions:
     """Versions by unodes."""
 
-    def __init__(self, server: Server, id: str):
+    def __init__(self, server: Server, tree: Tree, changeset: Callable[[str], Changeset]):
         self.server = server
-        self.tree = fsnode_tree(server, id)
-        self.changeset = cache(server.changeset)
+        self.tree = tree
+        self.changeset = cache(changeset)
 
     def at(self, id: str, path: str) -> Version | None:
         try:
@@ -70,8 +70,8 @@ class NodeVersions:
 class FoldedVersions:
     """Versions that are folded from a past, those of each path once."""
 
-    def __init__(self, past: list[Changeset]):
-        self.tree = folded(past)
+    def __init__(self, past: list[Changeset], tree: Tree | None = None):
+        self.tree = tree or folded(past)
         self.changeset = {changeset.id: changeset for changeset in past}.__getitem__
         self.along = cache(lambda path: along(past, path))
 
@@ -81,18 +81,34 @@ class FoldedVersions:
         return Version(maker, path, file.content, not found[maker].before) if file else None
 
 
+def versions_of(server: Server, id: str, *, fold: bool = False) -> Versions:
+    """The versions of a changeset's files: by unodes where the server has them, else folded."""
+
+    def by_nodes() -> Versions:
+        return NodeVersions(server, fsnode_tree(server, id), server.changeset)
+
+    return by_nodes_or_past(server, id, fold, by_nodes, FoldedVersions)
+
+
 def annotated(
-    server: Server, id: str, path: str, *, fold: bool = False, follows: bool = True
+    server: Server,
+    versions: Versions,
+    id: str,
+    path: str,
+    *,
+    follows: bool = True,
+    out: TextIO | None = None,
 ) -> list[Line]:
-    """The lines of a file of a changeset's tree, each with the changeset that brought it."""
-    by_nodes = partial(NodeVersions, server, id)
-    versions: Versions = by_nodes_or_past(server, id, fold, by_nodes, FoldedVersions)
+    """The lines of a file of a changeset's tree, each with the changeset that brought it.
+
+    Its progress is told on `out`, or on standard error.
+    """
     file = versions.tree.file(path)
     if file.size > MOST_CONTENT_BYTES:
         raise Trouble(f"it has {file.size:,} bytes, over {MOST_CONTENT_BYTES:,}, and so no lines")
     start = versions.at(id, path)
     assert start
-    return Walk(server, versions, follows).told(start)
+    return Walk(server, versions, follows, out).told(start)
 
 
 class Walk:
@@ -103,10 +119,11 @@ class Walk:
     takes its place.
     """
 
-    def __init__(self, server: Server, versions: Versions, follows: bool):
+    def __init__(self, server: Server, versions: Versions, follows: bool, out: TextIO | None):
         self.server = server
         self.versions = versions
         self.follows = follows
+        self.out = out
         self.lines = cache(self.read)
         self.known: dict[str, str] = {}
         """Each line that was read, so that equal ones of many versions are held once."""
@@ -129,7 +146,7 @@ class Walk:
         """Who brought each line of a version."""
         found = [start.maker] * len(self.lines(start.content))
         waiting = {start: {number: number for number in range(len(found))}} if found else {}
-        with Progress("versions", None) as progress:
+        with Progress("versions", None, self.out) as progress:
             while waiting:
                 version = max(waiting, key=self.moment)
                 left = waiting.pop(version)

@@ -4,6 +4,7 @@ from __future__ import annotations
 
 import http.client
 import json
+import re
 import shutil
 import subprocess
 import sys
@@ -11,7 +12,9 @@ from html.parser import HTMLParser
 from urllib.parse import quote, urlsplit
 
 from jarrah_client.server import Server
+from jarrah_client.web.annotations import annotate
 from jarrah_client.web.library import Library, Question
+from jarrah_client.web.routes import READS
 
 from .harness import ENVIRONMENT, PROGRAM, Case, fresh, jarrah
 from .test_encoding import ABC
@@ -102,6 +105,18 @@ class Browse(Case):
         place = self.write("page.js", script.encode())
         subprocess.run([node, "--check", place], check=True, capture_output=True)
 
+    def test_its_links_have_views_and_its_questions_routes(self):
+        script = self.fetch("/")[2].decode()
+        views = re.findall(r"\w+", re.search(r"const views = \{(.*)\};", script)[1])
+        kinds = set(re.findall(r'place\("(\w+)"', script))
+        self.assertIn("annotate", kinds)
+        for kind in kinds:
+            self.assertIn(kind, views)
+            self.assertIn(f"async function {kind}(", script)
+        asked = set(re.findall(r'\bask\(["`](\w+)', script))
+        self.assertIn("annotate", asked)
+        self.assertLessEqual(asked, {route.path.split("/")[2] for route in READS})
+
     def test_bookmarks(self):
         found = {one["name"]: one["head"] for one in self.api("bookmarks")["bookmarks"]}
         self.assertEqual((found[self.name]["id"], found[self.name]["changes"]), (self.head, 1))
@@ -148,11 +163,25 @@ class Browse(Case):
         raw = self.fetch(f"/raw/{self.head}/dir/raw")
         self.assertEqual(raw, (200, "application/octet-stream", b"\xff\0"))
 
+    def test_who_brought_lines(self):
+        new = self.write("new", b"new\n\nabc")
+        head = self.ask("commit", self.name, "--set", f"dir/ä b.txt={new}")["head"]
+        found = self.api(f"annotate/{self.name}/dir/ä b.txt")
+        self.assertEqual([one["id"] for one in found["changesets"]], [head, self.first])
+        runs = [(run["changeset"], run["texts"]) for run in found["lines"]]
+        self.assertEqual(runs, [(0, ["new", ""]), (1, ["abc"])])
+        before = self.api(f"annotate/{self.head}/dir/ä b.txt")
+        self.assertEqual(before["lines"], [{"changeset": 0, "texts": ["abc"]}])
+        self.assertEqual(before["changesets"], found["changesets"][1:])
+
     def test_what_is_not_there(self):
         for target, status, words in (
             ("/nothing", 404, "no such page"),
             ("/api/nothing/x", 404, "no such page"),
             (f"/api/file/{self.head}/none", 404, "none: there is nothing at this path"),
+            (f"/api/annotate/{self.head}/none", 404, "none: there is nothing at this path"),
+            (f"/api/annotate/{self.head}/dir", 404, "dir: the path is a directory"),
+            (f"/api/annotate/{self.head}/dir/raw", 404, "dir/raw: it is no text"),
             (f"/raw/{self.head}/none", 404, "there is nothing"),
             (f"/api/tree/{self.head}/run", 404, "run: the path is a file"),
             ("/api/log/absent", 404, "no bookmark"),
@@ -174,6 +203,9 @@ class Browse(Case):
             self.assertEqual([one["name"] for one in listed], ["b"])
             self.assertEqual(visit.last(Question(id, "a")), {"last": {}})
             self.assertEqual(visit.file(Question(id, "a/b"))["text"], "abc")
+            found = annotate(visit, Question(id, "a/b"))
+            self.assertEqual([one["id"] for one in found["changesets"]], [id])
+            self.assertEqual(found["lines"], [{"changeset": 0, "texts": ["abc"]}])
 
     def test_this_machine_alone(self):
         self.assertEqual(self.url.hostname, "127.0.0.1")

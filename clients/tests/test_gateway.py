@@ -12,14 +12,19 @@ import sys
 import threading
 import time
 from contextlib import nullcontext
+from itertools import pairwise
 from typing import Any
+from unittest import mock
 from urllib.parse import quote, urlsplit
 
 from jarrah_client.changesets import Changeset, CopySource, File
 from jarrah_client.server import Server
+from jarrah_client.web.annotations import annotate
+from jarrah_client.web.library import Library, Question
 from jarrah_client.web.routes import OPENAPI, READS, WRITES
 
 from .harness import ENVIRONMENT, PROGRAM, Case, fresh, jarrah
+from .test_annotate import Annotating
 from .test_encoding import ABC
 
 DOCUMENT = json.loads(OPENAPI.read_text())
@@ -303,6 +308,96 @@ class Gateway(GatewayCase):
             self.assertEqual(response.headers["Content-Type"], kind)
             self.assertIn("sandbox", response.headers["Content-Security-Policy"])
             connection.close()
+
+
+class Lines(GatewayCase, Annotating):
+    """Who brought each line of a file."""
+
+    def brought(self, answer: dict[str, Any]) -> str:
+        """Each line of an answer with the name of who brought it."""
+        names = [self.names[one["id"]] for one in answer["changesets"]]
+        places = [run["changeset"] for run in answer["lines"]]
+        self.assertEqual([*dict.fromkeys(places)], [*range(len(set(names)))])
+        self.assertTrue(all(one != other for one, other in pairwise(places)), answer)
+        runs = ((names[run["changeset"]], run["texts"]) for run in answer["lines"])
+        return " ".join(f"{name}:{text}" for name, texts in runs for text in texts)
+
+    def test_lines(self):
+        id = self.line(b"a\nb\nc\n", b"a\nB\nc\nd\n\n\te\r\n")
+        found = self.got(f"/api/annotate/{id}/f")
+        texts = ((0, ["a"]), (1, ["B"]), (0, ["c"]), (1, ["d", "", "\te\r"]))
+        wanted = [{"changeset": place, "texts": run} for place, run in texts]
+        self.assertEqual((found["id"], found["path"], found["lines"]), (id, "f", wanted))
+        self.assertEqual(found["changesets"], self.got(f"/api/log/{id}")["changesets"][::-1])
+        self.ok("bookmark", self.name, "--to", id)
+        for name in (self.name, id[:12], id.upper()):
+            self.assertEqual(self.got(f"/api/annotate/{name}/f"), found)
+
+    def test_names_and_an_empty_file(self):
+        id = self.put("one", **{"dir/ä b": "ö".encode(), "empty": b""})
+        self.assertEqual(self.brought(self.got(f"/api/annotate/{id}/dir/ä b")), "one:ö")
+        found = self.got(f"/api/annotate/{id}/empty")
+        self.assertEqual(found, {"id": id, "path": "empty", "changesets": [], "lines": []})
+
+    def test_a_rename(self):
+        self.needs_copies()
+        first = self.line(b"a\nb\n")
+        id = self.put("moved", first, copies={"g": (0, "f")}, f=None, g=b"a\nB\n")
+        for query, wanted in (
+            ("", "v0:a moved:B"),
+            ("?follow=1", "v0:a moved:B"),
+            ("?follow=0", "moved:a moved:B"),
+        ):
+            self.assertEqual(self.brought(self.got(f"/api/annotate/{id}/g{query}")), wanted)
+        status, answer = self.fetch("GET", f"/api/annotate/{id}/g?follow=no")
+        self.assertEqual((status, answer["error"]), (400, "follow is 'no', and no number"))
+
+    def test_a_merge(self):
+        self.server = self.merging()
+        self.connect()
+        base = self.put("base", f=b"a\nb\n")
+        left = self.put("left", base, f=b"left\na\nb\n")
+        right = self.put("right", base, f=b"a\nb\nright\n")
+        merge = self.put("merge", left, right, f=b"left\na\nmerge\nb\nright\n")
+        wanted = "left:left base:a merge:merge base:b right:right"
+        for fold in (False, True):
+            with Library(Server(self.server), fold).connected() as visit:
+                self.assertEqual(self.brought(annotate(visit, Question(merge, "f"))), wanted)
+
+    def test_what_is_kept_is_not_read_again(self):
+        self.needs_manifests()
+        id = self.line(b"a\n", b"a\nb\n", b"a\nb\nc\n")
+        library = Library(Server(self.server), fold=False)
+        refuses = {"side_effect": AssertionError("it is kept")}
+        with library.connected() as visit:
+            found = annotate(visit, Question(id, "f"))
+        with (
+            mock.patch.object(Server, "changeset", **refuses),
+            mock.patch.object(Server, "fsnode", **refuses),
+            library.connected() as visit,
+        ):
+            self.assertEqual(annotate(visit, Question(id, "f")), found)
+        self.assertEqual(self.brought(found), "v0:a v1:b v2:c")
+
+    def test_what_is_no_file_is_refused_as_by_file(self):
+        id = self.put("one", **{"d/f": b"a\n"})
+        for path in ("d", "x", "d/x", "d/f/x", "", "..", "d//f"):
+            said = self.fetch("GET", f"/api/annotate/{id}/{path}")
+            self.assertEqual(said, self.fetch("GET", f"/api/file/{id}/{path}"))
+            self.assertGreaterEqual(said[0], 400)
+        for name, words in (("absent", "no bookmark"), ("0" * 64, "no changeset")):
+            status, answer = self.fetch("GET", f"/api/annotate/{name}/f")
+            self.assertEqual((status, words in answer["error"]), (404, True), answer)
+
+    def test_what_is_no_text_or_too_large_is_refused(self):
+        for path, data in (("zero", b"a\0\n"), ("wrong", b"a\n\xff\n")):
+            said = self.fetch("GET", f"/api/annotate/{self.put(path, **{path: data})}/{path}")
+            self.assertEqual(said, (404, {"error": f"{path}: it is no text, and so has no lines"}))
+        self.needs_wholes()
+        self.upload(sets("big", b"a\n" * 524_289), parent=self.name, land=self.name)
+        words = "big: it has 1,048,578 bytes, over 1,048,576, and so no lines"
+        said = self.fetch("GET", f"/api/annotate/{self.name}/big")
+        self.assertEqual(said, (404, {"error": words}))
 
 
 class Reads(GatewayCase):

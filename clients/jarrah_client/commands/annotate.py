@@ -7,7 +7,7 @@ from collections.abc import Iterator
 from pathlib import Path
 from typing import Any
 
-from ..annotate import Line, annotated
+from ..annotate import Line, annotated, versions_of
 from ..names import resolve
 from ..output import Output, clean, date, day, person
 from ..refusals import WrongWords, about
@@ -40,7 +40,8 @@ def annotate(options: Namespace, server: Server, out: Output) -> None:
     """Tells the lines of a file, each with the changeset that brought it."""
     id, path = place_of(options, server)
     with about(path):
-        lines = annotated(server, id, path, fold=options.fold, follows=options.follows)
+        versions = versions_of(server, id, fold=options.fold)
+        lines = annotated(server, versions, id, path, follows=options.follows)
     for document, line in zip(documents(lines), columns(lines)):
         out.tell(document, line)
 

@@ -1,4 +1,4 @@
-// Line diffs, and the text of files with links to lines.
+// Line diffs, and the text of files with links to lines, also with who brought each.
 
 const words = { added: "+", edited: "\u2219", deleted: "\u2212", absent: "\u2212" };
 const reasons = {
@@ -12,27 +12,55 @@ function lineLink(target, count, label) {
   return make("a", { class: "number", href: target, "aria-label": `${label} ${count}` }, String(count));
 }
 
-function code(text, id, path, marked) {
-  const lines = text.replace(/\n$/, "").split("\n");
-  const pre = make("div", { class: "code", style: width(lines.length) });
+// Rows for the lines of a file, in order; each line's number is a link of the view that marks it.
+function numbered(kind, id, path) {
+  const rows = [];
+  let marked = null;
   const mark = (count) => {
-    for (const line of pre.querySelectorAll(".marked")) line.classList.remove("marked");
-    const line = pre.children[count - 1];
-    if (line) line.classList.add("marked");
-    return line;
+    if (marked) marked.classList.remove("marked");
+    marked = rows[count - 1] || null;
+    if (marked) marked.classList.add("marked");
+    return marked;
   };
-  lines.forEach((line, at) => {
-    const count = at + 1;
-    const anchor = lineLink(place("file", id, path, { line: count }), count, "line");
+  const row = (line) => {
+    const count = rows.length + 1;
+    const anchor = lineLink(place(kind, id, path, { line: count }), count, "line");
     anchor.onclick = (event) => {
       if (event.ctrlKey || event.metaKey || event.shiftKey) return;
       event.preventDefault();
       history.replaceState(history.state, "", anchor.href);
       mark(count);
     };
-    pre.append(make("div", {}, anchor, make("span", { class: "text" }, line)));
-  });
-  return { pre, line: marked ? mark(marked) : null };
+    rows.push(make("div", {}, anchor, make("span", { class: "text" }, line)));
+    return rows[count - 1];
+  };
+  return { row, mark };
+}
+
+function code(text, id, path, marked) {
+  const lines = text.replace(/\n$/, "").split("\n");
+  const pre = make("div", { class: "code", style: width(lines.length) });
+  const { row, mark } = numbered("file", id, path);
+  for (const line of lines) pre.append(row(line));
+  return { pre, line: mark(marked) };
+}
+
+// Who brought each line: a row of the table for lines that one changeset brought together.
+function broughtLines({ id, path, changesets, lines }, marked) {
+  const { row, mark } = numbered("annotate", id, path);
+  const count = lines.reduce((sum, { texts }) => sum + texts.length, 0);
+  const body = make("tbody");
+  for (const { changeset, texts } of lines) {
+    const by = changesets[changeset];
+    const cell = make("td", { class: "code" });
+    for (const text of texts) cell.append(row(text));
+    const target = make("a", { href: place("changeset", by.id), title: firstLine(by.message) }, short(by.id));
+    body.append(make("tr", {}, make("th", { scope: "row" }, target),
+      make("td", { title: by.author }, person(by.author)), make("td", {}, by.date.slice(0, 10)), cell));
+  }
+  const heads = ["Changeset", "Author", "Day", "Lines"].map((word) => make("th", { scope: "col" }, word));
+  const table = make("table", { class: "brought", style: width(count) }, make("thead", {}, make("tr", {}, ...heads)), body);
+  return { table, line: mark(marked) };
 }
 
 function hunkRows(hunk, file, id, parent) {

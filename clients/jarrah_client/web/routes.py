@@ -9,6 +9,7 @@ from typing import Any
 from urllib.parse import parse_qsl, unquote, urlsplit
 
 from ..server import Server
+from .annotations import annotate
 from .diffs import diff
 from .library import Library, Question, Visit
 from .search import search
@@ -70,6 +71,7 @@ READS = (
     Route("GET", "/api/last/{revision}/{path}", Visit.last),
     Route("GET", "/api/file/{revision}/{path}", Visit.file),
     Route("GET", "/api/past/{revision}/{path}", Visit.past),
+    Route("GET", "/api/annotate/{revision}/{path}", annotate),
     Route("GET", "/api/diff/{revision}/{path}", diff),
     Route("GET", "/api/search/{revision}", search),
     Route("GET", "/raw/{revision}/{path}", raw),

@@ -1,6 +1,6 @@
 // Showing the view of a place. Going back brings back what stood there, and where.
 
-const views = { "": bookmarks, log, changeset, tree, file, search };
+const views = { "": bookmarks, log, changeset, tree, file, annotate, search };
 const MOST_KEPT = 40;
 const kept = new Map();
 let here = null;

@@ -126,6 +126,7 @@ async function file(id, path, query) {
   const source = `raw/${found.id}/${encoded(path)}`;
   const card = make("div", { class: "card" });
   let line = null;
+  let makers = null;
   if (/\.(png|jpe?g|gif|webp|bmp|ico|svg)$/i.test(name) && found.kind !== "symlink") {
     card.append(make("img", { class: "picture", src: source, alt: `the image ${name}` }));
   }
@@ -139,10 +140,24 @@ async function file(id, path, query) {
     const made = code(found.text, found.id, path, Number(query.get("line")));
     card.append(made.pre);
     line = made.line;
+    makers = link(place("annotate", found.id, path), "Who brought each line");
   }
   const parts = [crumbs(found.id, path), heading(name),
-    make("div", { class: "actions" }, soft(`${found.kind}, ${sized(found.size)}`), make("a", { href: source, download: name }, "Download")),
+    make("div", { class: "actions" }, soft(`${found.kind}, ${sized(found.size)}`), makers,
+      make("a", { href: source, download: name }, "Download")),
     card, ...pastRows(past)];
+  parts.target = line;
+  return parts;
+}
+
+async function annotate(id, path, query) {
+  const found = await ask(`annotate/${encodeURIComponent(id)}`, path);
+  const { table, line } = broughtLines(found, Number(query.get("line")));
+  const text = found.lines.length ? table : make("p", { class: "note" }, "The file is empty.");
+  const parts = [crumbs(found.id, path), heading(`Who brought each line of ${path.split("/").pop()}`),
+    make("div", { class: "actions" }, soft(counted(found.changesets.length, "changeset")),
+      link(place("file", found.id, path), "The plain file")),
+    make("div", { class: "card" }, text)];
   parts.target = line;
   return parts;
 }
