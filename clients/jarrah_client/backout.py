@@ -6,7 +6,7 @@ from collections.abc import Iterable
 from dataclasses import dataclass
 
 from .changesets import Changeset, File, Kind
-from .output import title
+from .output import some_of, title
 from .reads import file_at
 from .repository import Log, is_reached, need_head
 from .server import Server, Trouble
@@ -14,9 +14,6 @@ from .tree_diff import Difference, differences
 from .trees import Tree, tree_of
 from .working.onto import Onto, put_onto, store
 from .working.stack import Words, made
-
-MOST_NAMED = 3
-"""So many paths are named in a refusal, and the others are counted."""
 
 
 @dataclass(frozen=True)
@@ -83,12 +80,10 @@ def has_text(file: File | None) -> bool:
 
 
 def refuse_later(wanted: Wanted, paths: list[str]) -> None:
-    """Refuses paths with later changes: the first few by their names."""
-    if not paths:
-        return
-    more = len(paths) - MOST_NAMED
-    named = ", ".join(paths[:MOST_NAMED]) + (f" and {more:,} more" if more > 0 else "")
-    raise Trouble(f"{named} can't be backed out: {wanted.bookmark} has other changes there since")
+    """Refuses paths with later changes."""
+    if paths:
+        why = f"{wanted.bookmark} has other changes there since"
+        raise Trouble(f"{some_of(paths)} can't be backed out: {why}")
 
 
 def message_of(target: Changeset) -> str:

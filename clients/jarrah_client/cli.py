@@ -11,7 +11,7 @@ from typing import Any
 
 from . import VERSION
 from .changesets import CannotSpell, SelfConflict
-from .commands import annotate, backout, copies, large, policies, reading, writing
+from .commands import annotate, backout, bisect, copies, large, policies, reading, writing
 from .commands.options import span
 from .fields import BadEncoding
 from .output import Output, as_json, clean
@@ -33,6 +33,7 @@ EXAMPLES = """examples:
   jarrah commit main -m 'a first file' --set README.md=README.md
   jarrah checkout main folder
   cd folder; jarrah status; jarrah diff; jarrah commit -m 'what I changed'
+  cd folder; jarrah bisect --good 4f0c2a -- make test
   jarrah log main
   jarrah backout 4f0c2a main
   jarrah import-git ~/src/project project
@@ -72,7 +73,7 @@ def parser() -> argparse.ArgumentParser:
         one.set_defaults(run=run)
         return one
 
-    for module in (writing, backout, copies, reading, annotate, policies, large):
+    for module in (writing, backout, copies, bisect, reading, annotate, policies, large):
         module.add(add)
     return top
 

@@ -16,6 +16,8 @@ from .nodes import Directory
 from .repository import Landing
 
 
+MOST_NAMED = 3
+"""So many paths are named in a line, and the others are counted."""
 PAINTED = re.compile(r"(\x1b\[[0-9;]+m)(.*)(\x1b\[0m)", re.DOTALL)
 ADDRESS = re.compile(r"\s*<[^>]*>\s*$")
 
@@ -206,3 +208,9 @@ def entry_line(entry: dict[str, Any]) -> str:
 def counted(count: int, what: str) -> str:
     """A count with its word."""
     return f"{count:,} {what}{'' if count == 1 else 's'}"
+
+
+def some_of(paths: list[str]) -> str:
+    """Some paths: the first few by their names, and how many more there are."""
+    more = len(paths) - MOST_NAMED
+    return ", ".join(paths[:MOST_NAMED]) + (f" and {more:,} more" if more > 0 else "")

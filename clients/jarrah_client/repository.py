@@ -2,7 +2,7 @@
 
 from __future__ import annotations
 
-from collections.abc import Callable, Container, Iterable, Iterator
+from collections.abc import Callable, Container, Iterable, Iterator, Sequence
 from dataclasses import dataclass
 from heapq import heappop, heappush
 from typing import Any
@@ -178,15 +178,40 @@ def is_reached(server: Server, log: Log, head: str, id: str) -> bool:
     places = log.places()
     at = places.get(id, len(places))
     with Progress("changesets", None) as progress:
-
-        def parents(one: str) -> Iterable[str]:
-            if one in log.parents:
-                return (log.parents[one],)
-            progress.step()
-            return server.changeset(one).parents
-
-        line = last_ids_first(head, places, parents)
+        line = last_ids_first(head, places, parents_by(server, log, progress))
         return next((one for one in line if places[one] <= at), None) == id
+
+
+def parents_by(server: Server, log: Log, progress: Progress) -> Callable[[str], Sequence[str]]:
+    """What gives the parents of a changeset: the log where it was landed, else the server."""
+
+    def parents(id: str) -> Sequence[str]:
+        if id in log.parents:
+            return (log.parents[id],)
+        progress.step()
+        return server.changeset(id).parents
+
+    return parents
+
+
+def line_between(server: Server, log: Log, good: str, bad: str) -> list[str]:
+    """The changesets by first parents from after one to another, the oldest first; or trouble
+    where the one isn't on the other's line.
+
+    Parents are known as by `is_reached`, and none is read that is known before the one.
+    """
+    log.read_on()
+    places = log.places()
+    line: list[str] = []
+    at: str | None = bad
+    with Progress("changesets", None) as progress:
+        parents = parents_by(server, log, progress)
+        while at is not None and places[at] > places[good]:
+            line.append(at)
+            at = next(iter(parents(at)), None)
+    if at != good:
+        raise Trouble(f"{good} isn't on the line of first parents of {bad}")
+    return line[::-1]
 
 
 def chain(server: Server, id: str) -> Iterator[Changeset]:

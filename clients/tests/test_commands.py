@@ -29,7 +29,8 @@ from .test_encoding import ABC
 
 COMMANDS = (
     "init draft land commit bookmark backout checkout status update rebase amend revert resolve"
-    " log entries ls cat history annotate copies diff policy import-git export-git browse gateway"
+    " bisect log entries ls cat history annotate copies diff policy"
+    " import-git export-git browse gateway"
 ).split()
 
 

@@ -17,22 +17,8 @@ def with_line(number: int, line: bytes) -> bytes:
     return b"\n".join(lines)
 
 
-class CopyCase(Case):
-    """A bookmark with some files, and two working copies of it."""
-
-    def setUp(self) -> None:
-        super().setUp()
-        self.name = fresh()
-        self.ok("init", self.name)
-        words = ["--set", f"text={self.write('in/text', LINES)}"]
-        words += ["--set", f"lib/a={self.write('in/a', b'a')}"]
-        words += ["--exec", f"run={self.write('in/r')}"]
-        self.first = self.ask("commit", self.name, *words, "--symlink", "link=lib", "-m", "First")
-        self.ours, self.theirs = self.copy("ours"), self.copy("theirs")
-
-    def copy(self, name: str) -> Path:
-        self.ok("checkout", self.name, self.folder / name)
-        return self.folder / name
+class InFolders(Case):
+    """Runs of the program in folders."""
 
     def within(self, top: Path, *words: object) -> Ran:
         """Runs the program in a folder."""
@@ -65,6 +51,24 @@ class CopyCase(Case):
         place = self.folder / f"tree-{len(list(self.folder.iterdir()))}"
         self.ok("checkout", revision, place, "--plain")
         return {path: data for path, (_, data) in folder_files(place).items()}
+
+
+class CopyCase(InFolders):
+    """A bookmark with some files, and two working copies of it."""
+
+    def setUp(self) -> None:
+        super().setUp()
+        self.name = fresh()
+        self.ok("init", self.name)
+        words = ["--set", f"text={self.write('in/text', LINES)}"]
+        words += ["--set", f"lib/a={self.write('in/a', b'a')}"]
+        words += ["--exec", f"run={self.write('in/r')}"]
+        self.first = self.ask("commit", self.name, *words, "--symlink", "link=lib", "-m", "First")
+        self.ours, self.theirs = self.copy("ours"), self.copy("theirs")
+
+    def copy(self, name: str) -> Path:
+        self.ok("checkout", self.name, self.folder / name)
+        return self.folder / name
 
 
 class Status(CopyCase):

@@ -212,9 +212,7 @@ def update(options: Namespace, server: Server, out: Output) -> int:
     with copy.alone():
         state = copy.state
         stack.need_settled(copy)
-        if state.drafts:
-            count = counted(len(state.drafts), "draft")
-            raise Trouble(f"there are {count}: `jarrah land` or `jarrah rebase` comes first")
+        stack.need_no_drafts(copy)
         name = options.revision or stack.need_bookmark(copy)
         target = resolve(server, name)
         moved = move(copy, server, target, options.connections)

@@ -3,6 +3,7 @@
 from __future__ import annotations
 
 import os
+import shutil
 from contextlib import suppress
 from pathlib import Path
 
@@ -57,6 +58,21 @@ def remove(top: Path, path: str) -> None:
     with suppress(OSError):
         for folder in folders_above(top, path):
             folder.rmdir()
+
+
+def clear(top: Path, path: str) -> None:
+    """Takes away what stands where a file is to be put, with all that is in it."""
+    what = blocked_by(top, path)
+    if what is None:
+        return
+    place = top / what
+    try:
+        if what.endswith("/"):
+            shutil.rmtree(place)
+        else:
+            place.unlink()
+    except OSError as fault:
+        raise Trouble(f"{place}: {fault.strerror}") from None
 
 
 def folders_above(top: Path, path: str) -> list[Path]:

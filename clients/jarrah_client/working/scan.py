@@ -57,6 +57,12 @@ def scan(copy: WorkingCopy, under: list[str] | None = None) -> Scan:
     return found
 
 
+def changed_files(copy: WorkingCopy) -> list[str]:
+    """The base's files that aren't as the base has them."""
+    found = scan(copy)
+    return [path for path in [*found.changes, *found.faults] if path in copy.state.files]
+
+
 def look_at(copy: WorkingCopy, path: str, status: os.stat_result, found: Scan) -> None:
     """Compares one file with the base's."""
     files, stamp = copy.state.files, Stamp.of(status)

@@ -8,6 +8,7 @@ from dataclasses import dataclass, field
 from .. import drafts
 from ..changesets import Changeset, File
 from ..contents import Source, store_all
+from ..output import counted
 from ..paths import path_key
 from ..refusals import Refused
 from ..server import Landed, Server, Trouble
@@ -40,6 +41,13 @@ def need_settled(copy: WorkingCopy, under: list[str] | None = None) -> None:
     if copy.state.rebase:
         raise Trouble("a rebase isn't over: `jarrah rebase --continue`, or `--abort`")
     need_no_conflict(copy, under)
+
+
+def need_no_drafts(copy: WorkingCopy) -> None:
+    """Refuses drafts that haven't landed."""
+    if copy.state.drafts:
+        count = counted(len(copy.state.drafts), "draft")
+        raise Trouble(f"there are {count}: `jarrah land` or `jarrah rebase` comes first")
 
 
 def need_no_conflict(copy: WorkingCopy, under: list[str] | None = None) -> None:
