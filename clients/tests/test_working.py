@@ -321,6 +321,30 @@ class Updates(CopyCase):
         self.done(self.ours, "update")
         self.assertEqual((self.ours / "text").read_bytes(), b"new")
 
+    def test_a_link_becomes_a_folder_with_files_of_the_same_names(self):
+        (self.theirs / "link").unlink()
+        (self.theirs / "link").mkdir()
+        (self.theirs / "link" / "a").write_bytes(b"its own")
+        self.done(self.theirs, "commit", "-m", "A folder in place of the link")
+        self.done(self.ours, "update")
+        self.assertEqual((self.ours / "link" / "a").read_bytes(), b"its own")
+        self.assertEqual((self.ours / "lib" / "a").read_bytes(), b"a")
+        self.assertEqual(self.changes(self.ours), {})
+        self.done(self.ours, "update", self.first["head"])
+        self.assertEqual(os.readlink(self.ours / "link"), "lib")
+        self.assertEqual((self.ours / "lib" / "a").read_bytes(), b"a")
+
+    def test_a_link_of_ones_own_is_in_the_way_of_a_folder(self):
+        (self.theirs / "more").mkdir()
+        (self.theirs / "more" / "a").write_bytes(b"its own")
+        self.done(self.theirs, "commit", "-m", "A folder")
+        (self.ours / "more").symlink_to("lib")
+        ran = self.within(self.ours, "update")
+        self.assertEqual(ran.status, 1)
+        self.assertIn("more is in its way", ran.out + ran.err)
+        self.assertEqual(os.readlink(self.ours / "more"), "lib")
+        self.assertEqual((self.ours / "lib" / "a").read_bytes(), b"a")
+
     def test_nothing_is_written_through_a_link(self):
         (self.theirs / "lib" / "b").write_bytes(b"b")
         self.done(self.theirs, "commit", "-m", "More")

@@ -47,7 +47,7 @@ def need_folders(top: Path, path: str) -> None:
 def remove(top: Path, path: str) -> None:
     """Deletes a file where there is one, and the folders that it leaves empty."""
     place = top / path
-    if any(folder.is_symlink() for folder in folders_above(top, path)):
+    if is_behind_link(top, path):
         return
     try:
         place.unlink()
@@ -73,6 +73,11 @@ def clear(top: Path, path: str) -> None:
             place.unlink()
     except OSError as fault:
         raise Trouble(f"{place}: {fault.strerror}") from None
+
+
+def is_behind_link(top: Path, path: str) -> bool:
+    """Whether a path leads through a link, and so to a file that isn't the folder's own."""
+    return any(folder.is_symlink() for folder in folders_above(top, path))
 
 
 def folders_above(top: Path, path: str) -> list[Path]:

@@ -55,8 +55,10 @@ def is_changed(copy: WorkingCopy, found: Scan, path: str) -> bool:
     """Whether a path isn't as the base has it: also where it is ignored, or can't be taken."""
     if path in found.changes or path in found.faults or path in copy.state.conflicts:
         return True
+    if path in copy.state.files or disk.is_behind_link(copy.top, path):
+        return False
     place = copy.top / path
-    return path not in copy.state.files and (place.is_symlink() or place.is_file())
+    return place.is_symlink() or place.is_file()
 
 
 def join(
