@@ -447,6 +447,8 @@ class Folders(OnALine):
             env=ENVIRONMENT,
             cwd=self.top,
             start_new_session=True,
+            # A run in the background of a script ignores it.
+            preexec_fn=lambda: signal.signal(signal.SIGINT, signal.SIG_DFL),
         )
         self.addCleanup(process.kill)
         while (self.top / "same").exists():
