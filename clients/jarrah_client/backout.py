@@ -4,6 +4,7 @@ from __future__ import annotations
 
 from collections.abc import Iterable
 from dataclasses import dataclass
+from typing import Any
 
 from .changesets import Changeset, File, Kind
 from .output import some_of, title
@@ -30,7 +31,13 @@ class Backout:
     """The changeset that undoes another, and the paths at which it keeps what came later."""
 
     changeset: Changeset
+    target: str
     merged: list[str]
+
+    @property
+    def told(self) -> dict[str, Any]:
+        """What scripts are told of it, beside the draft or the landing."""
+        return {"backed_out": self.target, "merged": self.merged}
 
 
 def back_out(server: Server, log: Log, wanted: Wanted, words: Words) -> Backout:
@@ -49,7 +56,7 @@ def back_out(server: Server, log: Log, wanted: Wanted, words: Words) -> Backout:
     changeset = made(head, words, onto.changes)
     store(server, changeset, onto)
     merged = [path for path, file in changeset.changes.items() if file != undone[path]]
-    return Backout(changeset, merged)
+    return Backout(changeset, id, merged)
 
 
 def parent_of(wanted: Wanted) -> str:

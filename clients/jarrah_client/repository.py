@@ -42,6 +42,14 @@ class Log:
         self.parents: dict[str, str] = {}
         """The parent of each landed changeset: no merge is landed."""
 
+    def copied(self, server: Server) -> Log:
+        """What is known so far, for one who reads on alone over another connection."""
+        log = Log(server)
+        log.next, log.total = self.next, self.total
+        log.bookmarks, log.changesets = dict(self.bookmarks), dict(self.changesets)
+        log.landings, log.parents = dict(self.landings), dict(self.parents)
+        return log
+
     def read_on(self) -> None:
         """Reads the entries that are new."""
         for _ in self.entries():

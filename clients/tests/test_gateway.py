@@ -18,14 +18,18 @@ from unittest import mock
 from urllib.parse import quote, urlsplit
 
 from jarrah_client.changesets import Changeset, CopySource, File
-from jarrah_client.server import Server
+from jarrah_client.server import Server, Trouble
 from jarrah_client.web.annotations import annotate
+from jarrah_client.web.backouts import backout
 from jarrah_client.web.library import Library, Question
 from jarrah_client.web.routes import OPENAPI, READS, WRITES
 
 from .harness import ENVIRONMENT, PROGRAM, Case, fresh, jarrah
 from .test_annotate import Annotating
+from .test_backout import FIRST, BackoutCase, plain
 from .test_encoding import ABC
+from .test_merges import Merging
+from .test_working import with_line
 
 DOCUMENT = json.loads(OPENAPI.read_text())
 TYPES = {"object": dict, "array": list, "string": str, "integer": int}
@@ -400,6 +404,157 @@ class Lines(GatewayCase, Annotating):
         self.assertEqual(said, (404, {"error": words}))
 
 
+class Backouts(GatewayCase, BackoutCase):
+    """What is backed out, by the trees of other changesets."""
+
+    def setUp(self) -> None:
+        BackoutCase.setUp(self)
+
+    def ask_backout(
+        self, id: str, query: str = "", body: Any = {"author": "A"}, **headers: str
+    ) -> tuple[int, Any]:
+        """What a backout is answered by."""
+        return self.fetch("POST", f"/api/backout/{self.name}/{id}{query}", body, **headers)
+
+    def backed_out(self, *words: Any) -> Any:
+        """The document of a backout that is made."""
+        status, answer = self.ask_backout(*words)
+        self.assertEqual(status, 200, answer)
+        return answer
+
+    def not_made(self, status: int, *words: Any, **headers: str) -> str:
+        """What a refusal says, at which nothing is stored."""
+        before = self.got("/health")["entries"]
+        found, answer = self.ask_backout(*words, **headers)
+        self.assertEqual((found, [*answer]), (status, ["error"]), answer)
+        self.assertEqual(self.got("/health")["entries"], before)
+        return answer["error"]
+
+    def test_one_that_lands(self):
+        changes = {"text": plain(b"other"), "lib/a": None, "run/in": plain(b"x")}
+        target = self.land(changes, "T\n\nb")
+        later = self.land({"new": plain(b"new")})
+        told = self.backed_out(target[:20])
+        head = self.to.head(self.name)
+        wanted = {"bookmark": self.name, "head": head, "ids": [head], "old": later}
+        self.assertEqual(told, wanted | {"backed_out": target, "merged": []})
+        self.assertEqual(self.tree(self.name), FIRST | {"new": plain(b"new")})
+        made = self.to.changeset(head)
+        message = f'Back out "T"\n\nThis backs out changeset {target}.'
+        self.assertEqual((made.parents, made.message), ((later,), message))
+
+    def test_later_lines_stay(self):
+        theirs = with_line(2, b"theirs")
+        target = self.land({"text": plain(theirs)})
+        self.land({"text": plain(theirs.replace(b"line 15\n", b"later\n"))})
+        self.assertEqual(self.backed_out(target)["merged"], ["text"])
+        wanted = FIRST | {"text": plain(with_line(15, b"later"))}
+        self.assertEqual(self.tree(self.name), wanted)
+
+    def test_a_draft(self):
+        target = self.land({"text": plain(b"other"), "lib/b": None})
+        told = self.backed_out(target, "?draft=1")
+        self.assertEqual((told["parents"], told["backed_out"]), ([target], target))
+        self.assertEqual([one["path"] for one in told["changes"]], ["lib/b", "text"])
+        self.assertEqual((self.to.head(self.name), self.tree(told["id"])), (target, FIRST))
+        self.assertEqual(self.fetch("POST", f"/api/land/{self.name}/{told['id']}")[0], 200)
+        again = self.backed_out(told["id"], "?draft=0")
+        self.assertEqual(self.to.head(self.name), again["head"])
+        self.assertEqual(self.tree(self.name), self.tree(target))
+
+    def test_who_and_why(self):
+        target = self.land({"text": plain(b"other")})
+        body = {"author": "Ann <a@b>", "message": "Mine", "seconds": 5, "offset": 3_600}
+        told = self.backed_out(target, "?draft=1", body)
+        self.assertEqual({name: told[name] for name in body}, body)
+        for words, offset in (({"seconds": 7}, 0), ({"seconds": 7, "offset": -60}, -60)):
+            told = self.backed_out(target, "?draft=1", {"author": "A", **words})
+            self.assertEqual((told["seconds"], told["offset"]), (7, offset))
+        said = self.upload(parent=self.name)[1]
+        told = self.backed_out(target, "?draft=1", {"author": "A", "message": None})
+        self.assertLess(abs(told["seconds"] - said["seconds"]), 60)
+        self.assertEqual(told["offset"], said["offset"])
+        self.assertIn(target, told["message"])
+
+    def test_bodies_and_questions_that_break_a_rule(self):
+        target = self.land({"text": plain(b"other")})
+        for query, body, words in (
+            ("", b"", "no JSON"),
+            ("", b"[]", "no object"),
+            ("", b"{}", "'author'"),
+            ("", {"message": "Mine"}, "'author'"),
+            ("", {"author": 1}, "'author'"),
+            ("", {"author": "A", "land": self.name}, "'land'"),
+            ("?parent=2", {"author": "A"}, "parent is '2'"),
+            ("?parent=", {"author": "A"}, "parent is ''"),
+            ("?draft=yes", {"author": "A"}, "draft is 'yes'"),
+        ):
+            self.assertIn(words, self.not_made(400, target, query, body))
+        self.assertEqual(self.to.head(self.name), target)
+
+    def test_what_is_refused(self):
+        target = self.land({"text": plain(with_line(2, b"theirs")), "lib/a": plain(b"A")})
+        self.assertIn("one parent alone", self.not_made(422, target, "?parent=1"))
+        other = fresh("other")
+        self.to.move_bookmark(other, None, self.first)
+        foreign = self.land({"text": plain(b"other")}, "there", other)
+        self.assertEqual(self.not_made(422, foreign), f"{foreign} isn't on {self.name}")
+        self.assertIn("no bookmark", self.not_made(422, f"{target}/more"))
+        head = self.land({"text": plain(with_line(2, b"later")), "lib/a": plain(b"later")})
+        for query in ("", "?draft=1"):
+            self.assertEqual(self.not_made(422, target, query), self.later_at("lib/a, text"))
+        self.assertEqual(self.to.head(self.name), head)
+        status, answer = self.ask_backout("1" * 64)
+        self.assertEqual((status, answer["code"]), (404, "no-changeset"))
+        self.assertEqual(self.fetch("GET", f"/api/backout/{self.name}/{target}")[0], 405)
+
+    def test_each_request_reads_a_log_of_its_own_on(self):
+        library = Library(Server(self.server), fold=False)
+        with library.connected() as visit:
+            own = visit.own_log()
+            self.assertEqual(own.changesets, library.log.changesets)
+            head = self.land({}, fresh("message"))
+            own.read_on()
+            self.assertEqual((own.bookmarks[self.name], own.parents[head]), (head, self.first))
+            self.assertEqual(library.log.bookmarks[self.name], self.first)
+            self.assertNotIn(head, library.log.parents)
+            self.assertNotIn(head, library.log.changesets)
+
+    def test_pages_from_elsewhere(self):
+        target = self.land({"text": plain(b"other")})
+        self.not_made(403, target, Origin="https://example.org")
+        self.not_made(403, target, Origin="null")
+        self.not_made(403, target, Content_Type="text/plain")
+        self.not_made(403, target, Host="example.org")
+        self.assertEqual(self.to.head(self.name), target)
+        own = {"Origin": "https://proxy.example.org", "Host": "proxy.example.org"}
+        self.assertEqual(self.ask_backout(target, **own)[0], 200)
+        self.assertEqual(self.tree(self.name), FIRST)
+
+
+class BackoutsOfMerges(Merging):
+    """Of a merge it has to be said back to which parent."""
+
+    def ask_backout(self, merge: str, name: str, **query: str) -> dict[str, Any]:
+        """What a backout is answered by."""
+        with Library(Server(self.server), fold=False).connected() as visit:
+            return backout(visit, Question(name, merge, query), b'{"author": "A"}')
+
+    def test_which_parent(self):
+        x, y = (self.put(self.base, changes={path: b"abc"}).id for path in "xy")
+        merge = self.put(x, y, changes={"z": b"other"}).id
+        for place, parent in (("0", x), ("1", y)):
+            name = fresh()
+            self.to.move_bookmark(name, None, merge)
+            before = self.to.log(0).total
+            with self.assertRaisesRegex(Trouble, f"{merge} is a merge"):
+                self.ask_backout(merge, name)
+            self.assertEqual(self.to.log(0).total, before)
+            told = self.ask_backout(merge, name, parent=place)
+            self.assertEqual(told["head"], self.to.head(name))
+            self.assertEqual(self.tree(told["head"]), self.tree(parent))
+
+
 class Reads(GatewayCase):
     """`browse` takes no changes."""
 
@@ -407,6 +562,9 @@ class Reads(GatewayCase):
 
     def test_no_change(self):
         status, answer = self.upload(sets("a", b""), parent=self.name)
+        self.assertEqual((status, "only reads" in answer["error"]), (403, True))
+        target = f"/api/backout/{self.name}/{self.name}"
+        status, answer = self.fetch("POST", target, {"author": "A"})
         self.assertEqual((status, "only reads" in answer["error"]), (403, True))
 
 

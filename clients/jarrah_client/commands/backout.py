@@ -44,15 +44,14 @@ def backout(options: Namespace, server: Server, out: Output) -> None:
     wanted = Wanted(target, options.parent, name)
     made = back_out(server, log, wanted, backout_words(options, target))
     id = made.changeset.id
-    told = {"backed_out": target.id, "merged": made.merged}
     merged = [f"merged {path}" for path in made.merged]
     if options.draft:
-        out.tell(changeset_document(made.changeset) | told, [*merged, f"made the draft {id}"])
+        out.tell(changeset_document(made.changeset) | made.told, [*merged, f"made the draft {id}"])
         return
     landed = land(server, name, id)
     follows = options.copy and options.copy.state.bookmark == name
     hint = ["`jarrah update` brings it into the working copy"] if follows else []
-    tell_landed(landed, name, out, told, [*merged, *hint])
+    tell_landed(landed, name, out, made.told, [*merged, *hint])
 
 
 def bookmark_of(options: Namespace) -> str:

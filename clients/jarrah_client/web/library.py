@@ -13,7 +13,7 @@ from ..log_cache import CachedLog
 from ..names import resolve
 from ..output import changeset_document, file_document
 from ..refusals import Fault, Refused, about
-from ..repository import by_front
+from ..repository import Log, by_front
 from ..server import Server
 from ..text_diff import text_of
 from ..trees import Tree, fate, history_of, last_changes, path_log_of, tree_of
@@ -107,6 +107,12 @@ class Visit:
             log.server = self.server
             log.read_on()
             return dict(log.bookmarks), log.next
+
+    def own_log(self) -> Log:
+        """The log for this request alone, so that others may read theirs on meanwhile."""
+        self.read_log()
+        with self.library.log_turn:
+            return self.library.log.copied(self.server)
 
     def which(self, _: Question) -> dict[str, Any]:
         """The server that this looks at."""

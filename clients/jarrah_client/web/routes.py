@@ -10,6 +10,7 @@ from urllib.parse import parse_qsl, unquote, urlsplit
 
 from ..server import Server
 from .annotations import annotate
+from .backouts import backout
 from .diffs import diff
 from .library import Library, Question, Visit
 from .search import search
@@ -79,6 +80,7 @@ READS = (
 WRITES = (
     Route("POST", "/api/changeset", upload),
     Route("POST", "/api/land/{bookmark}/{draft}", land),
+    Route("POST", "/api/backout/{bookmark}/{revision}", backout),
 )
 
 
@@ -94,11 +96,10 @@ def found(method: str, target: str) -> tuple[Route, Question] | None:
 
 
 def answered(library: Library, route: Route, question: Question, body: bytes) -> Any:
-    """What answers a question."""
+    """What answers a question; of a change it has the body too."""
+    bodies = (body,) if route.method == "POST" else ()
     with library.connected() as visit:
-        if route.path == "/api/changeset":
-            return route.answer(visit, body)
-        return route.answer(visit, question)
+        return route.answer(visit, question, *bodies)
 
 
 def health(library: Library) -> dict[str, Any]:

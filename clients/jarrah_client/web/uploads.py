@@ -10,8 +10,9 @@ from typing import Any
 from ..changesets import MOST_SIZE_BYTES, Changeset, File, Kind
 from ..contents import Source, in_memory, store_all
 from ..drafts import deleted, now
-from ..paths import is_text, path_key
+from ..paths import is_text
 from ..refusals import Refused
+from ..working.stack import Words, made
 from .library import BadQuestion, Question, Visit, brief
 
 KINDS = {kind.word: kind for kind in Kind}
@@ -42,28 +43,36 @@ class Members:
         return found
 
 
-def upload(visit: Visit, body: bytes) -> dict[str, Any]:
+def upload(visit: Visit, _: Question, body: bytes) -> dict[str, Any]:
     """Stores a changeset with its contents, and lands it where that is asked for."""
+    members = members_of(body, MEMBERS)
+    name, land = members.take("parent", str, None), members.take("land", str, None)
+    parent = visit.resolve(name) if name else None
+    changes, contents = read_changes(visit, members.take("changes", list), parent)
+    changeset = made(parent, words_of(members, ""), changes)
+    store(visit, changeset, contents)
+    answer = brief(changeset) | {"landed": None}
+    return answer | {"landed": put_on(visit, land, changeset.id)} if land else answer
+
+
+def members_of(body: bytes, known: set[str]) -> Members:
+    """The members of a body."""
     try:
         document = json.loads(body)
     except ValueError:
         raise BadQuestion("the body is no JSON") from None
-    members = Members(document, "the body", MEMBERS)
-    name, land = members.take("parent", str, None), members.take("land", str, None)
-    parent = visit.resolve(name) if name else None
-    changes, contents = read_changes(visit, members.take("changes", list), parent)
+    return Members(document, "the body", known)
+
+
+def words_of(members: Members, message: str) -> Words:
+    """Who makes a changeset, which has to be said, and when and why, which may be."""
     seconds, offset = now()
-    changeset = Changeset(
-        (parent,) if parent else (),
+    return Words(
         members.take("author", str),
         members.take("seconds", int, seconds),
-        members.take("offset", int, offset if "seconds" not in document else 0),
-        members.take("message", str, ""),
-        changes,
+        members.take("offset", int, offset if "seconds" not in members.document else 0),
+        members.take("message", str, message),
     )
-    store(visit, changeset, contents)
-    answer = brief(changeset) | {"landed": None}
-    return answer | {"landed": put_on(visit, land, changeset.id)} if land else answer
 
 
 def store(visit: Visit, changeset: Changeset, contents: dict[str, Source]) -> None:
@@ -76,7 +85,7 @@ def store(visit: Visit, changeset: Changeset, contents: dict[str, Source]) -> No
 def read_changes(
     visit: Visit, rows: list[Any], parent: str | None
 ) -> tuple[dict[str, File | None], dict[str, Source]]:
-    """The changes of an upload by rising paths, and the contents that they set."""
+    """The changes of an upload, and the contents that they set."""
     changes: dict[str, File | None] = {}
     contents: dict[str, Source] = {}
     for number, row in enumerate(rows):
@@ -95,7 +104,7 @@ def read_changes(
             contents[source.id] = source
     gone = [path for path, file in changes.items() if file is None]
     deleted(visit.server, parent, gone, False)
-    return {path: changes[path] for path in sorted(changes, key=path_key)}, contents
+    return changes, contents
 
 
 def bytes_of(members: Members) -> bytes:
@@ -120,7 +129,7 @@ def kind_of(members: Members) -> Kind:
     return KINDS[word]
 
 
-def land(visit: Visit, question: Question) -> dict[str, Any]:
+def land(visit: Visit, question: Question, _: bytes) -> dict[str, Any]:
     """Lands a draft on a bookmark."""
     return put_on(visit, question.name, visit.resolve(question.path))
 
