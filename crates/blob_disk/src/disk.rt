@@ -8,9 +8,28 @@ ghost use Rattle.disk_model.specs.Calls.{Kept, LeavesOnly, Looked, Did, SameMome
 
 use ports::Failed;
 
+/// A sync that is made while the disk itself is used. Whoever runs it holds nobody else up.
+pub trait Flush: Drop {
+    /// Makes it, and waits until it is done or has failed. Which of them, the disk tells that it is brought back to.
+    fn run(&mut self);
+}
+
+/// A second handle on the bytes of a disk, which reads while the disk itself is used. Nothing is promised of what it gives:
+/// use what proves itself alone, as bytes with a digest that is known.
+pub trait Peer: Drop {
+    /// Fills `buf` with bytes from `at` on. False says that it couldn't, and `buf` may have changed all the same.
+    fn look(&self, at: u64, buf: &mut [u8]) -> bool;
+}
+
 /// One file of bytes on a device that may fail, and that a crash may stop at any moment.
 /// No call takes memory.
 pub trait Disk: Drop {
+    /// A sync of it that is made elsewhere.
+    type Flush: Flush;
+
+    /// A second handle on its bytes.
+    type Peer: Peer;
+
     /// What is told of the disk: what reads give, what a crash may leave now and may have left
     /// before, the count of faults, the place up to which no call fails, and whether it is honest.
     ghost meaning: { Self → Meaning };
@@ -55,6 +74,24 @@ pub trait Disk: Drop {
         ensures faults { Counts (meaning self.old).faults (meaning self.new).faults (is_err result) }
         ensures next { OnOk result (NextMoment (meaning self.old) (meaning self.new)) }
         ensures quiet { IsSome (meaning self.old).quiet → IsOk result };
+
+    /// A sync of all that is written so far, to be made elsewhere and brought back by `flushed`. The device isn't asked.
+    fn flush(&mut self) -> Self::Flush
+        ensures { meaning self.new ≡ meaning self.old };
+
+    /// What `sync` does, with a flush that was brought back. No call of the device is made where this flush was handed out by
+    /// this disk, was run, and nothing was written since. One that failed fails, and is never made again. In place of any
+    /// other a sync is made here.
+    fn flushed(&mut self, flush: Self::Flush) -> Result<(), Failed>
+        ensures did { Did (Syncs (is_ok result)) (meaning self.old) (meaning self.new) }
+        ensures kept { Kept (meaning self.old) (meaning self.new) }
+        ensures time { LeavesOnly (IsImage (meaning self.new).state) (meaning self.old) (meaning self.new) }
+        ensures faults { Counts (meaning self.old).faults (meaning self.new).faults (is_err result) }
+        ensures next { OnOk result (NextMoment (meaning self.old) (meaning self.new)) }
+        ensures quiet { IsSome (meaning self.old).quiet → IsOk result };
+
+    /// A second handle, where one is to be had. The device isn't asked.
+    fn peer(&self) -> Option<Self::Peer>;
 
     /// How many calls failed so far. It stands at the last value of its type.
     fn faults(&self) -> u64

@@ -6,11 +6,13 @@ mod call_kind;
 mod calls;
 mod content;
 pub mod disk;
+mod handles;
 mod mem_disk;
 mod record;
 mod recorder;
 
 pub use call_kind::CallKind;
-pub use disk::Disk;
+pub use disk::{Disk, Flush, Peer};
+pub use handles::{NoFlush, NoPeer};
 pub use mem_disk::MemDisk;
 pub use ports::Failed;

@@ -16,6 +16,7 @@ use crate::call_kind::CallKind;
 use crate::calls::Calls;
 use crate::content::Content;
 use crate::disk::Disk;
+use crate::handles::{NoFlush, NoPeer};
 use crate::record::{Record, Turn};
 use crate::recorder;
 use ports::Failed;
@@ -125,6 +126,10 @@ impl MemDisk {
 }
 
 impl Disk for MemDisk {
+    type Flush = NoFlush;
+
+    type Peer = NoPeer;
+
     ghost use Rattle.blob_disk.specs.MemDisk.{memory_of, log_of, tally_of, told_of, IsWritten, IsSynced};
 
     ghost meaning = { λ d. meaning_of d.content d.log d.calls };
@@ -216,6 +221,34 @@ impl Disk for MemDisk {
         self.content.sync();
         recorder::note(&mut self.log, Turn::Synced, &[]);
         Ok(())
+    }
+
+    fn flush(&mut self) -> NoFlush
+        ensures meaning { told_of self.new ≡ told_of self.old }
+        ensures calls { tally_of self.new ≡ tally_of self.old }
+        ensures same { (memory_of self.new ≡ memory_of self.old) × (log_of self.new ≡ log_of self.old) }
+    {
+        NoFlush
+    }
+
+    /// A sync, which counts as one.
+    fn flushed(&mut self, flush: NoFlush) -> Result<(), Failed>
+        ensures did { Did (Syncs (is_ok result)) (told_of self.old) (told_of self.new) }
+        ensures kept { Kept (told_of self.old) (told_of self.new) }
+        ensures time { LeavesOnly (IsImage (told_of self.new).state) (told_of self.old) (told_of self.new) }
+        ensures faults { Counts (told_of self.old).faults (told_of self.new).faults (is_err result) }
+        ensures next { OnOk result (NextMoment (told_of self.old) (told_of self.new)) }
+        ensures quiet { IsSome (told_of self.old).quiet → IsOk result }
+        ensures done { IsOk result ↔ IsSynced self.old }
+        ensures calls { tally_of self.new ≡ called Sync (is_err result) (tally_of self.old) }
+    {
+        drop(flush);
+        self.sync()
+    }
+
+    /// None: what a disk in memory holds is read through it alone.
+    fn peer(&self) -> Option<NoPeer> {
+        None
     }
 
     fn faults(&self) -> u64 {

@@ -1,19 +1,19 @@
 -- What every list of steps keeps: the history is legal, and each acknowledged entry stands at its log number.
 use Rattle.std.proofs.Common.{◌<◌, ◌+◌, ◌≤◌, length-append, arith, ◌≡◌, ℕ, zero, suc, Bool, true, false, cond, List, [], ◌∷◌, ◌++◌, ◌||◌, map, take, drop, length, refl, sym, ap, subst, ◌∙◌}
-use Rattle.std.specs.Prelude.{◌&&◌, filter, is_none, Option, None, Some, Result, Ok, Err, slice_get, find, bytes_eq, nat_lt, ◌==◌, option_map, unwrap_or, if◌then◌else◌}
+use Rattle.std.specs.Prelude.{◌&&◌, not, filter, is_none, Option, None, Some, Result, Ok, Err, slice_get, find, bytes_eq, nat_lt, ◌==◌, option_map, unwrap_or, if◌then◌else◌}
 use mathlib.Core.Bool.{true≢false}
 use Rattle.std.specs.List.{AllByRecursion}
-use Rattle.std.specs.Option.{option_and_then}
-use Rattle.std.proofs.lemmas.Bool.{and_parts, eqb-true, eqb-false, ltb-true}
+use Rattle.std.specs.Option.{option_and_then, option_map_or}
+use Rattle.std.proofs.lemmas.Bool.{and_parts, eqb-true, eqb-false, ltb-true, not-true}
 use Rattle.std.proofs.lemmas.List.{map-append, length-take, take-append-drop}
 use Rattle.std.proofs.lemmas.List.Folds.{list_any-append}
 use Rattle.history_model.specs.History.{Body, Content, Whole, Change, Book, Land, Policy, Fault, Entry, is_breaking, is_stored, unnumbered, bodies, is_down}
 use Rattle.history_model.specs.Journal.{Header}
 use Rattle.reply_model.specs.Reply.{is_ask, Ask, Refusal, Granted, Judged, judge}
 use Rattle.reply_model.specs.Legal.{MayFollow, GoesOn, IsLegal}
-use Rattle.core_model.specs.Core.{Once, set_for, none_yet, State, Step, Sealing, Stage, Written, Flushed, Opened, PlanLanding, Exchange, Look, WriteGroup, SyncGroup, OpenGate, Seal, Acknowledge, TakeJob, Settle, Crash, is_left_over, is_idle, is_as_planned, entry_of, entered, exchanged, added, sealed_alone, broken, come_to, all_sealed, written, device_call, acknowledged_with, answer, may_be_kept, kept_of, opened, reopened, settled_with, job_of, when, after_step, after_steps}
+use Rattle.core_model.specs.Core.{Once, set_for, no_numbers, State, Step, Sealing, Stage, Written, Flushed, Opened, PlanLanding, Exchange, Look, LayContent, WriteGroup, SyncGroup, OpenGate, Seal, Acknowledge, TakeJob, Settle, Crash, is_left_over, is_as_planned, entry_of, entered, exchanged, added, sealed_alone, broken, come_to, group_sealed, group_end, laid, written, device_call, acknowledged_with, answer, may_be_kept, kept_of, opened, reopened, settled_with, job_of, when, after_step, after_steps}
 use Rattle.manifest_model.specs.Manifests.{Job, derive}
-use Rattle.byte_fields.proofs.Lists.{weaker, all_push}
+use Rattle.byte_fields.proofs.Lists.{weaker, all_push, all_filter}
 use Rattle.reply_model.proofs.Granted.{MakesStored, judge_stored, follows_granted}
 use Rattle.reply_model.proofs.Histories.{bodies-append, IsLegal-push}
 use Rattle.reply_model.proofs.Stored.{granted_is_up, IsLegal-stored}
@@ -42,11 +42,24 @@ get_take (y ∷ xs) (suc k) (suc n) x less e = get_take xs k n x (omega arith) e
 
 -- ---- log numbers
 
--- the waiting numbers are of stored entries, each of one seat and not acknowledged, and none is acknowledged twice
-record Numbers (h : List Entry) (waiting : ℕ → Option ℕ) (acks : List (ℕ × Body)) : Type 0 where
-  below : (w n : ℕ) → waiting w ≡ Some n → n < length (bodies h)
-  free : (w n : ℕ) → waiting w ≡ Some n → AllByRecursion (λ a. a.0 ≡ n → ⊥) acks
-  apart : (w v n : ℕ) → waiting w ≡ Some n → waiting v ≡ Some n → w ≡ v
+-- no entry with this number is acknowledged
+abbrev IsFree : List (ℕ × Body) → ℕ → Type 0
+IsFree acks n = AllByRecursion (λ a. a.0 ≡ n → ⊥) acks
+
+-- the number isn't among these
+abbrev IsOther : List ℕ → ℕ → Type 0
+IsOther numbers n = AllByRecursion (λ m. m ≡ n → ⊥) numbers
+
+abbrev AreDistinct : List ℕ → Type 0
+AreDistinct [] = Unit {0}
+AreDistinct (n ∷ numbers) = IsOther numbers n × AreDistinct numbers
+
+-- the waiting numbers are of stored entries, each of one seat, once, and not acknowledged, and none is acknowledged twice
+record Numbers (h : List Entry) (waiting : ℕ → List ℕ) (acks : List (ℕ × Body)) : Type 0 where
+  below : (w : ℕ) → AllByRecursion (λ n. n < length (bodies h)) (waiting w)
+  free : (w : ℕ) → AllByRecursion (IsFree acks) (waiting w)
+  distinct : (w : ℕ) → AreDistinct (waiting w)
+  apart : (w v : ℕ) → (w ≡ v → ⊥) → AllByRecursion (IsOther (waiting v)) (waiting w)
   once : Once acks
 
 get_below : {X : Type 0} (xs : List X) (n : ℕ) (x : X) → slice_get xs n ≡ Some x → n < length xs
@@ -57,55 +70,97 @@ get_below (y ∷ xs) (suc n) x e = let rest = get_below xs n x e in omega arith
 longer : (h g : List Entry) → length (bodies h) ≤ length (bodies (h ++ g))
 longer h g = let sum = length-append (bodies h) (bodies g) in let same = ap length (bodies-append h g) in omega arith
 
-numbers_grow : (h g : List Entry) (u : ℕ → Option ℕ) (acks : List (ℕ × Body)) → Numbers h u acks → Numbers (h ++ g) u acks
+below_more : (n m : ℕ) → n ≤ m → (numbers : List ℕ) → AllByRecursion (λ k. k < n) numbers → AllByRecursion (λ k. k < m) numbers
+below_more n m le numbers all = weaker (λ k. k < n) (λ k. k < m) (λ k less. omega arith) numbers all
+
+numbers_grow : (h g : List Entry) (u : ℕ → List ℕ) (acks : List (ℕ × Body)) → Numbers h u acks → Numbers (h ++ g) u acks
 numbers_grow h g u acks k = record {
-  below = λ w n e. (let old = k.below w n e in let more = longer h g in omega arith);
+  below = λ w. below_more (length (bodies h)) (length (bodies (h ++ g))) (longer h g) (u w) (k.below w);
   free = k.free;
+  distinct = k.distinct;
   apart = k.apart;
   once = k.once;
 }
 
-none_some : (n : ℕ) → ◌≡◌ {A = Option ℕ} None (Some n) → ⊥
-none_some n e = absurd cc
-
-numbers_none : (h : List Entry) (acks : List (ℕ × Body)) → Once acks → Numbers h none_yet acks
+numbers_none : (h : List Entry) (acks : List (ℕ × Body)) → Once acks → Numbers h no_numbers acks
 numbers_none h acks once = record {
-  below = λ w n e. absurd (none_some n e);
-  free = λ w n e. absurd (none_some n e);
-  apart = λ w v n e f. absurd (none_some n e);
+  below = λ w. tt;
+  free = λ w. tt;
+  distinct = λ w. tt;
+  apart = λ w v other. tt;
   once = once;
 }
 
 -- of one seat or of another
-seat_case : {P : Type 0} (who w : ℕ) (x : Option ℕ) (u : ℕ → Option ℕ) (n : ℕ) → (w ≡ who → x ≡ Some n → P) → ((w ≡ who → ⊥) → u w ≡ Some n → P) → set_for who x u w ≡ Some n → P
-seat_case {P = P} who w x u n mine other e = by (w == who) refl e
+pub seat_case : (P : List ℕ → Type 0) (who w : ℕ) (x : List ℕ) (u : ℕ → List ℕ) → (w ≡ who → P x) → ((w ≡ who → ⊥) → P (u w)) → P (set_for who x u w)
+seat_case P who w x u mine other = by (w == who) refl
   where
-    by : (b : Bool) → (w == who) ≡ b → cond b x (u w) ≡ Some n → P
-    by true h e = mine (eqb-true w who h) e
-    by false h e = other (eqb-false w who h) e
+    by : (b : Bool) → (w == who) ≡ b → P (cond b x (u w))
+    by true h = mine (eqb-true w who h)
+    by false h = other (eqb-false w who h)
 
-number_is : (m n : ℕ) → ◌≡◌ {A = Option ℕ} (Some m) (Some n) → m ≡ n
-number_is m n e = ap (λ o. unwrap_or o m) e
+all_two : {X : Type 0} (P Q R : X → Type 0) → ((x : X) → P x → Q x → R x) → (xs : List X) → AllByRecursion P xs → AllByRecursion Q xs → AllByRecursion R xs
+all_two P Q R f [] p q = tt
+all_two P Q R f (x ∷ xs) p q = (f x p.0 q.0, all_two P Q R f xs p.1 q.1)
+
+distinct_push : (numbers : List ℕ) (n : ℕ) → AreDistinct numbers → AllByRecursion (λ k. k < n) numbers → AreDistinct (numbers ++ n ∷ [])
+distinct_push [] n d less = (tt, tt)
+distinct_push (m ∷ numbers) n d less = (
+  all_push (λ k. k ≡ m → ⊥) numbers n d.0 (λ same. (let lt = less.0 in omega arith)),
+  distinct_push numbers n d.1 less.1,
+)
+
+other_than : (numbers : List ℕ) (n : ℕ) → AllByRecursion (λ k. k < n) numbers → IsOther numbers n
+other_than numbers n less = weaker (λ k. k < n) (λ k. k ≡ n → ⊥) (λ k lt same. omega arith) numbers less
+
+distinct_filter : (t : ℕ → Bool) (numbers : List ℕ) → AreDistinct numbers → AreDistinct (filter t numbers)
+distinct_filter t [] d = tt
+distinct_filter t (n ∷ numbers) d = by (t n) (distinct_filter t numbers d.1)
+  where
+    by : (b : Bool) → AreDistinct (filter t numbers) → AreDistinct (cond b (n ∷ filter t numbers) (filter t numbers))
+    by true rest = (all_filter (λ m. m ≡ n → ⊥) t numbers d.0, rest)
+    by false rest = rest
 
 pub one_more : (h : List Entry) (who : ℕ) (body : Body) → is_stored body ≡ true → length (bodies (h ++ record { who = who; body = body } ∷ [])) ≡ length (bodies h) + 1
 one_more h who body s =
     ap length (bodies-append h (record { who = who; body = body } ∷ []) ∙ (λ i. bodies h ++ cond (s i) (body ∷ []) []))
     ∙ length-append (bodies h) (body ∷ [])
 
-numbers_sealed : (h : List Entry) (who : ℕ) (body : Body) (u : ℕ → Option ℕ) (acks : List (ℕ × Body)) → is_stored body ≡ true → AllByRecursion (StandsAt h) acks → Numbers h u acks → Numbers (h ++ record { who = who; body = body } ∷ []) (set_for who (Some (length (bodies h))) u) acks
-numbers_sealed h who body u acks s stand k =
-    let new = length (bodies h) in
-    let grown = one_more h who body s in
-    record {
-      below = λ w n e. seat_case who w (Some new) u n (λ _ f. (let same = number_is new n f in omega arith)) (λ _ f. (let old = k.below w n f in omega arith)) e;
-      free = λ w n e. seat_case who w (Some new) u n
-          (λ _ f. weaker (StandsAt h) (λ a. a.0 ≡ n → ⊥) (λ a stands same. (let lt = get_below (bodies h) a.0 a.1 stands in let at = number_is new n f in absurd (omega arith))) acks stand)
-          (λ _ f. k.free w n f) e;
-      apart = λ w v n e f. seat_case who w (Some new) u n
-          (λ mine g. seat_case who v (Some new) u n (λ other _. mine ∙ sym other) (λ _ i. (let lt = k.below v n i in let at = number_is new n g in absurd (omega arith))) f)
-          (λ _ g. seat_case who v (Some new) u n (λ _ i. (let lt = k.below w n g in let at = number_is new n i in absurd (omega arith))) (λ _ i. k.apart w v n g i) f) e;
-      once = k.once;
-    }
+acks_free : (h : List Entry) (n : ℕ) (acks : List (ℕ × Body)) → length (bodies h) ≤ n → AllByRecursion (StandsAt h) acks → IsFree acks n
+acks_free h n acks le stand = weaker (StandsAt h) (λ a. a.0 ≡ n → ⊥) (λ a stands same. (let lt = get_below (bodies h) a.0 a.1 stands in omega arith)) acks stand
+
+module _ (h : List Entry) (who : ℕ) (body : Body) (u : ℕ → List ℕ) (acks : List (ℕ × Body)) (s : is_stored body ≡ true) (stand : AllByRecursion (StandsAt h) acks) (k : Numbers h u acks) where
+  abbrev new : ℕ
+  new = length (bodies h)
+
+  abbrev now : List Entry
+  now = h ++ record { who = who; body = body } ∷ []
+
+  abbrev mine_now : List ℕ
+  mine_now = u who ++ new ∷ []
+
+  grown : length (bodies now) ≡ new + 1
+  grown = one_more h who body s
+
+  more_below : (w : ℕ) → AllByRecursion (λ n. n < length (bodies now)) (u w)
+  more_below w = below_more new (length (bodies now)) (let g = grown in omega arith) (u w) (k.below w)
+
+  apart_mine : (v : ℕ) → (v ≡ who → ⊥) → AllByRecursion (IsOther (u v)) mine_now
+  apart_mine v other = all_push (IsOther (u v)) (u who) new (k.apart who v (λ same. other (sym same))) (other_than (u v) new (k.below v))
+
+  apart_other : (w : ℕ) → (w ≡ who → ⊥) → AllByRecursion (IsOther mine_now) (u w)
+  apart_other w other = all_two (λ n. n < new) (IsOther (u who)) (IsOther mine_now) (λ n less is. all_push (λ m. m ≡ n → ⊥) (u who) new is (λ same. omega arith)) (u w) (k.below w) (k.apart w who other)
+
+  numbers_sealed : Numbers now (set_for who mine_now u) acks
+  numbers_sealed = record {
+    below = λ w. seat_case (AllByRecursion (λ n. n < length (bodies now))) who w mine_now u (λ _. all_push (λ n. n < length (bodies now)) (u who) new (more_below who) (let g = grown in omega arith)) (λ _. more_below w);
+    free = λ w. seat_case (AllByRecursion (IsFree acks)) who w mine_now u (λ _. all_push (IsFree acks) (u who) new (k.free who) (acks_free h new acks (omega arith) stand)) (λ _. k.free w);
+    distinct = λ w. seat_case AreDistinct who w mine_now u (λ _. distinct_push (u who) new (k.distinct who) (k.below who)) (λ _. k.distinct w);
+    apart = λ w v differ. seat_case (λ ns. AllByRecursion (IsOther (set_for who mine_now u v)) ns) who w mine_now u
+        (λ mine. seat_case (λ ms. AllByRecursion (IsOther ms) mine_now) who v mine_now u (λ his. absurd (differ (mine ∙ sym his))) (apart_mine v))
+        (λ other. seat_case (λ ms. AllByRecursion (IsOther ms) (u w)) who v mine_now u (λ _. apart_other w other) (λ _. k.apart w v differ));
+    once = k.once;
+  }
 
 once_push : (acks : List (ℕ × Body)) (n : ℕ) (body : Body) → Once acks → AllByRecursion (λ a. a.0 ≡ n → ⊥) acks → Once (acks ++ (n, body) ∷ [])
 once_push [] n body once free = (tt, tt)
@@ -114,15 +169,37 @@ once_push (a ∷ acks) n body once free = (
   once_push acks n body once.1 free.1,
 )
 
-numbers_answered : (h : List Entry) (who number : ℕ) (body : Body) (u : ℕ → Option ℕ) (acks : List (ℕ × Body)) → u who ≡ Some number → Numbers h u acks → Numbers h (set_for who None u) (acks ++ (number, body) ∷ [])
-numbers_answered h who number body u acks at k = record {
-  below = λ w n e. seat_case who w None u n (λ _ f. absurd (none_some n f)) (λ _ f. k.below w n f) e;
-  free = λ w n e. seat_case who w None u n (λ _ f. absurd (none_some n f))
-      (λ other f. all_push {X = ℕ × Body} (λ a. a.0 ≡ n → ⊥) acks (number, body) (k.free w n f) (λ same. other (k.apart w who n f (at ∙ ap (λ m. Some m) same)))) e;
-  apart = λ w v n e f. seat_case who w None u n (λ _ g. absurd (none_some n g))
-      (λ _ g. seat_case who v None u n (λ _ i. absurd (none_some n i)) (λ _ i. k.apart w v n g i) f) e;
-  once = once_push acks number body k.once (k.free who number at);
-}
+module _ (h : List Entry) (who number : ℕ) (rest : List ℕ) (body : Body) (u : ℕ → List ℕ) (acks : List (ℕ × Body)) (at : u who ≡ number ∷ rest) (k : Numbers h u acks) where
+  abbrev with_this : List (ℕ × Body)
+  with_this = acks ++ (number, body) ∷ []
+
+  mine_free : AllByRecursion (IsFree acks) (number ∷ rest)
+  mine_free = subst (AllByRecursion (IsFree acks)) at (k.free who)
+
+  mine_distinct : AreDistinct (number ∷ rest)
+  mine_distinct = subst AreDistinct at (k.distinct who)
+
+  still_free : (n : ℕ) → IsFree acks n → (number ≡ n → ⊥) → IsFree with_this n
+  still_free n free other = all_push {X = ℕ × Body} (λ a. a.0 ≡ n → ⊥) acks (number, body) free other
+
+  others_apart : (w : ℕ) → (w ≡ who → ⊥) → AllByRecursion (IsOther (number ∷ rest)) (u w)
+  others_apart w other = subst (λ ns. AllByRecursion (IsOther ns) (u w)) at (k.apart w who other)
+
+  numbers_answered : Numbers h (set_for who rest u) with_this
+  numbers_answered = record {
+    below = λ w. seat_case (AllByRecursion (λ n. n < length (bodies h))) who w rest u (λ _. (subst (AllByRecursion (λ n. n < length (bodies h))) at (k.below who)).1) (λ _. k.below w);
+    free = λ w. seat_case (AllByRecursion (IsFree with_this)) who w rest u
+        (λ _. all_two (IsFree acks) (λ n. n ≡ number → ⊥) (IsFree with_this) (λ n free other. still_free n free (λ same. other (sym same))) rest mine_free.1 mine_distinct.0)
+        (λ other. all_two (IsFree acks) (IsOther (number ∷ rest)) (IsFree with_this) (λ n free apart. still_free n free apart.0) (u w) (k.free w) (others_apart w other));
+    distinct = λ w. seat_case AreDistinct who w rest u (λ _. mine_distinct.1) (λ _. k.distinct w);
+    apart = λ w v differ. seat_case (λ ns. AllByRecursion (IsOther (set_for who rest u v)) ns) who w rest u
+        (λ mine. seat_case (λ ms. AllByRecursion (IsOther ms) rest) who v rest u (λ his. absurd (differ (mine ∙ sym his)))
+        (λ other. (subst (AllByRecursion (IsOther (u v))) at (k.apart who v (λ same. other (sym same)))).1))
+        (λ other. seat_case (λ ms. AllByRecursion (IsOther ms) (u w)) who v rest u
+        (λ _. weaker (IsOther (number ∷ rest)) (IsOther rest) (λ n apart. apart.1) (u w) (others_apart w other))
+        (λ _. k.apart w v differ));
+    once = once_push acks number body k.once mine_free.0;
+  }
 
 -- While entries are pending, and while they are sealed, no breaking fault is held
 abbrev UpFact : List Entry → ℕ → Option Sealing → Type 0
@@ -131,7 +208,9 @@ UpFact h n (Some r) = is_left_over r.stage ≡ false → is_down h ≡ false
 
 pub record Kept (header : Header) (s : State) : Type 0 where
   pub legal : IsLegal header s.history
-  most : s.sealed ≤ length (bodies s.history)
+  -- what is sealed, where the group ends, and what is stored
+  least : s.sealed ≤ group_end s
+  most : group_end s ≤ length (bodies s.history)
   up : UpFact s.history s.sealed s.sealing
   acknowledged : AllByRecursion (StandsAt s.history) s.acknowledged
   -- what is acknowledged is sealed
@@ -140,21 +219,16 @@ pub record Kept (header : Header) (s : State) : Type 0 where
 
 -- ---- who waits
 
-pub alone_is : (n number : ℕ) (o : Option ℕ) → sealed_alone n o ≡ Some number → o ≡ Some number
-alone_is n number None e = absurd (none_some number e)
-alone_is n number (Some k) e = by (nat_lt k n) e
-  where
-    by : (b : Bool) → cond b (Some k) None ≡ Some number → ◌≡◌ {A = Option ℕ} (Some k) (Some number)
-    by true e = e
-    by false e = absurd (none_some number e)
-
-numbers_alone : (h : List Entry) (n : ℕ) (u : ℕ → Option ℕ) (acks : List (ℕ × Body)) → Numbers h u acks → Numbers h (λ seat. sealed_alone n (u seat)) acks
-numbers_alone h n u acks k = record {
-  below = λ w m e. k.below w m (alone_is n m (u w) e);
-  free = λ w m e. k.free w m (alone_is n m (u w) e);
-  apart = λ w v m e f. k.apart w v m (alone_is n m (u w) e) (alone_is n m (u v) f);
-  once = k.once;
-}
+numbers_alone : (h : List Entry) (n : ℕ) (u : ℕ → List ℕ) (acks : List (ℕ × Body)) → Numbers h u acks → Numbers h (λ seat. sealed_alone n (u seat)) acks
+numbers_alone h n u acks k =
+    let t : ℕ → Bool = λ number. nat_lt number n in
+    record {
+      below = λ w. all_filter (λ m. m < length (bodies h)) t (u w) (k.below w);
+      free = λ w. all_filter (IsFree acks) t (u w) (k.free w);
+      distinct = λ w. distinct_filter t (u w) (k.distinct w);
+      apart = λ w v differ. all_filter (IsOther (filter t (u v))) t (u w) (weaker (IsOther (u v)) (IsOther (filter t (u v))) (λ m other. all_filter (λ j. j ≡ m → ⊥) t (u v) other) (u w) (k.apart w v differ));
+      once = k.once;
+    }
 
 -- ---- breaking faults
 
@@ -192,6 +266,7 @@ choose header false s t k l = l
 fault_kept : (header : Header) (s : State) (who : ℕ) → Kept header s → Kept header (added who (Fault false) s)
 fault_kept header s who k = record {
   legal = (IsLegal-push header s.history (record { who = who; body = Fault false })).1 (k.legal, refl);
+  least = k.least;
   most = (let more = longer s.history (record { who = who; body = Fault false } ∷ []) in let old = k.most in omega arith);
   up = up_fault s.history who s.sealed s.sealing k.up;
   acknowledged = still_stand s.history _ s.acknowledged k.acknowledged;
@@ -203,6 +278,7 @@ fault_kept header s who k = record {
 entered_kept : (header : Header) (s : State) (who : ℕ) (body : Body) → MayFollow header s.history body → is_stored body ≡ true → is_down s.history ≡ false → UpFact (s.history ++ record { who = who; body = body } ∷ []) s.sealed s.sealing → Kept header s → Kept header (entered who (Some body) s)
 entered_kept header s who body follows stored up fact k = record {
   legal = (IsLegal-push header s.history (record { who = who; body = body })).1 (k.legal, follows);
+  least = k.least;
   most = (let more = longer s.history (record { who = who; body = body } ∷ []) in let old = k.most in omega arith);
   up = fact;
   acknowledged = still_stand s.history _ s.acknowledged k.acknowledged;
@@ -226,52 +302,58 @@ exchanged_of header s who ask a (Ok judged) e k = exchanged_by header s who ask 
 exchanged_of header s who ask a (Err refusal) e k = k
 
 unplanned_kept : (header : Header) (s : State) (who : ℕ) → Kept header s → Kept header (record s { plan = set_for who None s.plan })
-unplanned_kept header s who k = record { legal = k.legal; most = k.most; up = k.up; acknowledged = k.acknowledged; first = k.first; numbers = k.numbers }
+unplanned_kept header s who k = record { legal = k.legal; least = k.least; most = k.most; up = k.up; acknowledged = k.acknowledged; first = k.first; numbers = k.numbers }
 
 exchanged_kept : (header : Header) (s : State) (who : ℕ) (ask : Ask) → is_ask s.history ask ≡ true → Kept header s → Kept header (exchanged header s who ask)
 exchanged_kept header s who ask a k =
     choose header (is_as_planned s.history (s.plan who) ask) (entered who (entry_of (judge header s.history ask)) s) (record s { plan = set_for who None s.plan })
     (exchanged_of header s who ask a (judge header s.history ask) refl k) (unplanned_kept header s who k)
 
--- while a group is being sealed
-broken_kept : (header : Header) (s : State) (who : ℕ) (opening : Bool) → is_down s.history ≡ false → Kept header s → Kept header (broken who opening s)
-broken_kept header s who opening up k = record {
+-- with a group that ends behind what is sealed, within what is stored
+broken_kept : (header : Header) (s : State) (who upto : ℕ) (opening : Bool) → is_down s.history ≡ false → s.sealed ≤ upto → upto ≤ length (bodies s.history) → Kept header s → Kept header (broken who upto opening s)
+broken_kept header s who upto opening up least most k = record {
   legal = (IsLegal-push header s.history (record { who = who; body = Fault true })).1 (k.legal, up);
-  most = (let more = longer s.history (record { who = who; body = Fault true } ∷ []) in let old = k.most in omega arith);
+  least = least;
+  most = (let more = longer s.history (record { who = who; body = Fault true } ∷ []) in omega arith);
   up = λ no. absurd (true≢false no);
   acknowledged = still_stand s.history _ s.acknowledged k.acknowledged;
   first = k.first;
   numbers = numbers_grow s.history (record { who = who; body = Fault true } ∷ []) (λ seat. sealed_alone s.sealed (s.waiting seat)) s.acknowledged (numbers_alone s.history s.sealed s.waiting s.acknowledged k.numbers);
 }
 
-come_kept : (header : Header) (s : State) (who : ℕ) (stage : Stage) → is_down s.history ≡ false → Kept header s → Kept header (come_to who stage s)
-come_kept header s who stage up k = record { legal = k.legal; most = k.most; up = λ busy. up; acknowledged = k.acknowledged; first = k.first; numbers = k.numbers }
+come_kept : (header : Header) (s : State) (upto : ℕ) (stage : Stage) → is_down s.history ≡ false → s.sealed ≤ upto → upto ≤ length (bodies s.history) → Kept header s → Kept header (come_to upto stage s)
+come_kept header s upto stage up least most k = record { legal = k.legal; least = least; most = most; up = λ busy. up; acknowledged = k.acknowledged; first = k.first; numbers = k.numbers }
 
 all_below : (n m : ℕ) → n ≤ m → (acks : List (ℕ × Body)) → AllByRecursion (λ (a : ℕ × Body). a.0 < n) acks → AllByRecursion (λ (a : ℕ × Body). a.0 < m) acks
 all_below n m le acks all = weaker (λ (a : ℕ × Body). a.0 < n) (λ (a : ℕ × Body). a.0 < m) (λ a less. omega arith) acks all
 
-all_sealed_kept : (header : Header) (s : State) → Kept header s → Kept header (all_sealed s)
-all_sealed_kept header s k = record {
+group_sealed_kept : (header : Header) (s : State) (upto : ℕ) → is_down s.history ≡ false → s.sealed ≤ upto → upto ≤ length (bodies s.history) → Kept header s → Kept header (group_sealed upto s)
+group_sealed_kept header s upto up least most k = record {
   legal = k.legal;
-  most = omega arith;
-  up = λ less. absurd (omega arith);
+  least = omega arith;
+  most = most;
+  up = λ less. up;
   acknowledged = k.acknowledged;
-  first = all_below s.sealed (length (bodies s.history)) k.most s.acknowledged k.first;
+  first = all_below s.sealed upto least s.acknowledged k.first;
   numbers = k.numbers;
 }
 
-call_kept : (header : Header) (step : Step) (who : ℕ) (stage : Stage) (s t : State) → (is_left_over stage ≡ false → is_down s.history ≡ false) → Kept header s → device_call step who stage s ≡ Some t → Kept header t
-call_kept header (SyncGroup done) who Written s t up k e =
-    subst (Kept header) (some_is _ t e) (choose header done (come_to who Flushed s) (broken who false s) (come_kept header s who Flushed (up refl) k) (broken_kept header s who false (up refl) k))
-call_kept header (OpenGate done) who Flushed s t up k e =
-    subst (Kept header) (some_is _ t e) (choose header done (come_to who Opened s) (broken who true s) (come_kept header s who Opened (up refl) k) (broken_kept header s who true (up refl) k))
-call_kept header (Seal done) who Opened s t up k e =
-    subst (Kept header) (some_is _ t e) (choose header done (all_sealed s) (broken who true s) (all_sealed_kept header s k) (broken_kept header s who true (up refl) k))
-call_kept header step who stage s t up k e = absurd cc
+call_kept : (header : Header) (step : Step) (upto : ℕ) (stage : Stage) (s t : State) → (is_left_over stage ≡ false → is_down s.history ≡ false) → s.sealed ≤ upto → upto ≤ length (bodies s.history) → Kept header s → device_call step upto stage s ≡ Some t → Kept header t
+call_kept header (SyncGroup who done) upto Written s t up least most k e =
+    subst (Kept header) (some_is _ t e) (choose header done (come_to upto Flushed s) (broken who upto false s) (come_kept header s upto Flushed (up refl) least most k) (broken_kept header s who upto false (up refl) least most k))
+call_kept header (OpenGate who done) upto Flushed s t up least most k e =
+    subst (Kept header) (some_is _ t e) (choose header done (come_to upto Opened s) (broken who upto true s) (come_kept header s upto Opened (up refl) least most k) (broken_kept header s who upto true (up refl) least most k))
+call_kept header (Seal who done) upto Opened s t up least most k e =
+    subst (Kept header) (some_is _ t e) (choose header done (group_sealed upto s) (broken who upto true s) (group_sealed_kept header s upto (up refl) least most k) (broken_kept header s who upto true (up refl) least most k))
+call_kept header step upto stage s t up least most k e = absurd cc
 
-seals_kept : (header : Header) (step : Step) (s t : State) (o : Option Sealing) → UpFact s.history s.sealed o → Kept header s → option_and_then (λ r. device_call step r.who r.stage s) o ≡ Some t → Kept header t
-seals_kept header step s t None up k e = absurd cc
-seals_kept header step s t (Some r) up k e = call_kept header step r.who r.stage s t up k e
+-- where the group ends, as the sealing tells it
+end_is : (s : State) (r : Sealing) → s.sealing ≡ Some r → group_end s ≡ r.upto
+end_is s r e = ap (λ o. option_map_or (λ r. r.upto) o s.sealed) e
+
+seals_kept : (header : Header) (step : Step) (s t : State) (o : Option Sealing) → s.sealing ≡ o → UpFact s.history s.sealed o → Kept header s → option_and_then (λ r. device_call step r.upto r.stage s) o ≡ Some t → Kept header t
+seals_kept header step s t None is up k e = absurd cc
+seals_kept header step s t (Some r) is up k e = call_kept header step r.upto r.stage s t up (subst (λ n. s.sealed ≤ n) (end_is s r is) k.least) (subst (λ n. n ≤ length (bodies s.history)) (end_is s r is) k.most) k e
 
 -- something is pending, and no group is being sealed or left over
 begins_up : (h : List Entry) (n : ℕ) (o : Option Sealing) → is_none o ≡ true → n < length (bodies h) → UpFact h n o → is_down h ≡ false
@@ -279,27 +361,35 @@ begins_up h n None none less up = up less
 begins_up h n (Some r) none less up = absurd (true≢false (sym none))
 
 written_kept : (header : Header) (s : State) (who : ℕ) (done : Bool) → is_down s.history ≡ false → Kept header s → Kept header (written s who done)
-written_kept header s who done up k = choose header done (come_to who Written s) (broken who false s) (come_kept header s who Written up k) (broken_kept header s who false up k)
+written_kept header s who done up k =
+    let all = length (bodies s.history) in
+    let least = k.least in
+    let most = k.most in
+    choose header done (come_to all Written s) (broken who all false s) (come_kept header s all Written up (omega arith) (omega arith) k) (broken_kept header s who all false up (omega arith) (omega arith) k)
 
-answer_by : (header : Header) (s t : State) (who number : ℕ) (o : Option Body) → s.waiting who ≡ Some number → number < s.sealed → slice_get (bodies s.history) number ≡ o → option_map (acknowledged_with s who number) o ≡ Some t → Kept header s → Kept header t
-answer_by header s t who number None at less stands e k = absurd cc
-answer_by header s t who number (Some body) at less stands e k =
+laid_kept : (header : Header) (s : State) (who : ℕ) (done : Bool) → is_down s.history ≡ false → Kept header s → Kept header (laid s who done)
+laid_kept header s who done up k = choose header done s (broken who (group_end s) (may_be_kept s.sealing) s) k (broken_kept header s who (group_end s) (may_be_kept s.sealing) up k.least k.most k)
+
+answer_by : (header : Header) (s t : State) (who number : ℕ) (rest : List ℕ) (o : Option Body) → s.waiting who ≡ number ∷ rest → number < s.sealed → slice_get (bodies s.history) number ≡ o → option_map (acknowledged_with s who number rest) o ≡ Some t → Kept header s → Kept header t
+answer_by header s t who number rest None at less stands e k = absurd cc
+answer_by header s t who number rest (Some body) at less stands e k =
     subst (Kept header) (some_is _ t e) (record {
       legal = k.legal;
+      least = k.least;
       most = k.most;
       up = k.up;
       acknowledged = all_push (StandsAt s.history) s.acknowledged (number, body) k.acknowledged stands;
       first = all_push {X = ℕ × Body} (λ a. a.0 < s.sealed) s.acknowledged (number, body) k.first less;
-      numbers = numbers_answered s.history who number body s.waiting s.acknowledged at k.numbers;
+      numbers = numbers_answered s.history who number rest body s.waiting s.acknowledged at k.numbers;
     })
 
-answer_if : (header : Header) (s t : State) (who number : ℕ) (b : Bool) → nat_lt number s.sealed ≡ b → s.waiting who ≡ Some number → (if b then option_map (acknowledged_with s who number) (slice_get (bodies s.history) number) else None) ≡ Some t → Kept header s → Kept header t
-answer_if header s t who number true is at e k = answer_by header s t who number (slice_get (bodies s.history) number) at (ltb-true number s.sealed is) refl e k
-answer_if header s t who number false is at e k = absurd cc
+answer_if : (header : Header) (s t : State) (who number : ℕ) (rest : List ℕ) (b : Bool) → nat_lt number s.sealed ≡ b → s.waiting who ≡ number ∷ rest → (if b then option_map (acknowledged_with s who number rest) (slice_get (bodies s.history) number) else None) ≡ Some t → Kept header s → Kept header t
+answer_if header s t who number rest true is at e k = answer_by header s t who number rest (slice_get (bodies s.history) number) at (ltb-true number s.sealed is) refl e k
+answer_if header s t who number rest false is at e k = absurd cc
 
-answer_kept : (header : Header) (s t : State) (who : ℕ) (o : Option ℕ) → s.waiting who ≡ o → option_and_then (answer s who) o ≡ Some t → Kept header s → Kept header t
-answer_kept header s t who None at e k = absurd cc
-answer_kept header s t who (Some number) at e k = answer_if header s t who number (nat_lt number s.sealed) refl at e k
+answer_kept : (header : Header) (s t : State) (who : ℕ) (numbers : List ℕ) → s.waiting who ≡ numbers → answer s who numbers ≡ Some t → Kept header s → Kept header t
+answer_kept header s t who [] at e k = absurd cc
+answer_kept header s t who (number ∷ rest) at e k = answer_if header s t who number rest (nat_lt number s.sealed) refl at e k
 
 -- ---- a crash
 
@@ -346,6 +436,7 @@ left_length h n le = ap length (bodies_left h n) ∙ (let len = length-take n (b
 reopened_kept : (header : Header) (s : State) (n : ℕ) → s.sealed ≤ n → n ≤ length (bodies s.history) → Kept header s → Kept header (reopened s n)
 reopened_kept header s n least most k = record {
   legal = legal_left header s.history n k.legal;
+  least = omega arith;
   most = omega arith;
   up = λ less. absurd (omega arith);
   acknowledged = stand_left s.history s.sealed n least s.acknowledged k.acknowledged k.first;
@@ -353,40 +444,40 @@ reopened_kept header s n least most k = record {
   numbers = numbers_none (map unnumbered (take n (bodies s.history))) s.acknowledged k.numbers.once;
 }
 
-crash_by : (header : Header) (s t : State) (b : Bool) → option_map (reopened s) (if b then Some (length (bodies s.history)) else None) ≡ Some t → Kept header s → Kept header t
-crash_by header s t true e k = subst (Kept header) (some_is _ t e) (reopened_kept header s (length (bodies s.history)) k.most (omega arith) k)
+crash_by : (header : Header) (s t : State) (b : Bool) → option_map (reopened s) (if b then Some (group_end s) else None) ≡ Some t → Kept header s → Kept header t
+crash_by header s t true e k = subst (Kept header) (some_is _ t e) (reopened_kept header s (group_end s) k.least k.most k)
 crash_by header s t false e k = absurd cc
 
 crash_kept : (header : Header) (s t : State) (kept : Bool) → option_map (reopened s) (kept_of s kept) ≡ Some t → Kept header s → Kept header t
-crash_kept header s t false e k = subst (Kept header) (some_is _ t e) (reopened_kept header s s.sealed (omega arith) k.most k)
+crash_kept header s t false e k = subst (Kept header) (some_is _ t e) (reopened_kept header s s.sealed (omega arith) (let least = k.least in let most = k.most in omega arith) k)
 crash_kept header s t true e k = crash_by header s t (may_be_kept s.sealing) e k
 
 -- ---- jobs
 
 taken_kept : (header : Header) (s t : State) (o : Option Job) → option_map (λ job. record s { jobs = s.jobs ++ job ∷ [] }) o ≡ Some t → Kept header s → Kept header t
 taken_kept header s t None e k = absurd cc
-taken_kept header s t (Some job) e k = subst (Kept header) (some_is _ t e) (record { legal = k.legal; most = k.most; up = k.up; acknowledged = k.acknowledged; first = k.first; numbers = k.numbers })
+taken_kept header s t (Some job) e k = subst (Kept header) (some_is _ t e) (record { legal = k.legal; least = k.least; most = k.most; up = k.up; acknowledged = k.acknowledged; first = k.first; numbers = k.numbers })
 
 settled_kept : (header : Header) (s t : State) (o : Option Job) → option_map (λ job. record s { table = settled_with s.table (derive job) }) o ≡ Some t → Kept header s → Kept header t
 settled_kept header s t None e k = absurd cc
-settled_kept header s t (Some job) e k = subst (Kept header) (some_is _ t e) (record { legal = k.legal; most = k.most; up = k.up; acknowledged = k.acknowledged; first = k.first; numbers = k.numbers })
+settled_kept header s t (Some job) e k = subst (Kept header) (some_is _ t e) (record { legal = k.legal; least = k.least; most = k.most; up = k.up; acknowledged = k.acknowledged; first = k.first; numbers = k.numbers })
 
 pub step_kept : (header : Header) (s t : State) (step : Step) → after_step header s step ≡ Some t → Kept header s → Kept header t
-step_kept header s t (PlanLanding who name draft moment) e k = subst (Kept header) (some_is _ t e) (record { legal = k.legal; most = k.most; up = k.up; acknowledged = k.acknowledged; first = k.first; numbers = k.numbers })
+step_kept header s t (PlanLanding who name draft moment) e k = subst (Kept header) (some_is _ t e) (record { legal = k.legal; least = k.least; most = k.most; up = k.up; acknowledged = k.acknowledged; first = k.first; numbers = k.numbers })
 step_kept header s t (Exchange who ask) e k =
-    let w = when_ok (is_ask s.history ask && is_idle s.sealing && is_none (s.waiting who)) (exchanged header s who ask) t e in
-    let asked : is_ask s.history ask ≡ true = (and_parts (is_ask s.history ask) (is_idle s.sealing) (and_parts (is_ask s.history ask && is_idle s.sealing) (is_none (s.waiting who)) w.0).0).0 in
-    subst (Kept header) w.1 (exchanged_kept header s who ask asked k)
-step_kept header s t (Look who done) e k =
-    let w = when_ok (is_idle s.sealing) (if done then s else added who (Fault false) s) t e in
-    subst (Kept header) w.1 (choose header done s (added who (Fault false) s) k (fault_kept header s who k))
+    let w = when_ok (is_ask s.history ask) (exchanged header s who ask) t e in
+    subst (Kept header) w.1 (exchanged_kept header s who ask w.0 k)
+step_kept header s t (Look who done) e k = subst (Kept header) (some_is _ t e) (choose header done s (added who (Fault false) s) k (fault_kept header s who k))
+step_kept header s t (LayContent who done) e k =
+    let w = when_ok (not (is_down s.history)) (laid s who done) t e in
+    subst (Kept header) w.1 (laid_kept header s who done (not-true (is_down s.history) w.0) k)
 step_kept header s t (WriteGroup who done) e k =
     let w = when_ok (is_none s.sealing && nat_lt s.sealed (length (bodies s.history))) (written s who done) t e in
     let parts = and_parts (is_none s.sealing) (nat_lt s.sealed (length (bodies s.history))) w.0 in
     subst (Kept header) w.1 (written_kept header s who done (begins_up s.history s.sealed s.sealing parts.0 (ltb-true s.sealed (length (bodies s.history)) parts.1) k.up) k)
-step_kept header s t (SyncGroup done) e k = seals_kept header (SyncGroup done) s t s.sealing k.up k e
-step_kept header s t (OpenGate done) e k = seals_kept header (OpenGate done) s t s.sealing k.up k e
-step_kept header s t (Seal done) e k = seals_kept header (Seal done) s t s.sealing k.up k e
+step_kept header s t (SyncGroup who done) e k = seals_kept header (SyncGroup who done) s t s.sealing refl k.up k e
+step_kept header s t (OpenGate who done) e k = seals_kept header (OpenGate who done) s t s.sealing refl k.up k e
+step_kept header s t (Seal who done) e k = seals_kept header (Seal who done) s t s.sealing refl k.up k e
 step_kept header s t (Acknowledge who) e k = answer_kept header s t who (s.waiting who) refl e k
 step_kept header s t (TakeJob x) e k = taken_kept header s t (job_of s x) e k
 step_kept header s t (Settle x) e k = settled_kept header s t (find (λ job. bytes_eq job.changeset.id x) s.jobs) e k
@@ -402,7 +493,7 @@ steps_kept header (step ∷ steps) s t e k =
     steps_by header t steps (after_step header s step) (λ next at. step_kept header s next step at k) (λ next at kept. steps_kept header steps next t at kept) e
 
 pub started_kept : (header : Header) (h : List Entry) → IsLegal header h → Kept header (opened h)
-started_kept header h legal = record { legal = legal; most = omega arith; up = λ less. absurd (omega arith); acknowledged = tt; first = tt; numbers = numbers_none h [] tt }
+started_kept header h legal = record { legal = legal; least = omega arith; most = omega arith; up = λ less. absurd (omega arith); acknowledged = tt; first = tt; numbers = numbers_none h [] tt }
 
 -- whatever steps are taken from a legal history, the history stays legal, each acknowledged entry stands at its log number, and no number is acknowledged twice
 pub core_keeps : (header : Header) (h : List Entry) (steps : List Step) (s : State) → IsLegal header h → after_steps header (opened h) steps ≡ Some s → IsLegal header s.history × AllByRecursion (λ a. slice_get (bodies s.history) a.0 ≡ Some a.1) s.acknowledged × Once s.acknowledged

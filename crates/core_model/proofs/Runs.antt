@@ -24,7 +24,7 @@ use Rattle.history_model.specs.Payload.{payload_body}
 use Rattle.manifest_model.specs.NodeReading.{fsnode_of, unode_of}
 use Rattle.changeset_model.specs.Version.{First, Second}
 use Rattle.reply_model.specs.After.{After, Asks, Grants, DiskFault}
-use Rattle.core_model.specs.Core.{PlanLanding, Step, Exchange, WriteGroup, SyncGroup, OpenGate, Seal, Acknowledge, TakeJob, Settle, Crash, nodes_among, opened, after_steps}
+use Rattle.core_model.specs.Core.{PlanLanding, Step, Exchange, Look, LayContent, WriteGroup, SyncGroup, OpenGate, Seal, Acknowledge, TakeJob, Settle, Crash, nodes_among, opened, after_steps}
 
 -- ---- a content, and the same again
 
@@ -290,13 +290,13 @@ put_abc = Exchange 1 (PutContent (codes "abc"))
 
 -- a crash may keep a group once its gate was to be opened, and not before
 crashes : map history_after (
-    (put_abc ∷ WriteGroup 1 true ∷ SyncGroup true ∷ Crash false ∷ [])
-    ∷ (put_abc ∷ WriteGroup 1 true ∷ SyncGroup true ∷ Crash true ∷ [])
-    ∷ (put_abc ∷ WriteGroup 1 true ∷ SyncGroup true ∷ OpenGate true ∷ Crash true ∷ [])
-    ∷ (put_abc ∷ WriteGroup 1 true ∷ SyncGroup true ∷ OpenGate true ∷ Seal true ∷ Acknowledge 1 ∷ Crash false ∷ [])
-    ∷ (put_abc ∷ WriteGroup 1 true ∷ SyncGroup false ∷ [])
-    ∷ (put_abc ∷ WriteGroup 1 true ∷ SyncGroup false ∷ Crash false ∷ [])
-    ∷ (put_abc ∷ Exchange 2 (PutContent []) ∷ WriteGroup 2 true ∷ SyncGroup true ∷ OpenGate true ∷ Seal true ∷ Acknowledge 1 ∷ Acknowledge 2 ∷ Crash false ∷ [])
+    (put_abc ∷ WriteGroup 1 true ∷ SyncGroup 1 true ∷ Crash false ∷ [])
+    ∷ (put_abc ∷ WriteGroup 1 true ∷ SyncGroup 1 true ∷ Crash true ∷ [])
+    ∷ (put_abc ∷ WriteGroup 1 true ∷ SyncGroup 1 true ∷ OpenGate 1 true ∷ Crash true ∷ [])
+    ∷ (put_abc ∷ WriteGroup 1 true ∷ SyncGroup 1 true ∷ OpenGate 1 true ∷ Seal 1 true ∷ Acknowledge 1 ∷ Crash false ∷ [])
+    ∷ (put_abc ∷ WriteGroup 1 true ∷ SyncGroup 1 false ∷ [])
+    ∷ (put_abc ∷ WriteGroup 1 true ∷ SyncGroup 1 false ∷ Crash false ∷ [])
+    ∷ (put_abc ∷ Exchange 2 (PutContent []) ∷ WriteGroup 2 true ∷ SyncGroup 2 true ∷ OpenGate 2 true ∷ Seal 2 true ∷ Acknowledge 1 ∷ Acknowledge 2 ∷ Crash false ∷ [])
     ∷ (put_abc ∷ Acknowledge 1 ∷ [])
     ∷ [])
     ≡ Some []
@@ -311,6 +311,46 @@ crashes : map history_after (
 unfolding is_utf8 chars lib.Utf8.encode sha256 digest_bytes hash_after compress rounds schedule first_words
 crashes = refl
 
+-- what others enter while a group is being sealed stands behind it. A crash keeps the group without it, and a seal seals the group alone
+behind : map history_after (
+    (put_abc ∷ WriteGroup 1 true ∷ Exchange 2 (PutContent []) ∷ Look 3 true ∷ SyncGroup 1 true ∷ OpenGate 1 true ∷ Crash true ∷ [])
+    ∷ (put_abc ∷ WriteGroup 1 true ∷ SyncGroup 1 true ∷ OpenGate 1 true ∷ Exchange 2 (PutContent []) ∷ Seal 1 true ∷ Acknowledge 1 ∷ Crash false ∷ [])
+    ∷ (put_abc ∷ WriteGroup 1 true ∷ Exchange 2 (PutContent []) ∷ SyncGroup 1 true ∷ OpenGate 1 true ∷ Seal 1 true ∷ Acknowledge 2 ∷ [])
+    ∷ (put_abc ∷ WriteGroup 1 true ∷ Exchange 2 (PutContent []) ∷ WriteGroup 2 true ∷ [])
+    ∷ (put_abc ∷ WriteGroup 1 true ∷ SyncGroup 1 true ∷ OpenGate 1 true ∷ Exchange 2 (PutContent []) ∷ Seal 1 false ∷ Crash true ∷ [])
+    ∷ (put_abc ∷ Exchange 1 (PutContent []) ∷ WriteGroup 1 true ∷ SyncGroup 1 true ∷ OpenGate 1 true ∷ Seal 1 true ∷ Acknowledge 1 ∷ Acknowledge 1 ∷ Crash false ∷ [])
+    ∷ [])
+    ≡ Some one
+    ∷ Some one
+    ∷ None
+    ∷ None
+    ∷ Some one
+    ∷ Some (unnumbered (Content (sha256 (codes "abc")) 3) ∷ unnumbered (Content (sha256 []) 0) ∷ [])
+    ∷ []
+unfolding is_utf8 chars lib.Utf8.encode sha256 digest_bytes hash_after compress rounds schedule first_words
+behind = refl
+
+-- contents whose bytes can't be written leave over what is under way, and are no entry
+lays : map history_after (
+    (LayContent 1 true ∷ put_abc ∷ [])
+    ∷ (LayContent 1 false ∷ [])
+    ∷ (put_abc ∷ LayContent 2 false ∷ Crash false ∷ [])
+    ∷ (put_abc ∷ WriteGroup 1 true ∷ LayContent 2 false ∷ Crash true ∷ [])
+    ∷ (put_abc ∷ WriteGroup 1 true ∷ SyncGroup 1 true ∷ OpenGate 1 true ∷ LayContent 2 false ∷ Crash true ∷ [])
+    ∷ (put_abc ∷ WriteGroup 1 true ∷ LayContent 2 false ∷ SyncGroup 1 true ∷ [])
+    ∷ (LayContent 1 false ∷ LayContent 1 true ∷ [])
+    ∷ [])
+    ≡ Some (record { who = 1; body = Content (sha256 (codes "abc")) 3 } ∷ [])
+    ∷ Some (record { who = 1; body = Fault true } ∷ [])
+    ∷ Some []
+    ∷ None
+    ∷ Some one
+    ∷ None
+    ∷ None
+    ∷ []
+unfolding is_utf8 chars lib.Utf8.encode sha256 digest_bytes hash_after compress rounds schedule first_words
+lays = refl
+
 -- the table's changesets, and how many nodes it has
 abbrev table_after : List Step → Option (List Id × ℕ)
 table_after steps = option_map (λ s. (map (λ m. m.id) s.table, length (nodes_among s.table))) (after_steps (record { capacity = 65536; version = First }) (opened (starting B (X ∷ []))) steps)
@@ -319,7 +359,7 @@ table_after steps = option_map (λ s. (map (λ m. m.id) s.table, length (nodes_a
 tables : map table_after (
     (TakeJob (id_of X) ∷ [])
     ∷ (TakeJob (id_of B) ∷ Settle (id_of B) ∷ TakeJob (id_of X) ∷ Settle (id_of X) ∷ Settle (id_of X) ∷ [])
-    ∷ (TakeJob (id_of B) ∷ Exchange 1 (PutChangeset (spelling C)) ∷ WriteGroup 1 true ∷ SyncGroup true ∷ OpenGate true ∷ Seal true ∷ Settle (id_of B) ∷ [])
+    ∷ (TakeJob (id_of B) ∷ Exchange 1 (PutChangeset (spelling C)) ∷ WriteGroup 1 true ∷ SyncGroup 1 true ∷ OpenGate 1 true ∷ Seal 1 true ∷ Settle (id_of B) ∷ [])
     ∷ (TakeJob (id_of B) ∷ Settle (id_of B) ∷ Crash false ∷ [])
     ∷ (TakeJob (id_of C) ∷ [])
     ∷ [])

@@ -7,7 +7,7 @@ use Rattle.std.proofs.lemmas.List.{append-nil}
 use Rattle.std.proofs.lemmas.Grind.{flat_map-append}
 use Rattle.std.proofs.lemmas.Slice.Eq.{bytes_eq-Decides}
 use Rattle.byte_fields.specs.Bytes.{Id}
-use Rattle.history_model.specs.History.{Body, Fault, Entry, unnumbered, bodies, Known, known, is_known}
+use Rattle.history_model.specs.History.{Body, Fault, Entry, unnumbered, bodies, is_down, Known, known, is_known}
 use Rattle.history_model.specs.Chain.{first_of, first_parent}
 use Rattle.history_model.specs.Past.{Past, Begin, second_of, past}
 use Rattle.history_model.proofs.Chains.{first_of_all}
@@ -16,7 +16,7 @@ use Rattle.manifest_model.specs.Manifests.{Manifests, nodes_in, manifests_in, ma
 use Rattle.history_model.specs.Journal.{Header}
 use Rattle.reply_model.specs.Legal.{IsLegal}
 use Rattle.reply_model.specs.Reply.{Ask, is_ask, judge}
-use Rattle.core_model.specs.Core.{State, Step, Sealing, Stage, Written, Flushed, Opened, PlanLanding, Exchange, Look, WriteGroup, SyncGroup, OpenGate, Seal, Acknowledge, TakeJob, Settle, Crash, set_for, is_idle, is_as_planned, entry_of, entered, exchanged, added, broken, come_to, all_sealed, written, device_call, acknowledged_with, answer, are_apart, nodes_among, settled_in, parent_in, both_of, job_on, settled_with, kept_of, opened, reopened, after_step, after_steps}
+use Rattle.core_model.specs.Core.{State, Step, Sealing, Stage, Written, Flushed, Opened, PlanLanding, Exchange, Look, LayContent, WriteGroup, SyncGroup, OpenGate, Seal, Acknowledge, TakeJob, Settle, Crash, set_for, is_as_planned, entry_of, entered, exchanged, added, broken, come_to, group_sealed, group_end, may_be_kept, laid, written, device_call, acknowledged_with, answer, are_apart, nodes_among, settled_in, parent_in, both_of, job_on, settled_with, kept_of, opened, reopened, after_step, after_steps}
 use Rattle.reply_model.proofs.Parents.{HasParents-known, known_reverse}
 use Rattle.manifest_model.proofs.Jobs.{of_past, job_of_past, derives}
 use Rattle.reply_model.proofs.Lines.{known_once, PastGoesOn, past_goes_on, second_of_all, no_past, known_grows, past_grows}
@@ -145,30 +145,38 @@ exchanged_table header s who ask k =
     choose (is_as_planned s.history (s.plan who) ask) (entered who (entry_of (judge header s.history ask)) s) (record s { plan = set_for who None s.plan })
     (entered_table who (entry_of (judge header s.history ask)) s k) (keep s k)
 
+broken_table : (s : State) (who upto : ℕ) (opening : Bool) → StateTable s → StateTable (broken who upto opening s)
+broken_table s who upto opening k = adds who (Fault true) s k
+
 written_table : (s : State) (who : ℕ) (done : Bool) → StateTable s → StateTable (written s who done)
-written_table s who done k = choose done (come_to who Written s) (broken who false s) (keep s k) (adds who (Fault true) s k)
+written_table s who done k =
+    let all = length (bodies s.history) in
+    choose done (come_to all Written s) (broken who all false s) (keep s k) (broken_table s who all false k)
 
-call_table : (step : Step) (who : ℕ) (stage : Stage) (s t : State) → StateTable s → device_call step who stage s ≡ Some t → StateTable t
-call_table (SyncGroup done) who Written s t k e = subst StateTable (some_is _ t e) (choose done (come_to who Flushed s) (broken who false s) (keep s k) (adds who (Fault true) s k))
-call_table (OpenGate done) who Flushed s t k e = subst StateTable (some_is _ t e) (choose done (come_to who Opened s) (broken who true s) (keep s k) (adds who (Fault true) s k))
-call_table (Seal done) who Opened s t k e = subst StateTable (some_is _ t e) (choose done (all_sealed s) (broken who true s) (keep s k) (adds who (Fault true) s k))
-call_table step who stage s t k e = absurd cc
+laid_table : (s : State) (who : ℕ) (done : Bool) → StateTable s → StateTable (laid s who done)
+laid_table s who done k = choose done s (broken who (group_end s) (may_be_kept s.sealing) s) (keep s k) (broken_table s who (group_end s) (may_be_kept s.sealing) k)
 
-append_table : (step : Step) (s t : State) (o : Option Sealing) → StateTable s → option_and_then (λ r. device_call step r.who r.stage s) o ≡ Some t → StateTable t
+call_table : (step : Step) (upto : ℕ) (stage : Stage) (s t : State) → StateTable s → device_call step upto stage s ≡ Some t → StateTable t
+call_table (SyncGroup who done) upto Written s t k e = subst StateTable (some_is _ t e) (choose done (come_to upto Flushed s) (broken who upto false s) (keep s k) (broken_table s who upto false k))
+call_table (OpenGate who done) upto Flushed s t k e = subst StateTable (some_is _ t e) (choose done (come_to upto Opened s) (broken who upto true s) (keep s k) (broken_table s who upto true k))
+call_table (Seal who done) upto Opened s t k e = subst StateTable (some_is _ t e) (choose done (group_sealed upto s) (broken who upto true s) (keep s k) (broken_table s who upto true k))
+call_table step upto stage s t k e = absurd cc
+
+append_table : (step : Step) (s t : State) (o : Option Sealing) → StateTable s → option_and_then (λ r. device_call step r.upto r.stage s) o ≡ Some t → StateTable t
 append_table step s t None k e = absurd cc
-append_table step s t (Some r) k e = call_table step r.who r.stage s t k e
+append_table step s t (Some r) k e = call_table step r.upto r.stage s t k e
 
-answer_by : (s t : State) (who number : ℕ) (o : Option Body) → StateTable s → option_map (acknowledged_with s who number) o ≡ Some t → StateTable t
-answer_by s t who number None k e = absurd cc
-answer_by s t who number (Some body) k e = subst StateTable (some_is _ t e) (keep s k)
+answer_by : (s t : State) (who number : ℕ) (rest : List ℕ) (o : Option Body) → StateTable s → option_map (acknowledged_with s who number rest) o ≡ Some t → StateTable t
+answer_by s t who number rest None k e = absurd cc
+answer_by s t who number rest (Some body) k e = subst StateTable (some_is _ t e) (keep s k)
 
-answer_if : (s t : State) (who number : ℕ) (b : Bool) → StateTable s → (if b then option_map (acknowledged_with s who number) (slice_get (bodies s.history) number) else None) ≡ Some t → StateTable t
-answer_if s t who number true k e = answer_by s t who number (slice_get (bodies s.history) number) k e
-answer_if s t who number false k e = absurd cc
+answer_if : (s t : State) (who number : ℕ) (rest : List ℕ) (b : Bool) → StateTable s → (if b then option_map (acknowledged_with s who number rest) (slice_get (bodies s.history) number) else None) ≡ Some t → StateTable t
+answer_if s t who number rest true k e = answer_by s t who number rest (slice_get (bodies s.history) number) k e
+answer_if s t who number rest false k e = absurd cc
 
-answer_table : (s t : State) (who : ℕ) (o : Option ℕ) → StateTable s → option_and_then (answer s who) o ≡ Some t → StateTable t
-answer_table s t who None k e = absurd cc
-answer_table s t who (Some number) k e = answer_if s t who number (nat_lt number s.sealed) k e
+answer_table : (s t : State) (who : ℕ) (numbers : List ℕ) → StateTable s → answer s who numbers ≡ Some t → StateTable t
+answer_table s t who [] k e = absurd cc
+answer_table s t who (number ∷ rest) k e = answer_if s t who number rest (nat_lt number s.sealed) k e
 
 new_table : (h : List Entry) → KeptTable h [] []
 new_table h = record { jobs_right = tt; table_right = tt; apart = refl }
@@ -221,17 +229,18 @@ settled_table s t x k (Some job) at e =
 step_table : (header : Header) (s t : State) (step : Step) → after_step header s step ≡ Some t → IsLegal header s.history → StateTable s → StateTable t
 step_table header s t (PlanLanding who name draft moment) e legal k = subst StateTable (some_is _ t e) (keep s k)
 step_table header s t (Exchange who ask) e legal k =
-    let w = when_ok (is_ask s.history ask && is_idle s.sealing && is_none (s.waiting who)) (exchanged header s who ask) t e in
+    let w = when_ok (is_ask s.history ask) (exchanged header s who ask) t e in
     subst StateTable w.1 (exchanged_table header s who ask k)
-step_table header s t (Look who done) e legal k =
-    let w = when_ok (is_idle s.sealing) (if done then s else added who (Fault false) s) t e in
-    subst StateTable w.1 (choose done s (added who (Fault false) s) k (adds who (Fault false) s k))
+step_table header s t (Look who done) e legal k = subst StateTable (some_is _ t e) (choose done s (added who (Fault false) s) k (adds who (Fault false) s k))
+step_table header s t (LayContent who done) e legal k =
+    let w = when_ok (not (is_down s.history)) (laid s who done) t e in
+    subst StateTable w.1 (laid_table s who done k)
 step_table header s t (WriteGroup who done) e legal k =
     let w = when_ok (is_none s.sealing && nat_lt s.sealed (length (bodies s.history))) (written s who done) t e in
     subst StateTable w.1 (written_table s who done k)
-step_table header s t (SyncGroup done) e legal k = append_table (SyncGroup done) s t s.sealing k e
-step_table header s t (OpenGate done) e legal k = append_table (OpenGate done) s t s.sealing k e
-step_table header s t (Seal done) e legal k = append_table (Seal done) s t s.sealing k e
+step_table header s t (SyncGroup who done) e legal k = append_table (SyncGroup who done) s t s.sealing k e
+step_table header s t (OpenGate who done) e legal k = append_table (OpenGate who done) s t s.sealing k e
+step_table header s t (Seal who done) e legal k = append_table (Seal who done) s t s.sealing k e
 step_table header s t (Acknowledge who) e legal k = answer_table s t who (s.waiting who) k e
 step_table header s t (TakeJob x) e legal k = taken_table header s t x legal k (is_some (settled_in s.table x)) e
 step_table header s t (Settle x) e legal k = settled_table s t x k (find (λ job. bytes_eq job.changeset.id x) s.jobs) refl e

@@ -1,8 +1,8 @@
-//! A real file, written, opened again and read.
+//! A real file, written, synced here and elsewhere, opened again and read.
 ghost use Rattle.std.specs.Prelude.{◌+◌};
 ghost use Rattle.disk_model.specs.Meaning.{IsLong};
 
-use blob_disk::Disk;
+use blob_disk::{Disk, Flush, Peer};
 use file_disk::{FileDisk, FileOpener};
 use ports::Opener;
 use std::fs;
@@ -38,20 +38,42 @@ fn read<D: Disk>(disk: &mut D, at: u64) -> Option<[u8; 4]>
     }
 }
 
+// A sync that is made elsewhere and brought back. The second is behind a write by then.
+fn flush<D: Disk>(rt: &impl Abort, disk: &mut D)
+    requires { IsLong (D.meaning disk.old).reads 2 }
+{
+    let mut fresh = disk.flush();
+    fresh.run();
+    assert_eq!(rt; disk.flushed(fresh), Ok(()));
+    let mut stale = disk.flush();
+    stale.run();
+    assert_eq!(rt; disk.write_at(2, b"XYZ"), Ok(()));
+    assert_eq!(rt; disk.flushed(stale), Ok(()));
+}
+
+// By a second handle.
+fn look<D: Disk>(disk: &D, at: u64) -> Option<[u8; 4]> {
+    let peer = disk.peer()?;
+    let mut buf = [0; 4];
+    peer.look(at, &mut buf).then_some(buf)
+}
+
 // A new file gets five bytes.
 fn write_parts<R: Eprint + Copy>(rt: &impl Abort, mut disk: FileDisk<R>) {
     assert_eq!(rt; size(&mut disk), Some(0));
     write(rt, &mut disk, 0, b"abc");
-    write(rt, &mut disk, 2, b"XYZ");
+    flush(rt, &mut disk);
     assert_eq!(rt; disk.faults(), 0);
     assert_eq!(rt; disk.moment(), 0);
 }
 
-// They are there. Past the end there is nothing to read, and that counts.
+// They are there. Past the end there is nothing to read, and that counts where the disk itself is asked.
 fn read_parts<R: Eprint + Copy>(rt: &impl Abort, mut disk: FileDisk<R>) {
     assert_eq!(rt; size(&mut disk), Some(5));
     assert_eq!(rt; read(&mut disk, 1), Some(*b"bXYZ"));
     assert_eq!(rt; read(&mut disk, 3), None);
+    assert_eq!(rt; look(&disk, 1), Some(*b"bXYZ"));
+    assert_eq!(rt; look(&disk, 3), None);
     assert_eq!(rt; disk.faults(), 1);
 }
 

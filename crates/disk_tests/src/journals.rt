@@ -14,27 +14,27 @@ use std::process::Abort;
 use std::test::Fail;
 
 // A new file of capacity 65,536.
-const FRESH: &[u8] = b"BONSAI\x00\x02\x00\x00\x00\x00\x00\x01\x00\x00\x00";
+pub(crate) const FRESH: &[u8] = b"BONSAI\x00\x02\x00\x00\x00\x00\x00\x01\x00\x00\x00";
 
 // The same once the content `abc` was appended.
-const WITH_ABC: &[u8] =
+pub(crate) const WITH_ABC: &[u8] =
     b"BONSAI\x00\x02\x00\x00\x00\x00\x00\x01\x00\x00\x01\x00\x00\x00\x04Babc\x00";
 
 // The same once the contents `abc` and `de` were sealed together.
-const WITH_BOTH: &[u8] =
+pub(crate) const WITH_BOTH: &[u8] =
     b"BONSAI\x00\x02\x00\x00\x00\x00\x00\x01\x00\x00\x01\x00\x00\x00\x04Babc\x01\x00\x00\x00\x03Bde\x00";
 
 // What all begin with.
 const HEADER: &[u8] = b"BONSAI\x00\x02\x00\x00\x00\x00\x00\x01\x00\x00";
 
-const AT_START: Opening = Opening {
+pub(crate) const AT_START: Opening = Opening {
     moment: 0,
     length: 0,
     faults: 0,
 };
 
 // A payload with its length before it and a closed gate behind.
-fn frame_of(alloc: Global, payload: &[u8]) -> Result<Vec<u8>, AllocError>
+pub(crate) fn frame_of(alloc: Global, payload: &[u8]) -> Result<Vec<u8>, AllocError>
     requires { length payload.now < 2 ^ 32 }
     ensures { IfOk result (λ frame. IsFramed frame.items) }
 {
@@ -50,7 +50,7 @@ struct Repository {
     journal: Journal,
 }
 
-fn failing(
+pub(crate) fn failing(
     alloc: Global,
     fails: Option<(CallKind, u64)>,
 ) -> Result<Vec<(CallKind, u64)>, AllocError> {
@@ -61,7 +61,10 @@ fn failing(
     Ok(calls)
 }
 
-fn fresh_disk(alloc: Global, failing: Vec<(CallKind, u64)>) -> Result<MemDisk, AllocError> {
+pub(crate) fn fresh_disk(
+    alloc: Global,
+    failing: Vec<(CallKind, u64)>,
+) -> Result<MemDisk, AllocError> {
     MemDisk::holding(alloc, FRESH, 64, failing)
 }
 
@@ -93,7 +96,7 @@ fn small(alloc: Global) -> Result<Repository, Fail> {
 
 fn append_to<D: Disk>(disk: &mut D, journal: &mut Journal, frame: &[u8]) -> Result<(), AppendFault>
     requires framed { IsFramed frame.now }
-    requires whole { is_some journal.old.broken ≡ false }
+    requires whole { is_some journal.old.left ≡ false }
     requires long { IsLong (D.meaning disk.old).reads journal.old.size }
 {
     journal.append(disk, frame)
@@ -103,7 +106,7 @@ fn append_frame(rt: &impl Abort, repo: &mut Repository, frame: &[u8]) -> Result<
     requires { IsFramed frame.now }
 {
     assert!(rt; repo.disk.bytes().len() as u64 >= repo.journal.size());
-    assert!(rt; !repo.journal.is_broken());
+    assert!(rt; repo.journal.left().is_none());
     append_to(&mut repo.disk, &mut repo.journal, frame)
 }
 
@@ -147,9 +150,9 @@ fn calls_of_append(rt: &impl Abort, disk: &mut MemDisk, frame: &[u8], calls: u32
 }
 
 // What reads give, or a crash leaves that fills with this byte what isn't stable.
-const FILLS: [Option<u8>; 4] = [None, Some(0x00), Some(0x01), Some(0x58)];
+pub(crate) const FILLS: [Option<u8>; 4] = [None, Some(0x00), Some(0x01), Some(0x58)];
 
-fn left(disk: MemDisk, fill: Option<u8>) -> MemDisk {
+pub(crate) fn left(disk: MemDisk, fill: Option<u8>) -> MemDisk {
     match fill {
         Some(fill) => disk.crash(fill),
         None => disk,
@@ -157,7 +160,7 @@ fn left(disk: MemDisk, fill: Option<u8>) -> MemDisk {
 }
 
 // `+` where the file has all that was appended, whose gate is open, and `-` where it has no record. Else it is no journal.
-fn mark_of(disk: &MemDisk, whole: &[u8]) -> char {
+pub(crate) fn mark_of(disk: &MemDisk, whole: &[u8]) -> char {
     let file = disk.bytes();
     if file.starts_with(whole) {
         return '+';
@@ -357,7 +360,7 @@ fn a_record_fits_or_not(rt: HostRuntime) -> Result<(), Fail> {
 }
 
 // A record more that waits.
-fn hold(journal: &mut Journal, frame: &[u8]) -> Result<(), AllocError>
+pub(crate) fn hold(journal: &mut Journal, frame: &[u8]) -> Result<(), AllocError>
     ensures same { journal.new ≡ record journal.old { pending = journal.new.pending } }
     ensures bytes { OnOk result (journal.new.pending.bytes ≡ grown journal.old.pending.bytes frame.now) }
 {
@@ -372,7 +375,7 @@ fn holding(alloc: Global, first: &[u8], second: &[u8]) -> Result<Journal, AllocE
     requires second { IsFramed second.now }
     ensures size { IfOk result (λ journal. journal.size ≡ 17) }
     ensures capacity { IfOk result (λ journal. journal.capacity ≡ 65_536) }
-    ensures whole { IfOk result (λ journal. is_some journal.broken ≡ false) }
+    ensures whole { IfOk result (λ journal. is_some journal.left ≡ false) }
     ensures group { IfOk result (λ journal. IsGroup journal.pending.bytes) }
     ensures len { IfOk result (λ journal. length journal.pending.bytes ≡ length first.now + length second.now) }
 {
@@ -382,8 +385,8 @@ fn holding(alloc: Global, first: &[u8], second: &[u8]) -> Result<Journal, AllocE
     Ok(journal)
 }
 
-fn seal_in<D: Disk>(disk: &mut D, journal: &mut Journal) -> Result<(), DiskFault>
-    requires whole { is_some journal.old.broken ≡ false }
+pub(crate) fn seal_in<D: Disk>(disk: &mut D, journal: &mut Journal) -> Result<(), DiskFault>
+    requires whole { is_some journal.old.left ≡ false }
     requires group { IsGroup journal.old.pending.bytes }
     requires fits { journal.old.size + length journal.old.pending.bytes ≤ journal.old.capacity }
     requires long { IsLong (D.meaning disk.old).reads journal.old.size }

@@ -18,4 +18,6 @@ mod rows;
 #[cfg(test)]
 mod scans;
 #[cfg(test)]
+mod seals;
+#[cfg(test)]
 mod streams;

@@ -3,9 +3,13 @@
 #![tactic(auto)]
 
 pub mod disk;
+pub mod flush;
 pub mod opener;
+pub mod peer;
 mod tally;
 mod telling;
 
 pub use disk::FileDisk;
+pub use flush::FileFlush;
 pub use opener::FileOpener;
+pub use peer::FilePeer;

@@ -60,7 +60,7 @@ fn open_disk<R: Files<File = File> + Eprint + AllocGlobal + Copy>(
 {
     let path = String::from_str(rt.alloc(), name)?;
     let file = open_alone(&rt, name, create)?;
-    FileDisk::new(rt, path, file)
+    FileDisk::new(rt, rt.alloc(), path, file)
 }
 
 // The file with a lock that no other open of it shares. The lock goes when the file is closed, so two programs never write one

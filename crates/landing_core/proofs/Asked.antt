@@ -1,6 +1,6 @@
 -- A change's steps can be taken, and what comes of them shows the history after it.
 use Rattle.std.proofs.Common.{◌≡◌, ℕ, Bool, true, false, cond, List, [], ◌∷◌, ◌++◌, refl, sym, ap, subst, ◌∙◌}
-use Rattle.std.specs.Prelude.{◌≢◌, ◌&&◌, Option, None, Some, is_none, Ok}
+use Rattle.std.specs.Prelude.{◌≢◌, Option, None, Some, Ok}
 use Rattle.std.specs.Option.{option_and_then}
 use Rattle.std.proofs.lemmas.List.{append-nil}
 use Rattle.history_model.specs.History.{Body, Entry, is_stored, is_down}
@@ -8,7 +8,7 @@ use Rattle.history_model.specs.Journal.{Header}
 use Rattle.reply_model.specs.Reply.{Ask, PutContent, PutWhole, PutChangeset, SetBookmark, LandDraft, SetPolicy, Granted, judge}
 use Rattle.reply_model.specs.After.{Answer, Grants, Refuses, Shows as Sees, Lacks, Roots, DiskFault, ReadFault, BadBytes, NodeCollision, Memory, Asks, Made, Answers, Replies, nothing, entry_by, entries_of}
 use Rattle.reply_model.proofs.Granted.{MakesStored, judge_stored}
-use Rattle.core_model.specs.Core.{Plan, Sealing, State, Step, PlanLanding, Exchange, set_for, is_idle, plan_of, is_as_planned, entry_of, entered, exchanged, when, after_step, after_steps}
+use Rattle.core_model.specs.Core.{Plan, Sealing, State, Step, PlanLanding, Exchange, set_for, plan_of, is_as_planned, entry_of, entered, exchanged, when, after_step, after_steps}
 use Rattle.landing_core.specs.Steps.{IsLeft, Shows, MayAsk, asking, AreSteps, Goes}
 use Rattle.landing_core.proofs.Down.{down-stored}
 use Rattle.landing_core.proofs.Planned.{planned_here}
@@ -29,12 +29,6 @@ one_step header s t step e = ap (λ o. option_and_then (λ next. after_steps hea
 
 -- ---- an exchange
 
-pub idle_by : (down : Bool) (o : Option Sealing) → IsLeft down o → is_idle o ≡ true
-idle_by true None left = absurd left
-idle_by true (Some r) left = left
-idle_by false None left = refl
-idle_by false (Some r) left = absurd left
-
 abbrev asked_as : State → ℕ → Bool → Option Body → State
 asked_as s who planned entry = cond planned (entered who entry s) (record s { plan = set_for who None s.plan })
 
@@ -51,7 +45,7 @@ module _ (header : Header) (start s : State) (before : List Step) (reaches : aft
   asked = before ++ Exchange who ask ∷ []
 
   taken : after_step header s (Exchange who ask) ≡ Some (exchanged header s who ask)
-  taken = (λ i. when (may.asks i && idle_by (is_down s.history) s.sealing left i && is_none (may.free i)) (exchanged header s who ask))
+  taken = (λ i. when (may.asks i) (exchanged header s who ask))
 
   after_asked : after_steps header start asked ≡ Some (exchanged header s who ask)
   after_asked = after_then header start s before (Exchange who ask ∷ []) reaches ∙ one_step header s (exchanged header s who ask) (Exchange who ask) taken
@@ -142,7 +136,7 @@ stored_at header s who (SetPolicy caller text) answer new whole left may r =
     answered header s s [] refl (record { history_is = refl; sealed_is = refl; left = left }) who (SetPolicy caller text) left may answer r.made new whole (λ _ _ _. no_landing s.history (s.plan who) (SetPolicy caller text) refl) r.answers r.new_is
 stored_at header s who (LandDraft caller name draft moment) answer new whole left may r =
     answered header s (record s { plan = set_for who (plan_of s.history name draft moment) s.plan }) (PlanLanding who name draft moment ∷ []) refl (record { history_is = refl; sealed_is = refl; left = left }) who (LandDraft caller name draft moment) left
-    (record { free = may.free; asks = may.asks }) answer r.made new whole (planned_here header s.history who s.plan caller name draft moment) r.answers r.new_is
+    (record { asks = may.asks }) answer r.made new whole (planned_here header s.history who s.plan caller name draft moment) r.answers r.new_is
 
 -- a change that is answered as the repository of one thread does
 pub stored_goes : (header : Header) (h : List Entry) (n who : ℕ) (ask : Ask) (answer : Answer) (new : List Entry) (s : State) → answer ≢ DiskFault → Replies header h who (Asks ask) answer new → Shows h n s → MayAsk s who ask → Stored header n s who ask answer new

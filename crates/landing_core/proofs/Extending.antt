@@ -1,16 +1,16 @@
 -- What each step leaves as it is at the front: what is acknowledged, and but for a crash the whole history, with seats and faults.
 use Rattle.std.proofs.Common.{◌≡◌, ℕ, Bool, true, false, cond, List, [], ◌∷◌, ◌++◌, length, refl, sym, ap, ◌∙◌}
-use Rattle.std.specs.Prelude.{◌&&◌, is_none, nat_lt, Option, None, Some, slice_get, find, bytes_eq, option_map, if◌then◌else◌}
+use Rattle.std.specs.Prelude.{◌&&◌, not, is_none, nat_lt, Option, None, Some, slice_get, find, bytes_eq, option_map, if◌then◌else◌}
 use Rattle.std.specs.Option.{IfSome, option_and_then}
 use mathlib.Core.Bool.{true≢false}
 use mathlib.Core.List.{IsPrefix}
 use Rattle.std.specs.List.{AllByRecursion}
 use Rattle.std.proofs.lemmas.List.{append-nil}
-use Rattle.history_model.specs.History.{Body, Fault, Entry, bodies}
+use Rattle.history_model.specs.History.{Body, Fault, Entry, bodies, is_down}
 use Rattle.history_model.specs.Journal.{Header}
 use Rattle.manifest_model.specs.Manifests.{Job, derive}
 use Rattle.reply_model.specs.Reply.{is_ask, judge}
-use Rattle.core_model.specs.Core.{State, Step, Sealing, Stage, Written, Flushed, Opened, PlanLanding, Exchange, Look, WriteGroup, SyncGroup, OpenGate, Seal, Acknowledge, TakeJob, Settle, Crash, is_idle, is_as_planned, entry_of, entered, exchanged, added, broken, come_to, written, device_call, acknowledged_with, answer, kept_of, reopened, settled_with, job_of, when, after_step, after_steps}
+use Rattle.core_model.specs.Core.{State, Step, Sealing, Stage, Written, Flushed, Opened, PlanLanding, Exchange, Look, LayContent, WriteGroup, SyncGroup, OpenGate, Seal, Acknowledge, TakeJob, Settle, Crash, is_as_planned, entry_of, entered, exchanged, added, broken, come_to, group_end, may_be_kept, laid, written, device_call, acknowledged_with, answer, kept_of, reopened, settled_with, job_of, when, after_step, after_steps}
 use Rattle.landing_core.specs.Gained.{is_crash}
 use Rattle.byte_fields.proofs.Booleans.{same_some}
 use Rattle.byte_fields.proofs.Lists.{prefix_trans as prefix_then, prefix_self as same_front}
@@ -39,33 +39,33 @@ extends_entered : (s : State) (who : ℕ) (made : Option Body) → Extends false
 extends_entered s who None = unchanged s s refl refl
 extends_entered s who (Some body) = one_entry s (entered who (Some body) s) (record { who = who; body = body }) refl refl
 
-extends_broken : (s : State) (who : ℕ) (opening : Bool) → Extends false s (broken who opening s)
-extends_broken s who opening = one_entry s (broken who opening s) (record { who = who; body = Fault true }) refl refl
+extends_broken : (s : State) (who upto : ℕ) (opening : Bool) → Extends false s (broken who upto opening s)
+extends_broken s who upto opening = one_entry s (broken who upto opening s) (record { who = who; body = Fault true }) refl refl
 
-extends_call : (step : Step) (who : ℕ) (stage : Stage) (s : State) → IfSome (device_call step who stage s) (Extends false s)
-extends_call (SyncGroup true) who Written s = unchanged s _ refl refl
-extends_call (SyncGroup false) who Written s = extends_broken s who false
-extends_call (OpenGate true) who Flushed s = unchanged s _ refl refl
-extends_call (OpenGate false) who Flushed s = extends_broken s who true
-extends_call (Seal true) who Opened s = unchanged s _ refl refl
-extends_call (Seal false) who Opened s = extends_broken s who true
-extends_call step who stage s = tt
+extends_call : (step : Step) (upto : ℕ) (stage : Stage) (s : State) → IfSome (device_call step upto stage s) (Extends false s)
+extends_call (SyncGroup who true) upto Written s = unchanged s _ refl refl
+extends_call (SyncGroup who false) upto Written s = extends_broken s who upto false
+extends_call (OpenGate who true) upto Flushed s = unchanged s _ refl refl
+extends_call (OpenGate who false) upto Flushed s = extends_broken s who upto true
+extends_call (Seal who true) upto Opened s = unchanged s _ refl refl
+extends_call (Seal who false) upto Opened s = extends_broken s who upto true
+extends_call step upto stage s = tt
 
-extends_append : (step : Step) (s : State) (o : Option Sealing) → IfSome (option_and_then (λ r. device_call step r.who r.stage s) o) (Extends false s)
+extends_append : (step : Step) (s : State) (o : Option Sealing) → IfSome (option_and_then (λ r. device_call step r.upto r.stage s) o) (Extends false s)
 extends_append step s None = tt
-extends_append step s (Some r) = extends_call step r.who r.stage s
+extends_append step s (Some r) = extends_call step r.upto r.stage s
 
-extends_answer_by : (s : State) (who number : ℕ) (o : Option Body) → IfSome (option_map (acknowledged_with s who number) o) (Extends false s)
-extends_answer_by s who number None = tt
-extends_answer_by s who number (Some body) = record { history = λ _. same_front s.history; acknowledged = ((number, body) ∷ [], refl) }
+extends_answer_by : (s : State) (who number : ℕ) (rest : List ℕ) (o : Option Body) → IfSome (option_map (acknowledged_with s who number rest) o) (Extends false s)
+extends_answer_by s who number rest None = tt
+extends_answer_by s who number rest (Some body) = record { history = λ _. same_front s.history; acknowledged = ((number, body) ∷ [], refl) }
 
-extends_answer_if : (s : State) (who number : ℕ) (b : Bool) → IfSome (if b then option_map (acknowledged_with s who number) (slice_get (bodies s.history) number) else None) (Extends false s)
-extends_answer_if s who number true = extends_answer_by s who number (slice_get (bodies s.history) number)
-extends_answer_if s who number false = tt
+extends_answer_if : (s : State) (who number : ℕ) (rest : List ℕ) (b : Bool) → IfSome (if b then option_map (acknowledged_with s who number rest) (slice_get (bodies s.history) number) else None) (Extends false s)
+extends_answer_if s who number rest true = extends_answer_by s who number rest (slice_get (bodies s.history) number)
+extends_answer_if s who number rest false = tt
 
-extends_answer : (s : State) (who : ℕ) (o : Option ℕ) → IfSome (option_and_then (answer s who) o) (Extends false s)
-extends_answer s who None = tt
-extends_answer s who (Some number) = extends_answer_if s who number (nat_lt number s.sealed)
+extends_answer : (s : State) (who : ℕ) (numbers : List ℕ) → IfSome (answer s who numbers) (Extends false s)
+extends_answer s who [] = tt
+extends_answer s who (number ∷ rest) = extends_answer_if s who number rest (nat_lt number s.sealed)
 
 extends_taken : (s : State) (o : Option Job) → IfSome (option_map (λ job. record s { jobs = s.jobs ++ job ∷ [] }) o) (Extends false s)
 extends_taken s None = tt
@@ -82,16 +82,19 @@ extends_reopened s (Some kept) = record { history = λ e. absurd (true≢false e
 extends_step : (header : Header) (s : State) (step : Step) → IfSome (after_step header s step) (Extends (is_crash step) s)
 extends_step header s (PlanLanding who name draft moment) = unchanged s _ refl refl
 extends_step header s (Exchange who ask) =
-    extends_when s (is_ask s.history ask && is_idle s.sealing && is_none (s.waiting who)) (exchanged header s who ask)
+    extends_when s (is_ask s.history ask) (exchanged header s who ask)
     (either s (is_as_planned s.history (s.plan who) ask) (entered who (entry_of (judge header s.history ask)) s) _ (extends_entered s who (entry_of (judge header s.history ask))) (unchanged s _ refl refl))
 extends_step header s (Look who done) =
-    extends_when s (is_idle s.sealing) (if done then s else added who (Fault false) s)
-    (either s done s (added who (Fault false) s) (unchanged s s refl refl) (one_entry s (added who (Fault false) s) (record { who = who; body = Fault false }) refl refl))
-extends_step header s (WriteGroup who done) = extends_when s (is_none s.sealing && nat_lt s.sealed (length (bodies s.history))) (written s who done)
-    (either s done (come_to who Written s) (broken who false s) (unchanged s _ refl refl) (extends_broken s who false))
-extends_step header s (SyncGroup done) = extends_append (SyncGroup done) s s.sealing
-extends_step header s (OpenGate done) = extends_append (OpenGate done) s s.sealing
-extends_step header s (Seal done) = extends_append (Seal done) s s.sealing
+    either s done s (added who (Fault false) s) (unchanged s s refl refl) (one_entry s (added who (Fault false) s) (record { who = who; body = Fault false }) refl refl)
+extends_step header s (LayContent who done) =
+    extends_when s (not (is_down s.history)) (laid s who done)
+    (either s done s (broken who (group_end s) (may_be_kept s.sealing) s) (unchanged s s refl refl) (extends_broken s who (group_end s) (may_be_kept s.sealing)))
+extends_step header s (WriteGroup who done) =
+    extends_when s (is_none s.sealing && nat_lt s.sealed (length (bodies s.history))) (written s who done)
+    (either s done (come_to (length (bodies s.history)) Written s) (broken who (length (bodies s.history)) false s) (unchanged s _ refl refl) (extends_broken s who (length (bodies s.history)) false))
+extends_step header s (SyncGroup who done) = extends_append (SyncGroup who done) s s.sealing
+extends_step header s (OpenGate who done) = extends_append (OpenGate who done) s s.sealing
+extends_step header s (Seal who done) = extends_append (Seal who done) s s.sealing
 extends_step header s (Acknowledge who) = extends_answer s who (s.waiting who)
 extends_step header s (TakeJob x) = extends_taken s (job_of s x)
 extends_step header s (Settle x) = extends_settled s (find (λ job. bytes_eq job.changeset.id x) s.jobs)

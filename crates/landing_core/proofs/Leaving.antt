@@ -1,18 +1,18 @@
 -- What a step that is no step of manifests leaves: the manifests, the jobs, and the history but for more entries.
 use Rattle.std.proofs.Common.{◌≡◌, ℕ, Bool, true, false, cond, List, [], ◌∷◌, ◌++◌, length, refl, sym, ap, subst, ◌∙◌, append_assoc}
-use Rattle.std.specs.Prelude.{Option, None, Some, is_some, is_none, ◌&&◌, nat_lt, slice_get, option_map, if◌then◌else◌, find, bytes_eq}
+use Rattle.std.specs.Prelude.{Option, None, Some, is_some, is_none, not, ◌&&◌, nat_lt, slice_get, option_map, if◌then◌else◌, find, bytes_eq}
 use Rattle.std.specs.List.{AllByRecursion}
 use Rattle.std.specs.Option.{option_and_then}
 use mathlib.Core.Bool.{true≢false}
 use Rattle.std.proofs.lemmas.List.{append-nil}
 use Rattle.byte_fields.specs.Bytes.{Id}
 use Rattle.byte_fields.proofs.Lists.{weaker}
-use Rattle.history_model.specs.History.{Body, Fault, Entry, Known, bodies, known}
+use Rattle.history_model.specs.History.{Body, Fault, Entry, Known, bodies, is_down, known}
 use Rattle.history_model.specs.Journal.{Header}
 use Rattle.manifest_model.specs.Manifests.{Manifests, manifests_in, Job}
 use Rattle.reply_model.specs.Reply.{Ask, is_ask, judge}
 use Rattle.reply_model.proofs.Lines.{known_grows, past_grows}
-use Rattle.core_model.specs.Core.{State, Step, Sealing, Stage, Written, Flushed, Opened, PlanLanding, Exchange, Look, WriteGroup, SyncGroup, OpenGate, Seal, Acknowledge, TakeJob, Settle, Crash, set_for, is_idle, is_as_planned, entry_of, entered, exchanged, added, broken, come_to, all_sealed, written, device_call, acknowledged_with, answer, settled_in, after_step, after_steps}
+use Rattle.core_model.specs.Core.{State, Step, Sealing, Stage, Written, Flushed, Opened, PlanLanding, Exchange, Look, LayContent, WriteGroup, SyncGroup, OpenGate, Seal, Acknowledge, TakeJob, Settle, Crash, set_for, is_as_planned, entry_of, entered, exchanged, added, broken, come_to, group_sealed, group_end, may_be_kept, laid, written, device_call, acknowledged_with, answer, settled_in, after_step, after_steps}
 use Rattle.core_model.proofs.Cores.{some_is, when_ok}
 use Rattle.landing_core.specs.Settled.{IsRow, IsTaken, ShowsSettled, HasJob, leaves_manifests}
 use Rattle.landing_core.proofs.Rows.{past_known}
@@ -44,8 +44,8 @@ through s t u l r = record {
   jobs_is = r.jobs_is ∙ l.jobs_is;
 }
 
-fails : (who : ℕ) (opening : Bool) (s : State) → Leaves s (broken who opening s)
-fails who opening s = record { more = record { who = who; body = Fault true } ∷ []; history_is = refl; table_is = refl; jobs_is = refl }
+fails : (who upto : ℕ) (opening : Bool) (s : State) → Leaves s (broken who upto opening s)
+fails who upto opening s = record { more = record { who = who; body = Fault true } ∷ []; history_is = refl; table_is = refl; jobs_is = refl }
 
 -- ---- a step
 
@@ -58,42 +58,44 @@ exchanged_leaves header s who ask =
     choose (is_as_planned s.history (s.plan who) ask) s (entered who (entry_of (judge header s.history ask)) s) (record s { plan = set_for who None s.plan })
     (entered_leaves s who (entry_of (judge header s.history ask))) (alike s _ refl refl refl)
 
-call_leaves : (step : Step) (who : ℕ) (stage : Stage) (s t : State) → device_call step who stage s ≡ Some t → Leaves s t
-call_leaves (SyncGroup done) who Written s t e = subst (Leaves s) (some_is _ t e) (choose done s (come_to who Flushed s) (broken who false s) (alike s _ refl refl refl) (fails who false s))
-call_leaves (OpenGate done) who Flushed s t e = subst (Leaves s) (some_is _ t e) (choose done s (come_to who Opened s) (broken who true s) (alike s _ refl refl refl) (fails who true s))
-call_leaves (Seal done) who Opened s t e = subst (Leaves s) (some_is _ t e) (choose done s (all_sealed s) (broken who true s) (alike s _ refl refl refl) (fails who true s))
-call_leaves step who stage s t e = absurd cc
+call_leaves : (step : Step) (upto : ℕ) (stage : Stage) (s t : State) → device_call step upto stage s ≡ Some t → Leaves s t
+call_leaves (SyncGroup who done) upto Written s t e = subst (Leaves s) (some_is _ t e) (choose done s (come_to upto Flushed s) (broken who upto false s) (alike s _ refl refl refl) (fails who upto false s))
+call_leaves (OpenGate who done) upto Flushed s t e = subst (Leaves s) (some_is _ t e) (choose done s (come_to upto Opened s) (broken who upto true s) (alike s _ refl refl refl) (fails who upto true s))
+call_leaves (Seal who done) upto Opened s t e = subst (Leaves s) (some_is _ t e) (choose done s (group_sealed upto s) (broken who upto true s) (alike s _ refl refl refl) (fails who upto true s))
+call_leaves step upto stage s t e = absurd cc
 
-seal_leaves : (step : Step) (s t : State) (o : Option Sealing) → option_and_then (λ r. device_call step r.who r.stage s) o ≡ Some t → Leaves s t
+seal_leaves : (step : Step) (s t : State) (o : Option Sealing) → option_and_then (λ r. device_call step r.upto r.stage s) o ≡ Some t → Leaves s t
 seal_leaves step s t None e = absurd cc
-seal_leaves step s t (Some r) e = call_leaves step r.who r.stage s t e
+seal_leaves step s t (Some r) e = call_leaves step r.upto r.stage s t e
 
-answer_by : (s t : State) (who number : ℕ) (o : Option Body) → option_map (acknowledged_with s who number) o ≡ Some t → Leaves s t
-answer_by s t who number None e = absurd cc
-answer_by s t who number (Some body) e = subst (Leaves s) (some_is _ t e) (alike s (acknowledged_with s who number body) refl refl refl)
+answer_by : (s t : State) (who number : ℕ) (rest : List ℕ) (o : Option Body) → option_map (acknowledged_with s who number rest) o ≡ Some t → Leaves s t
+answer_by s t who number rest None e = absurd cc
+answer_by s t who number rest (Some body) e = subst (Leaves s) (some_is _ t e) (alike s (acknowledged_with s who number rest body) refl refl refl)
 
-answer_if : (s t : State) (who number : ℕ) (b : Bool) → (if b then option_map (acknowledged_with s who number) (slice_get (bodies s.history) number) else None) ≡ Some t → Leaves s t
-answer_if s t who number true e = answer_by s t who number (slice_get (bodies s.history) number) e
-answer_if s t who number false e = absurd cc
+answer_if : (s t : State) (who number : ℕ) (rest : List ℕ) (b : Bool) → (if b then option_map (acknowledged_with s who number rest) (slice_get (bodies s.history) number) else None) ≡ Some t → Leaves s t
+answer_if s t who number rest true e = answer_by s t who number rest (slice_get (bodies s.history) number) e
+answer_if s t who number rest false e = absurd cc
 
-answer_leaves : (s t : State) (who : ℕ) (o : Option ℕ) → option_and_then (answer s who) o ≡ Some t → Leaves s t
-answer_leaves s t who None e = absurd cc
-answer_leaves s t who (Some number) e = answer_if s t who number (nat_lt number s.sealed) e
+answer_leaves : (s t : State) (who : ℕ) (numbers : List ℕ) → answer s who numbers ≡ Some t → Leaves s t
+answer_leaves s t who [] e = absurd cc
+answer_leaves s t who (number ∷ rest) e = answer_if s t who number rest (nat_lt number s.sealed) e
 
 pub step_leaves : (header : Header) (s t : State) (step : Step) → leaves_manifests step ≡ true → after_step header s step ≡ Some t → Leaves s t
 step_leaves header s t (PlanLanding who name draft moment) l e = subst (Leaves s) (some_is _ t e) (alike s _ refl refl refl)
 step_leaves header s t (Exchange who ask) l e =
-    let w = when_ok (is_ask s.history ask && is_idle s.sealing && is_none (s.waiting who)) (exchanged header s who ask) t e in
+    let w = when_ok (is_ask s.history ask) (exchanged header s who ask) t e in
     subst (Leaves s) w.1 (exchanged_leaves header s who ask)
-step_leaves header s t (Look who done) l e =
-    let w = when_ok (is_idle s.sealing) (if done then s else added who (Fault false) s) t e in
-    subst (Leaves s) w.1 (choose done s s (added who (Fault false) s) (itself s) (adds who (Fault false) s))
+step_leaves header s t (Look who done) l e = subst (Leaves s) (some_is _ t e) (choose done s s (added who (Fault false) s) (itself s) (adds who (Fault false) s))
+step_leaves header s t (LayContent who done) l e =
+    let w = when_ok (not (is_down s.history)) (laid s who done) t e in
+    subst (Leaves s) w.1 (choose done s s (broken who (group_end s) (may_be_kept s.sealing) s) (itself s) (fails who (group_end s) (may_be_kept s.sealing) s))
 step_leaves header s t (WriteGroup who done) l e =
     let w = when_ok (is_none s.sealing && nat_lt s.sealed (length (bodies s.history))) (written s who done) t e in
-    subst (Leaves s) w.1 (choose done s (come_to who Written s) (broken who false s) (alike s _ refl refl refl) (fails who false s))
-step_leaves header s t (SyncGroup done) l e = seal_leaves (SyncGroup done) s t s.sealing e
-step_leaves header s t (OpenGate done) l e = seal_leaves (OpenGate done) s t s.sealing e
-step_leaves header s t (Seal done) l e = seal_leaves (Seal done) s t s.sealing e
+    let all = length (bodies s.history) in
+    subst (Leaves s) w.1 (choose done s (come_to all Written s) (broken who all false s) (alike s _ refl refl refl) (fails who all false s))
+step_leaves header s t (SyncGroup who done) l e = seal_leaves (SyncGroup who done) s t s.sealing e
+step_leaves header s t (OpenGate who done) l e = seal_leaves (OpenGate who done) s t s.sealing e
+step_leaves header s t (Seal who done) l e = seal_leaves (Seal who done) s t s.sealing e
 step_leaves header s t (Acknowledge who) l e = answer_leaves s t who (s.waiting who) e
 step_leaves header s t (TakeJob x) l e = absurd (true≢false (sym l))
 step_leaves header s t (Settle x) l e = absurd (true≢false (sym l))

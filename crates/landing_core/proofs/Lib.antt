@@ -7,6 +7,7 @@ pub mod Planned
 pub mod Down
 pub mod Asked
 pub mod Sealed
+pub mod Resting
 pub mod Serving
 pub mod Crashing
 pub mod Exchanged

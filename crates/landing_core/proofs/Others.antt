@@ -7,14 +7,10 @@ use Rattle.history_model.specs.Bookmark.{head}
 use Rattle.history_model.specs.Pushrebase.{Fork, fork, rewrite}
 use Rattle.history_model.specs.Journal.{Header}
 use Rattle.reply_model.specs.After.{entry_by}
-use Rattle.core_model.specs.Core.{State, PlanLanding, Look, set_for, plan_of, added, when, opened}
-use Rattle.landing_core.specs.Steps.{IsLeft, Shows, HasPlan, Goes}
-use Rattle.landing_core.proofs.Asked.{one_step, idle_by}
+use Rattle.core_model.specs.Core.{State, PlanLanding, Look, set_for, plan_of, added, opened}
+use Rattle.landing_core.specs.Steps.{IsLeft, Shows, Rests, HasPlan, Goes}
 use Rattle.landing_core.proofs.Down.{down-fault}
 use Rattle.landing_core.proofs.Planned.{set_here, plan_is}
-
-left_at : (h : List Entry) (n : ℕ) (s : State) → Shows h n s → IsLeft (is_down s.history) s.sealing
-left_at h n s shows = subst (λ h. IsLeft (is_down h) s.sealing) (sym shows.history_is) shows.left
 
 pub plan_goes : (header : Header) (h : List Entry) (n who : ℕ) (name : List ℕ) (draft : Id) (moment : ℕ) (old : Id) (f : Fork) (s : State) → head h name ≡ Some old → fork (known h) old draft ≡ Some f → Shows h n s → Goes header s (PlanLanding who name draft moment ∷ []) (λ t. Shows h n t × HasPlan t who name draft moment old (rewrite f.stack old moment))
 plan_goes header h n who name draft moment old f s at forks shows = record {
@@ -38,7 +34,7 @@ plan_goes header h n who name draft moment old f s at forks shows = record {
 pub looked_goes : (header : Header) (h new : List Entry) (n who : ℕ) (s : State) → new ≡ h → Shows h n s → Goes header s (Look who true ∷ []) (Shows new n)
 looked_goes header h new n who s same shows = record {
   state = s;
-  taken = one_step header s s (Look who true) (λ i. when (idle_by (is_down s.history) s.sealing (left_at h n s shows) i) s);
+  taken = refl;
   meets = subst (λ h. Shows h n s) (sym same) shows;
 }
 
@@ -46,7 +42,7 @@ looked_goes header h new n who s same shows = record {
 pub fault_goes : (header : Header) (h new : List Entry) (n who : ℕ) (s : State) → new ≡ h ++ entry_by who (Fault false) ∷ [] → Shows h n s → Goes header s (Look who false ∷ []) (Shows new n)
 fault_goes header h new n who s grows shows = record {
   state = added who (Fault false) s;
-  taken = one_step header s (added who (Fault false) s) (Look who false) (λ i. when (idle_by (is_down s.history) s.sealing (left_at h n s shows) i) (added who (Fault false) s));
+  taken = refl;
   meets = record {
     history_is = ap (λ (h : List Entry). h ++ entry_by who (Fault false) ∷ []) shows.history_is ∙ sym grows;
     sealed_is = shows.sealed_is;
@@ -54,5 +50,5 @@ fault_goes header h new n who s grows shows = record {
   };
 }
 
-pub opened_shows : (h : List Entry) → is_down h ≡ false → Shows h (length (bodies h)) (opened h)
-opened_shows h up = record { history_is = refl; sealed_is = refl; left = subst (λ b. IsLeft b None) (sym up) tt }
+pub opened_shows : (h : List Entry) → is_down h ≡ false → Rests h (length (bodies h)) (opened h)
+opened_shows h up = (record { history_is = refl; sealed_is = refl; left = subst (λ b. IsLeft b None) (sym up) tt }, refl)

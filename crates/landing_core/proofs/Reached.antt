@@ -1,6 +1,6 @@
 -- What holds of each state that steps lead to: no more is sealed than is stored, and each number that a seat waits for is of a stored entry that it made.
 use Rattle.std.proofs.Common.{◌≡◌, ℕ, ◌<◌, Bool, true, false, cond, List, [], ◌∷◌, ◌++◌, map, length, take, refl, sym, ap, subst, ◌∙◌, inl, inr, arith}
-use Rattle.std.specs.Prelude.{◌⊎◌, ◌==◌, ◌&&◌, is_none, nat_lt, IsTrue, Option, None, Some, slice_get, filter, find, bytes_eq, option_map, if◌then◌else◌, Result, Ok, Err}
+use Rattle.std.specs.Prelude.{◌⊎◌, ◌==◌, ◌&&◌, not, Contains, is_none, nat_lt, IsTrue, Option, None, Some, slice_get, filter, find, bytes_eq, option_map, if◌then◌else◌, Result, Ok, Err}
 use Rattle.std.specs.Option.{IfSome, option_and_then, option_map_or}
 use mathlib.Core.List.{IsPrefix}
 use Rattle.std.specs.List.{AllByRecursion}
@@ -8,22 +8,26 @@ use Rattle.std.proofs.lemmas.List.{append-nil, append_assoc, length-map, take-ap
 use Rattle.std.proofs.lemmas.List.Elements.{filter-append}
 use Rattle.std.proofs.lemmas.Option.{slice_get-map}
 use Rattle.std.proofs.lemmas.Bool.{eqb-true}
-use Rattle.history_model.specs.History.{Body, Fault, Entry, is_stored, unnumbered, bodies, stored}
+use Rattle.history_model.specs.History.{Body, Fault, Entry, is_stored, is_down, unnumbered, bodies, stored}
 use Rattle.history_model.specs.Journal.{Header}
 use Rattle.manifest_model.specs.Manifests.{Job, derive}
 use Rattle.reply_model.specs.Reply.{is_ask, Ask, Refusal, Judged, judge}
-use Rattle.core_model.specs.Core.{set_for, State, Step, Sealing, Stage, Written, Flushed, Opened, PlanLanding, Exchange, Look, WriteGroup, SyncGroup, OpenGate, Seal, Acknowledge, TakeJob, Settle, Crash, is_idle, is_as_planned, entry_of, entered, exchanged, added, broken, come_to, written, device_call, acknowledged_with, answer, may_be_kept, kept_of, opened, reopened, settled_with, job_of, when, after_step, after_steps}
+use Rattle.core_model.specs.Core.{set_for, State, Step, Sealing, Stage, Written, Flushed, Opened, PlanLanding, Exchange, Look, LayContent, WriteGroup, SyncGroup, OpenGate, Seal, Acknowledge, TakeJob, Settle, Crash, is_as_planned, entry_of, entered, exchanged, added, broken, come_to, group_end, group_of, laid, written, device_call, acknowledged_with, answer, may_be_kept, kept_of, opened, reopened, settled_with, job_of, when, after_step, after_steps}
 use Rattle.landing_core.specs.Gained.{sealed_log, StandsAt, IsSealedAt, numbered, MadeAt, gain_of, gains_of}
 use Rattle.reply_model.proofs.Granted.{MakesStored, judge_stored}
-use Rattle.core_model.proofs.Cores.{get_front, get_take, alone_is, bodies_left}
-use Rattle.landing_core.proofs.Lists.{none_some, filter-map, take_whole}
+use Rattle.core_model.proofs.Cores.{get_front, get_take, seat_case, bodies_left}
+use Rattle.landing_core.proofs.Lists.{filter-map, take_whole}
 use Rattle.byte_fields.proofs.Booleans.{same_some}
-use Rattle.byte_fields.proofs.Lists.{get_next}
-use Rattle.landing_core.proofs.Growing.{Most, Seals, seals_step}
+use Rattle.byte_fields.proofs.Lists.{get_next, weaker, all_push, all_filter, each_of}
+use Rattle.landing_core.proofs.Growing.{Most, Seals, seals_step, to_end}
+
+-- the seat made the stored entry with this number
+abbrev IsOwn : List Entry → ℕ → ℕ → Type 0
+IsOwn h who number = (body : Body) × MadeAt h number who body
 
 -- each number that a seat waits for is that of an entry that the seat made
-abbrev AreOwn : List Entry → (ℕ → Option ℕ) → Type 0
-AreOwn h waiting = (who number : ℕ) → waiting who ≡ Some number → (body : Body) × MadeAt h number who body
+abbrev AreOwn : List Entry → (ℕ → List ℕ) → Type 0
+AreOwn h waiting = (who : ℕ) → AllByRecursion (IsOwn h who) (waiting who)
 
 -- ---- numbers
 
@@ -39,10 +43,11 @@ one_entry who body s = λ i. cond (s i) (record { who = who; body = body } ∷ [
 pub one_body : (body : Body) → is_stored body ≡ true → filter is_stored (body ∷ []) ≡ body ∷ []
 one_body body s = λ i. cond (s i) (body ∷ []) []
 
-own_push : (h : List Entry) (e : Entry) (u : ℕ → Option ℕ) → AreOwn h u → AreOwn (h ++ e ∷ []) u
-own_push h e u k who number at =
-    let old = k who number at in
-    (old.0, ap (λ es. slice_get es number) (numbered-push h e) ∙ get_front (numbered h) (filter (λ e. is_stored e.body) (e ∷ [])) number (record { who = who; body = old.0 }) old.1)
+own_one : (h : List Entry) (e : Entry) (who number : ℕ) → IsOwn h who number → IsOwn (h ++ e ∷ []) who number
+own_one h e who number old = (old.0, ap (λ es. slice_get es number) (numbered-push h e) ∙ get_front (numbered h) (filter (λ e. is_stored e.body) (e ∷ [])) number (record { who = who; body = old.0 }) old.1)
+
+own_push : (h : List Entry) (e : Entry) (u : ℕ → List ℕ) → AreOwn h u → AreOwn (h ++ e ∷ []) u
+own_push h e u k who = weaker (IsOwn h who) (IsOwn (h ++ e ∷ []) who) (own_one h e who) (u who) (k who)
 
 next_number : (h : List Entry) → length (numbered h) ≡ length (bodies h)
 next_number h = sym (length-map (numbered h) (λ e. e.body)) ∙ ap length (bodies-numbered h)
@@ -53,23 +58,19 @@ made_next h who body s =
     ∙ ap (λ n. slice_get (numbered h ++ record { who = who; body = body } ∷ []) n) (sym (next_number h))
     ∙ get_next (numbered h) (record { who = who; body = body })
 
-entered_by_seat : (h : List Entry) (who : ℕ) (body : Body) (u : ℕ → Option ℕ) → is_stored body ≡ true → AreOwn h u → (seat number : ℕ) (b : Bool) → (seat == who) ≡ b → cond b (Some (length (bodies h))) (u seat) ≡ Some number → (body_of : Body) × MadeAt (h ++ record { who = who; body = body } ∷ []) number seat body_of
-entered_by_seat h who body u s k seat number true same at = (
-  body,
-  subst (λ n. MadeAt (h ++ record { who = who; body = body } ∷ []) n seat body) (same_some (length (bodies h)) number at)
-      (subst (λ w. MadeAt (h ++ record { who = who; body = body } ∷ []) (length (bodies h)) w body) (sym (eqb-true seat who same)) (made_next h who body s)),
-)
-entered_by_seat h who body u s k seat number false same at = own_push h (record { who = who; body = body }) u k seat number at
+own_sealed : (h : List Entry) (who : ℕ) (body : Body) (u : ℕ → List ℕ) → is_stored body ≡ true → AreOwn h u → AreOwn (h ++ record { who = who; body = body } ∷ []) (set_for who (u who ++ length (bodies h) ∷ []) u)
+own_sealed h who body u s k seat =
+    let now : List Entry = h ++ record { who = who; body = body } ∷ [] in
+    let older = own_push h (record { who = who; body = body }) u k in
+    seat_case (AllByRecursion (IsOwn now seat)) who seat (u who ++ length (bodies h) ∷ []) u
+    (λ same. subst (λ w. AllByRecursion (IsOwn now w) (u who ++ length (bodies h) ∷ [])) (sym same) (all_push (IsOwn now who) (u who) (length (bodies h)) (older who) (body, made_next h who body s)))
+    (λ _. older seat)
 
-own_sealed : (h : List Entry) (who : ℕ) (body : Body) (u : ℕ → Option ℕ) → is_stored body ≡ true → AreOwn h u → AreOwn (h ++ record { who = who; body = body } ∷ []) (set_for who (Some (length (bodies h))) u)
-own_sealed h who body u s k seat number at = entered_by_seat h who body u s k seat number (seat == who) refl at
-
-answered_by_seat : (h : List Entry) (u : ℕ → Option ℕ) → AreOwn h u → (seat number : ℕ) (b : Bool) → cond b None (u seat) ≡ Some number → (body : Body) × MadeAt h number seat body
-answered_by_seat h u k seat number true at = absurd (none_some number at)
-answered_by_seat h u k seat number false at = k seat number at
-
-own_answered : (h : List Entry) (who : ℕ) (u : ℕ → Option ℕ) → AreOwn h u → AreOwn h (set_for who None u)
-own_answered h who u k seat number at = answered_by_seat h u k seat number (seat == who) at
+own_answered : (h : List Entry) (who number : ℕ) (rest : List ℕ) (u : ℕ → List ℕ) → u who ≡ number ∷ rest → AreOwn h u → AreOwn h (set_for who rest u)
+own_answered h who number rest u at k seat =
+    seat_case (AllByRecursion (IsOwn h seat)) who seat rest u
+    (λ same. subst (λ w. AllByRecursion (IsOwn h w) rest) (sym same) (subst (AllByRecursion (IsOwn h who)) at (k who)).1)
+    (λ _. k seat)
 
 -- ---- each step
 
@@ -97,36 +98,39 @@ own_exchanged header s who ask k =
     choose (is_as_planned s.history (s.plan who) ask) (entered who (entry_of (judge header s.history ask)) s) (record s { plan = set_for who None s.plan })
     (own_made s who (judge header s.history ask) (judge_stored header s.history ask) k) k
 
-own_broken : (s : State) (who : ℕ) (opening : Bool) → Own s → Own (broken who opening s)
-own_broken s who opening k seat number at = own_push s.history (record { who = who; body = Fault true }) s.waiting k seat number (alone_is s.sealed number (s.waiting seat) at)
+own_broken : (s : State) (who upto : ℕ) (opening : Bool) → Own s → Own (broken who upto opening s)
+own_broken s who upto opening k seat = all_filter (IsOwn (s.history ++ record { who = who; body = Fault true } ∷ []) seat) (λ number. nat_lt number s.sealed) (s.waiting seat) (own_push s.history (record { who = who; body = Fault true }) s.waiting k seat)
 
 own_written : (s : State) (who : ℕ) (done : Bool) → Own s → Own (written s who done)
-own_written s who done k = choose done (come_to who Written s) (broken who false s) k (own_broken s who false k)
+own_written s who done k = choose done (come_to (length (bodies s.history)) Written s) (broken who (length (bodies s.history)) false s) k (own_broken s who (length (bodies s.history)) false k)
 
-own_call : (step : Step) (who : ℕ) (stage : Stage) (s : State) → Own s → IfSome (device_call step who stage s) Own
-own_call (SyncGroup true) who Written s k = k
-own_call (SyncGroup false) who Written s k = own_broken s who false k
-own_call (OpenGate true) who Flushed s k = k
-own_call (OpenGate false) who Flushed s k = own_broken s who true k
-own_call (Seal true) who Opened s k = k
-own_call (Seal false) who Opened s k = own_broken s who true k
-own_call step who stage s k = tt
+own_laid : (s : State) (who : ℕ) (done : Bool) → Own s → Own (laid s who done)
+own_laid s who done k = choose done s (broken who (group_end s) (may_be_kept s.sealing) s) k (own_broken s who (group_end s) (may_be_kept s.sealing) k)
 
-own_calls : (step : Step) (s : State) (o : Option Sealing) → Own s → IfSome (option_and_then (λ r. device_call step r.who r.stage s) o) Own
+own_call : (step : Step) (upto : ℕ) (stage : Stage) (s : State) → Own s → IfSome (device_call step upto stage s) Own
+own_call (SyncGroup who true) upto Written s k = k
+own_call (SyncGroup who false) upto Written s k = own_broken s who upto false k
+own_call (OpenGate who true) upto Flushed s k = k
+own_call (OpenGate who false) upto Flushed s k = own_broken s who upto true k
+own_call (Seal who true) upto Opened s k = k
+own_call (Seal who false) upto Opened s k = own_broken s who upto true k
+own_call step upto stage s k = tt
+
+own_calls : (step : Step) (s : State) (o : Option Sealing) → Own s → IfSome (option_and_then (λ r. device_call step r.upto r.stage s) o) Own
 own_calls step s None k = tt
-own_calls step s (Some r) k = own_call step r.who r.stage s k
+own_calls step s (Some r) k = own_call step r.upto r.stage s k
 
-own_answer_by : (s : State) (who number : ℕ) (o : Option Body) → Own s → IfSome (option_map (acknowledged_with s who number) o) Own
-own_answer_by s who number None k = tt
-own_answer_by s who number (Some body) k = own_answered s.history who s.waiting k
+own_answer_by : (s : State) (who number : ℕ) (rest : List ℕ) (o : Option Body) → s.waiting who ≡ number ∷ rest → Own s → IfSome (option_map (acknowledged_with s who number rest) o) Own
+own_answer_by s who number rest None at k = tt
+own_answer_by s who number rest (Some body) at k = own_answered s.history who number rest s.waiting at k
 
-own_answer_if : (s : State) (who number : ℕ) (b : Bool) → Own s → IfSome (if b then option_map (acknowledged_with s who number) (slice_get (bodies s.history) number) else None) Own
-own_answer_if s who number true k = own_answer_by s who number (slice_get (bodies s.history) number) k
-own_answer_if s who number false k = tt
+own_answer_if : (s : State) (who number : ℕ) (rest : List ℕ) (b : Bool) → s.waiting who ≡ number ∷ rest → Own s → IfSome (if b then option_map (acknowledged_with s who number rest) (slice_get (bodies s.history) number) else None) Own
+own_answer_if s who number rest true at k = own_answer_by s who number rest (slice_get (bodies s.history) number) at k
+own_answer_if s who number rest false at k = tt
 
-own_answer : (s : State) (who : ℕ) (o : Option ℕ) → Own s → IfSome (option_and_then (answer s who) o) Own
-own_answer s who None k = tt
-own_answer s who (Some number) k = own_answer_if s who number (nat_lt number s.sealed) k
+own_answer : (s : State) (who : ℕ) (numbers : List ℕ) → s.waiting who ≡ numbers → Own s → IfSome (answer s who numbers) Own
+own_answer s who [] at k = tt
+own_answer s who (number ∷ rest) at k = own_answer_if s who number rest (nat_lt number s.sealed) at k
 
 own_taken : (s : State) (o : Option Job) → Own s → IfSome (option_map (λ job. record s { jobs = s.jobs ++ job ∷ [] }) o) Own
 own_taken s None k = tt
@@ -138,17 +142,18 @@ own_settled s (Some job) k = k
 
 own_reopened : (s : State) (o : Option ℕ) → IfSome (option_map (reopened s) o) Own
 own_reopened s None = tt
-own_reopened s (Some n) = λ who number e. absurd (none_some number e)
+own_reopened s (Some n) = λ who. tt
 
 own_step : (header : Header) (s : State) (step : Step) → Own s → IfSome (after_step header s step) Own
 own_step header s (PlanLanding who name draft moment) k = k
-own_step header s (Exchange who ask) k = own_when (is_ask s.history ask && is_idle s.sealing && is_none (s.waiting who)) (exchanged header s who ask) (own_exchanged header s who ask k)
-own_step header s (Look who done) k = own_when (is_idle s.sealing) (if done then s else added who (Fault false) s) (choose done s (added who (Fault false) s) k (own_push s.history (record { who = who; body = Fault false }) s.waiting k))
+own_step header s (Exchange who ask) k = own_when (is_ask s.history ask) (exchanged header s who ask) (own_exchanged header s who ask k)
+own_step header s (Look who done) k = choose done s (added who (Fault false) s) k (own_push s.history (record { who = who; body = Fault false }) s.waiting k)
+own_step header s (LayContent who done) k = own_when (not (is_down s.history)) (laid s who done) (own_laid s who done k)
 own_step header s (WriteGroup who done) k = own_when (is_none s.sealing && nat_lt s.sealed (length (bodies s.history))) (written s who done) (own_written s who done k)
-own_step header s (SyncGroup done) k = own_calls (SyncGroup done) s s.sealing k
-own_step header s (OpenGate done) k = own_calls (OpenGate done) s s.sealing k
-own_step header s (Seal done) k = own_calls (Seal done) s s.sealing k
-own_step header s (Acknowledge who) k = own_answer s who (s.waiting who) k
+own_step header s (SyncGroup who done) k = own_calls (SyncGroup who done) s s.sealing k
+own_step header s (OpenGate who done) k = own_calls (OpenGate who done) s s.sealing k
+own_step header s (Seal who done) k = own_calls (Seal who done) s s.sealing k
+own_step header s (Acknowledge who) k = own_answer s who (s.waiting who) refl k
 own_step header s (TakeJob x) k = own_taken s (job_of s x) k
 own_step header s (Settle x) k = own_settled s (find (λ job. bytes_eq job.changeset.id x) s.jobs) k
 own_step header s (Crash kept) k = own_reopened s (kept_of s kept)
@@ -177,7 +182,7 @@ came header [] s t k e = subst (λ t. Came s t []) (same_some s t e) (record { h
 came header (step ∷ steps) s t k e = came_by header s t step steps (λ next. came header steps next t) (after_step header s step) refl (seals_step header s step k.most) (own_step header s step k.own) e
 
 held_opened : (h : List Entry) → Held (opened h)
-held_opened h = record { most = omega arith; own = λ who number e. absurd (none_some number e) }
+held_opened h = record { most = (omega arith, omega arith); own = λ who. tt }
 
 pub held : (header : Header) (h : List Entry) (steps : List Step) (s : State) → after_steps header (opened h) steps ≡ Some s → Held s
 held header h steps s e = (came header steps (opened h) s (held_opened h) e).held
@@ -208,17 +213,17 @@ first_stands header h steps s number body e stands =
 
 -- ---- crashes
 
--- what is sealed, or this and the whole group
+-- what is sealed, or this and the group
 abbrev CrashLeaves : State → State → Type 0
-CrashLeaves s t = (bodies t.history ≡ sealed_log s) ⊎ (IsTrue (may_be_kept s.sealing) × (bodies t.history ≡ bodies s.history))
+CrashLeaves s t = (bodies t.history ≡ sealed_log s) ⊎ (IsTrue (may_be_kept s.sealing) × (bodies t.history ≡ sealed_log s ++ group_of s))
 
-leaves_kept : (s t : State) (b : Bool) → may_be_kept s.sealing ≡ b → option_map (reopened s) (if b then Some (length (bodies s.history)) else None) ≡ Some t → CrashLeaves s t
-leaves_kept s t true may e = inr (may, ap (λ (u : State). bodies u.history) (sym (same_some (reopened s (length (bodies s.history))) t e)) ∙ bodies_left s.history (length (bodies s.history)) ∙ take_whole (bodies s.history))
-leaves_kept s t false may e = absurd cc
+leaves_kept : (s t : State) (b : Bool) → may_be_kept s.sealing ≡ b → Most s → option_map (reopened s) (if b then Some (group_end s) else None) ≡ Some t → CrashLeaves s t
+leaves_kept s t true may most e = inr (may, ap (λ (u : State). bodies u.history) (sym (same_some (reopened s (group_end s)) t e)) ∙ bodies_left s.history (group_end s) ∙ to_end s most)
+leaves_kept s t false may most e = absurd cc
 
-pub crash_leaves : (header : Header) (s t : State) (kept : Bool) → after_step header s (Crash kept) ≡ Some t → CrashLeaves s t
-crash_leaves header s t false e = inl (ap (λ (u : State). bodies u.history) (sym (same_some (reopened s s.sealed) t e)) ∙ bodies_left s.history s.sealed)
-crash_leaves header s t true e = leaves_kept s t (may_be_kept s.sealing) refl e
+pub crash_leaves : (header : Header) (h : List Entry) (steps : List Step) (s t : State) (kept : Bool) → after_steps header (opened h) steps ≡ Some s → after_step header s (Crash kept) ≡ Some t → CrashLeaves s t
+crash_leaves header h steps s t false reached e = inl (ap (λ (u : State). bodies u.history) (sym (same_some (reopened s s.sealed) t e)) ∙ bodies_left s.history s.sealed)
+crash_leaves header h steps s t true reached e = leaves_kept s t (may_be_kept s.sealing) refl (held header h steps s reached).most e
 
 abbrev Reopened : State → State → Type 0
 Reopened s t = (t.history ≡ stored t.history) × (sealed_log t ≡ bodies t.history) × (t.acknowledged ≡ s.acknowledged)
@@ -239,12 +244,12 @@ made_stands h number who body made =
     ∙ slice_get-map (λ e. e.body) (numbered h) number
     ∙ ap (option_map (λ e. e.body)) made
 
-pub waiting_made : (header : Header) (h : List Entry) (steps : List Step) (s : State) (who number : ℕ) → after_steps header (opened h) steps ≡ Some s → s.waiting who ≡ Some number → (body : Body) × MadeAt s.history number who body
-waiting_made header h steps s who number e at = (held header h steps s e).own who number at
+pub waiting_made : (header : Header) (h : List Entry) (steps : List Step) (s : State) (who number : ℕ) → after_steps header (opened h) steps ≡ Some s → Contains (s.waiting who) number → (body : Body) × MadeAt s.history number who body
+waiting_made header h steps s who number e waits = each_of (IsOwn s.history who) (s.waiting who) number ((held header h steps s e).own who) waits
 
-pub waiting_stands : (header : Header) (h : List Entry) (steps later : List Step) (s t : State) (who number : ℕ) → after_steps header (opened h) steps ≡ Some s → s.waiting who ≡ Some number → number < s.sealed → after_steps header s later ≡ Some t → (body : Body) × MadeAt s.history number who body × StandsAt t.history number body
-waiting_stands header h steps later s t who number e at less f =
-    let own = waiting_made header h steps s who number e at in
+pub waiting_stands : (header : Header) (h : List Entry) (steps later : List Step) (s t : State) (who number : ℕ) → after_steps header (opened h) steps ≡ Some s → Contains (s.waiting who) number → number < s.sealed → after_steps header s later ≡ Some t → (body : Body) × MadeAt s.history number who body × StandsAt t.history number body
+waiting_stands header h steps later s t who number e waits less f =
+    let own = waiting_made header h steps s who number e waits in
     (own.0, own.1, (keep_numbers header h steps later s t number own.0 (get_take (bodies s.history) number s.sealed own.0 less (made_stands s.history number who own.0 own.1)) e f).1)
 
 -- an acknowledged entry is a sealed one

@@ -12,7 +12,7 @@ use Rattle.history_model.specs.Journal.{Header}
 use Rattle.manifest_model.specs.Manifests.{Manifests, nodes_in, Job, derive}
 use Rattle.manifest_model.proofs.Jobs.{job_of_past}
 use Rattle.reply_model.specs.Legal.{IsLegal}
-use Rattle.core_model.specs.Core.{State, Step, PlanLanding, Exchange, Look, WriteGroup, SyncGroup, OpenGate, Seal, Acknowledge, TakeJob, Settle, Crash, are_apart, nodes_among, settled_in, parent_in, both_of, job_on, settled_with, kept_of, opened, reopened, after_step, after_steps}
+use Rattle.core_model.specs.Core.{State, Step, PlanLanding, Exchange, Look, LayContent, WriteGroup, SyncGroup, OpenGate, Seal, Acknowledge, TakeJob, Settle, Crash, are_apart, nodes_among, settled_in, parent_in, both_of, job_on, settled_with, kept_of, opened, reopened, after_step, after_steps}
 use Rattle.core_model.proofs.Cores.{Kept, step_kept, started_kept, some_is}
 use Rattle.landing_core.specs.Settled.{IsRow, IsTaken, ShowsSettled}
 use Rattle.landing_core.proofs.Rows.{past_known, taken_push, each_there}
@@ -80,10 +80,11 @@ step_true : (header : Header) (s t : State) (step : Step) → after_step header 
 step_true header s t (PlanLanding who name draft moment) e legal are = true_left s t (step_leaves header s t (PlanLanding who name draft moment) refl e) are
 step_true header s t (Exchange who ask) e legal are = true_left s t (step_leaves header s t (Exchange who ask) refl e) are
 step_true header s t (Look who done) e legal are = true_left s t (step_leaves header s t (Look who done) refl e) are
+step_true header s t (LayContent who done) e legal are = true_left s t (step_leaves header s t (LayContent who done) refl e) are
 step_true header s t (WriteGroup who done) e legal are = true_left s t (step_leaves header s t (WriteGroup who done) refl e) are
-step_true header s t (SyncGroup done) e legal are = true_left s t (step_leaves header s t (SyncGroup done) refl e) are
-step_true header s t (OpenGate done) e legal are = true_left s t (step_leaves header s t (OpenGate done) refl e) are
-step_true header s t (Seal done) e legal are = true_left s t (step_leaves header s t (Seal done) refl e) are
+step_true header s t (SyncGroup who done) e legal are = true_left s t (step_leaves header s t (SyncGroup who done) refl e) are
+step_true header s t (OpenGate who done) e legal are = true_left s t (step_leaves header s t (OpenGate who done) refl e) are
+step_true header s t (Seal who done) e legal are = true_left s t (step_leaves header s t (Seal who done) refl e) are
 step_true header s t (Acknowledge who) e legal are = true_left s t (step_leaves header s t (Acknowledge who) refl e) are
 step_true header s t (TakeJob x) e legal are = take_true header s t x legal are (is_some (settled_in s.table x)) e
 step_true header s t (Settle x) e legal are = settle_true s t x are (find (λ job. bytes_eq job.changeset.id x) s.jobs) refl e

@@ -12,10 +12,11 @@ use Rattle.reply_model.proofs.Histories.{bodies-append}
 use Rattle.reply_model.proofs.Stored.{granted_is_up}
 use Rattle.core_model.specs.Core.{State, Step}
 use Rattle.core_model.proofs.Cores.{one_more}
-use Rattle.landing_core.specs.Steps.{Shows, MayAsk, asking, AtSeal, all_calls, calls_to, IsMadeFirst, AreStepsWithSeal, sealed_then, Goes}
+use Rattle.landing_core.specs.Steps.{Shows, Rests, MayAsk, asking, AtSeal, all_calls, calls_to, IsMadeFirst, AreStepsWithSeal, sealed_then, Goes}
 use Rattle.landing_core.proofs.Asked.{after_then, stored_goes}
 use Rattle.landing_core.proofs.Down.{down-stored}
 use Rattle.landing_core.proofs.Sealed.{seal_goes, cut_goes}
+use Rattle.landing_core.proofs.Resting.{rests_too}
 
 pub goes_then : (header : Header) (s : State) (first rest : List Step) (P Q : State → Type 0) → Goes header s first P → ((t : State) → P t → Goes header t rest Q) → Goes header s (first ++ rest) Q
 goes_then header s first rest P Q goes later =
@@ -26,15 +27,15 @@ goes_then header s first rest P Q goes later =
 no_more : (h : List Entry) (who : ℕ) → length (bodies (h ++ entry_by who (Fault true) ∷ [])) ≡ length (bodies h)
 no_more h who = ap length (bodies-append h (entry_by who (Fault true) ∷ []) ∙ append-nil (bodies h))
 
-module _ (header : Header) (h : List Entry) (n who : ℕ) (ask : Ask) (s : State) (all : is_down h ≡ false → n ≡ length (bodies h)) (shows : Shows h n s) (may : MayAsk s who ask) where
+module _ (header : Header) (h : List Entry) (n who : ℕ) (ask : Ask) (s : State) (all : is_down h ≡ false → n ≡ length (bodies h)) (rests : Rests h n s) (may : MayAsk s who ask) where
   abbrev Served : Answer → List Entry → Type 0
-  Served answer new = (steps : List Step) × AreStepsWithSeal who (asking who ask) answer steps × Goes header s steps (Shows new (sealed_then n answer new))
+  Served answer new = (steps : List Step) × AreStepsWithSeal who (asking who ask) answer steps × Goes header s steps (Rests new (sealed_then n answer new))
 
   -- a change that is granted, until its entry is sealed
-  asked : (granted : Granted) (entry : Option Body) (new : List Entry) → judge header h ask ≡ Ok (record { granted = granted; made = entry }) → new ≡ h ++ entries_of who (record { entry = entry; fault = None }) → Goes header s (asking who ask) (Shows new n)
+  asked : (granted : Granted) (entry : Option Body) (new : List Entry) → judge header h ask ≡ Ok (record { granted = granted; made = entry }) → new ≡ h ++ entries_of who (record { entry = entry; fault = None }) → Goes header s (asking who ask) (Rests new n)
   asked granted entry new is grows =
-      let goes = stored_goes header h n who ask (Grants granted) new s (λ e. absurd cc) (record { made = record { entry = entry; fault = None }; answers = (refl, is); new_is = grows }) shows may in
-      subst (λ (steps : List Step). Goes header s steps (Shows new n)) goes.1 goes.2
+      let goes = stored_goes header h n who ask (Grants granted) new s (λ e. absurd cc) (record { made = record { entry = entry; fault = None }; answers = (refl, is); new_is = grows }) rests.0 may in
+      rests_too header s who ask (asking who ask) new n rests.1 (inl refl) (subst (λ (steps : List Step). Goes header s steps (Shows new n)) goes.1 goes.2)
 
   module _ (granted : Granted) (body : Body) (is : judge header h ask ≡ Ok (record { granted = granted; made = Some body })) where
     abbrev entered : List Entry
@@ -52,18 +53,18 @@ module _ (header : Header) (h : List Entry) (n who : ℕ) (ask : Ask) (s : State
     waits : n < length (bodies entered)
     waits = (let more = one_more h who body stored in let now = all up in omega arith)
 
-    sealed_here : Goes header s (asking who ask ++ all_calls who) (Shows entered (length (bodies entered)))
-    sealed_here = goes_then header s (asking who ask) (all_calls who) (Shows entered n) (Shows entered (length (bodies entered))) (asked granted (Some body) entered is refl) (λ t shows. seal_goes header entered n who t still_up waits shows)
+    sealed_here : Goes header s (asking who ask ++ all_calls who) (Rests entered (length (bodies entered)))
+    sealed_here = goes_then header s (asking who ask) (all_calls who) (Rests entered n) (Rests entered (length (bodies entered))) (asked granted (Some body) entered is refl) (λ t rests. seal_goes header entered n who t still_up waits rests)
 
-    failed_here : Goes header s (asking who ask ++ calls_to who AtSeal) (Shows (entered ++ entry_by who (Fault true) ∷ []) n)
-    failed_here = goes_then header s (asking who ask) (calls_to who AtSeal) (Shows entered n) (Shows (entered ++ entry_by who (Fault true) ∷ []) n) (asked granted (Some body) entered is refl) (λ t shows. cut_goes header entered n who t AtSeal still_up waits shows)
+    failed_here : Goes header s (asking who ask ++ calls_to who AtSeal) (Rests (entered ++ entry_by who (Fault true) ∷ []) n)
+    failed_here = goes_then header s (asking who ask) (calls_to who AtSeal) (Rests entered n) (Rests (entered ++ entry_by who (Fault true) ∷ []) n) (asked granted (Some body) entered is refl) (λ t rests. cut_goes header entered n who t AtSeal still_up waits rests)
 
   granted_served : (granted : Granted) (entry : Option Body) (new : List Entry) → judge header h ask ≡ Ok (record { granted = granted; made = entry }) → new ≡ h ++ entries_of who (record { entry = entry; fault = None }) → Served (Grants granted) new
   granted_served granted None new is grows =
       let same : n ≡ length (bodies new) = all (granted_is_up header h ask _ is) ∙ ap (λ h. length (bodies h)) (sym (grows ∙ append-nil h)) in
-      (asking who ask, inl refl, subst (λ m. Goes header s (asking who ask) (Shows new m)) same (asked granted None new is grows))
+      (asking who ask, inl refl, subst (λ m. Goes header s (asking who ask) (Rests new m)) same (asked granted None new is grows))
   granted_served granted (Some body) new is grows =
-      (asking who ask ++ all_calls who, inr refl, subst (λ new. Goes header s (asking who ask ++ all_calls who) (Shows new (length (bodies new)))) (sym grows) (sealed_here granted body is))
+      (asking who ask ++ all_calls who, inr refl, subst (λ new. Goes header s (asking who ask ++ all_calls who) (Rests new (length (bodies new)))) (sym grows) (sealed_here granted body is))
 
   abbrev after_fault : Option Body → List Entry
   after_fault entry = h ++ entries_of who (record { entry = entry; fault = Some true })
@@ -72,11 +73,13 @@ module _ (header : Header) (h : List Entry) (n who : ℕ) (ask : Ask) (s : State
   failed_served granted None new first is grows = absurd (let none = no_more h who in let same = ap (λ h. length (bodies h)) grows in omega arith)
   failed_served granted (Some body) new first is grows =
       let new_is : (h ++ entry_by who body ∷ []) ++ entry_by who (Fault true) ∷ [] ≡ new = append_assoc h (entry_by who body ∷ []) (entry_by who (Fault true) ∷ []) ∙ sym grows in
-      (asking who ask ++ calls_to who AtSeal, (AtSeal, refl), subst (λ new. Goes header s (asking who ask ++ calls_to who AtSeal) (Shows new n)) new_is (failed_here granted body is))
+      (asking who ask ++ calls_to who AtSeal, (AtSeal, refl), subst (λ new. Goes header s (asking who ask ++ calls_to who AtSeal) (Rests new n)) new_is (failed_here granted body is))
 
   served : (answer : Answer) (new : List Entry) → Replies header h who (Asks ask) answer new → IsMadeFirst h answer new → Served answer new
   served (Grants granted) new r first = granted_served granted r.made.entry new r.answers.1 (r.new_is ∙ (λ i. h ++ entries_of who (record { entry = r.made.entry; fault = r.answers.0 i })))
-  served (Refuses refusal) new r first = stored_goes header h n who ask (Refuses refusal) new s (λ e. absurd cc) r shows may
+  served (Refuses refusal) new r first =
+      let goes = stored_goes header h n who ask (Refuses refusal) new s (λ e. absurd cc) r rests.0 may in
+      (goes.0, goes.1, rests_too header s who ask goes.0 new n rests.1 (inl goes.1) goes.2)
   served (Sees seen) new r first = absurd r.answers
   served (Lacks absent) new r first = absurd r.answers
   served (Roots fsnode unode deleted) new r first = absurd r.answers
@@ -84,8 +87,10 @@ module _ (header : Header) (h : List Entry) (n who : ℕ) (ask : Ask) (s : State
   served ReadFault new r first = absurd r.answers
   served (BadBytes wanted found) new r first = absurd r.answers
   served (NodeCollision x) new r first = absurd r.answers.1
-  served Memory new r first = stored_goes header h n who ask Memory new s (λ e. absurd cc) r shows may
+  served Memory new r first =
+      let goes = stored_goes header h n who ask Memory new s (λ e. absurd cc) r rests.0 may in
+      (goes.0, goes.1, rests_too header s who ask goes.0 new n rests.1 (inr goes.1) goes.2)
 
-pub served_goes : (header : Header) (h : List Entry) (n who : ℕ) (ask : Ask) (answer : Answer) (new : List Entry) (s : State) → Replies header h who (Asks ask) answer new → IsMadeFirst h answer new → (is_down h ≡ false → n ≡ length (bodies h)) → Shows h n s → MayAsk s who ask
-    → (steps : List Step) × AreStepsWithSeal who (asking who ask) answer steps × Goes header s steps (Shows new (sealed_then n answer new))
-served_goes header h n who ask answer new s r first all shows may = served header h n who ask s all shows may answer new r first
+pub served_goes : (header : Header) (h : List Entry) (n who : ℕ) (ask : Ask) (answer : Answer) (new : List Entry) (s : State) → Replies header h who (Asks ask) answer new → IsMadeFirst h answer new → (is_down h ≡ false → n ≡ length (bodies h)) → Rests h n s → MayAsk s who ask
+    → (steps : List Step) × AreStepsWithSeal who (asking who ask) answer steps × Goes header s steps (Rests new (sealed_then n answer new))
+served_goes header h n who ask answer new s r first all rests may = served header h n who ask s all rests may answer new r first

@@ -41,7 +41,7 @@ only_step header t (Some next) e = e
 module _ (header : Header) (h : List Entry) (legal : IsLegal header h) where
   leaves_all : (before : List Step) (at after : State) (kept : Bool) → after_steps header (opened h) before ≡ Some at → after_step header at (Crash kept) ≡ Some after → after_steps header at (Crash kept ∷ []) ≡ Some after → LeavesAll at after
   leaves_all before at after kept reached crashes taken = record {
-    log = crash_leaves header at after kept crashes;
+    log = crash_leaves header h before at after kept reached crashes;
     sealed = (crash_reopens header at after kept crashes).1;
     acknowledged = (crash_reopens header at after kept crashes).2;
     stand = weaker (λ (a : ℕ × Body). IsSealedAt at a.0 a.1) (λ (a : ℕ × Body). StandsAt after.history a.0 a.1) (λ a is. (keep_numbers header h before (Crash kept ∷ []) at after a.0 a.1 is reached taken).1) at.acknowledged

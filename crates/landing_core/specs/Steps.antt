@@ -1,14 +1,16 @@
 -- The calls of a repository as steps of the core.
---     Shows h n s      the core's state has this history, of whose stored entries the first n are sealed, and a group left over exactly where a breaking fault is in it; no group is being sealed
---     MayAsk s who ask      the seat may ask this: no entry of its own is pending or unanswered, and the change may be asked
+--     Shows h n s      the core's state has this history, of whose stored entries the first n are sealed, and a group left over exactly where a breaking fault is in it; else no group is being sealed, or one is
+--     Rests h n s      and no group is in the making
+--     ShowsAt h n group s      and this is the group that is being sealed or left over, or there is none
+--     MayAsk s who ask      the seat may ask this: the change may be asked
 --     HasPlan s who name draft moment old new      the seat planned this landing
 --     asking who ask      the steps of a change: a landing is planned first
---     all_calls who, calls_to who cut      the device calls that seal a group: all done, or done up to one that failed
+--     all_calls who, calls_to who cut      the device calls that seal a group, by one seat: all done, or done up to one that failed
 --     AreSteps asked answer steps      the steps of a change that is answered so, before its entry is sealed, if one is made: those that ask it
 --     IsMadeFirst h answer new      where the disk failed, the change's entry had been made
 --     AreStepsWithSeal who asked answer steps      the steps of a change and, where it made an entry, the device calls by which the seat seals it: all, or those up to one that failed
 --     sealed_then n answer new      how many stored entries are sealed after these, where n were before
---     left_open who s      the state with its group left over by this seat, whose gate may stand open
+--     left_open upto s      the state with a group left over that ends there, and whose gate may stand open
 --     Goes header s steps P      the steps can be taken from the state, and what comes of them has P
 use Rattle.std.specs.Prelude.{◌≡◌, ◌⊎◌, ◌<◌, ℕ, Bool, true, false, List, [], ◌∷◌, ◌++◌, length, Option, None, Some}
 use Rattle.byte_fields.specs.Bytes.{Id}
@@ -17,22 +19,36 @@ use Rattle.history_model.specs.History.{Entry, bodies, is_down}
 use Rattle.history_model.specs.Journal.{Header}
 use Rattle.reply_model.specs.Reply.{Ask, PutContent, PutWhole, PutChangeset, SetBookmark, LandDraft, SetPolicy, is_ask}
 use Rattle.reply_model.specs.After.{Answer, Grants, Refuses, Shows as Sees, Lacks, Roots, DiskFault, ReadFault, BadBytes, NodeCollision, Memory}
-use Rattle.core_model.specs.Core.{Plan, Sealing, LeftOver, State, Step, PlanLanding, Exchange, WriteGroup, SyncGroup, OpenGate, Seal, is_left_over, after_steps}
+use Rattle.core_model.specs.Core.{Plan, Sealing, Stage, LeftOver, State, Step, PlanLanding, Exchange, WriteGroup, SyncGroup, OpenGate, Seal, is_left_over, after_steps}
 
--- a group is left over, or there is none
+-- a group is left over, or none is: there is none, or it is in the making
 abbrev pub IsLeft : Bool → Option Sealing → Type 0
 IsLeft true None = ⊥
 IsLeft true (Some r) = is_left_over r.stage ≡ true
 IsLeft false None = Unit {0}
-IsLeft false (Some r) = ⊥
+IsLeft false (Some r) = is_left_over r.stage ≡ false
 
 pub record Shows (h : List Entry) (n : ℕ) (s : State) : Type 0 where
   pub history_is : s.history ≡ h
   pub sealed_is : s.sealed ≡ n
   pub left : IsLeft (is_down h) s.sealing
 
+-- no group is in the making: there is none, or it is left over
+abbrev pub is_idle : Option Sealing → Bool
+is_idle None = true
+is_idle (Some r) = is_left_over r.stage
+
+abbrev pub Rests : List Entry → ℕ → State → Type 0
+Rests h n s = Shows h n s × (is_idle s.sealing ≡ true)
+
+-- a group with this end that has come so far
+abbrev pub group_to : ℕ → Stage → Option Sealing
+group_to upto stage = Some (record { upto = upto; stage = stage })
+
+abbrev pub ShowsAt : List Entry → ℕ → Option Sealing → State → Type 0
+ShowsAt h n group s = Shows h n s × (s.sealing ≡ group)
+
 pub record MayAsk (s : State) (who : ℕ) (ask : Ask) : Type 0 where
-  pub free : s.waiting who ≡ None
   pub asks : is_ask s.history ask ≡ true
 
 pub record HasPlan (s : State) (who : ℕ) (name : List ℕ) (draft : Id) (moment : ℕ) (old : Id) (new : List Changeset) : Type 0 where
@@ -68,7 +84,7 @@ AreSteps asked Memory steps = steps ≡ []
 -- ---- the device calls that seal a group
 
 abbrev pub all_calls : ℕ → List Step
-all_calls who = WriteGroup who true ∷ SyncGroup true ∷ OpenGate true ∷ Seal true ∷ []
+all_calls who = WriteGroup who true ∷ SyncGroup who true ∷ OpenGate who true ∷ Seal who true ∷ []
 
 -- the call that failed
 pub data Cut : Type 0 where
@@ -79,9 +95,9 @@ pub data Cut : Type 0 where
 
 abbrev pub calls_to : ℕ → Cut → List Step
 calls_to who AtWrite = WriteGroup who false ∷ []
-calls_to who AtSync = WriteGroup who true ∷ SyncGroup false ∷ []
-calls_to who AtOpen = WriteGroup who true ∷ SyncGroup true ∷ OpenGate false ∷ []
-calls_to who AtSeal = WriteGroup who true ∷ SyncGroup true ∷ OpenGate true ∷ Seal false ∷ []
+calls_to who AtSync = WriteGroup who true ∷ SyncGroup who false ∷ []
+calls_to who AtOpen = WriteGroup who true ∷ SyncGroup who true ∷ OpenGate who false ∷ []
+calls_to who AtSeal = WriteGroup who true ∷ SyncGroup who true ∷ OpenGate who true ∷ Seal who false ∷ []
 
 -- ---- a change and its seal, where all is sealed between calls
 
@@ -117,7 +133,7 @@ sealed_then n Memory new = n
 -- ---- a group that is left over
 
 abbrev pub left_open : ℕ → State → State
-left_open who s = record s { sealing = Some (record { who = who; stage = LeftOver true }) }
+left_open upto s = record s { sealing = group_to upto (LeftOver true) }
 
 pub record Goes (header : Header) (s : State) (steps : List Step) (P : State → Type 0) : Type 0 where
   pub state : State

@@ -2,22 +2,22 @@
 --     LeavesAll at after      what a crash leaves: all that is sealed, each entry at its number, and the whole group or nothing of it
 --     Crashed header h before kept s      so did a crash among the steps
 --     Keeps header h steps s      what is so after any steps from an opened history
-use Rattle.std.specs.Prelude.{◌≡◌, ◌⊎◌, ◌<◌, ℕ, Bool, true, IsTrue, List, ◌∷◌, ◌++◌, Some}
+use Rattle.std.specs.Prelude.{◌≡◌, ◌⊎◌, ◌<◌, ℕ, Bool, true, IsTrue, List, Contains, ◌∷◌, ◌++◌, Some}
 use Rattle.std.specs.List.{AllByRecursion}
 use mathlib.Core.List.{IsPrefix}
 use Rattle.history_model.specs.History.{Body, Entry, bodies, stored, known, is_known}
 use Rattle.history_model.specs.Journal.{Header}
 use Rattle.manifest_model.specs.Manifests.{manifests_of}
 use Rattle.reply_model.specs.Legal.{IsLegal}
-use Rattle.core_model.specs.Core.{State, Step, Crash, Once, may_be_kept, are_apart, nodes_among, opened, after_step, after_steps}
+use Rattle.core_model.specs.Core.{State, Step, Crash, Once, may_be_kept, group_of, are_apart, nodes_among, opened, after_step, after_steps}
 use Rattle.landing_core.specs.Gained.{StandsAt, MadeAt, sealed_log, gains_of}
 
 abbrev pub AllStand : List Entry → List (ℕ × Body) → Type 0
 AllStand h acknowledged = AllByRecursion (λ a. StandsAt h a.0 a.1) acknowledged
 
--- all that was pending is left too, whose gate was to be opened
+-- the group is left too, whose gate was to be opened, and nothing of what was entered behind it
 abbrev pub HasGroup : State → State → Type 0
-HasGroup at after = IsTrue (may_be_kept at.sealing) × (bodies after.history ≡ bodies at.history)
+HasGroup at after = IsTrue (may_be_kept at.sealing) × (bodies after.history ≡ sealed_log at ++ group_of at)
 
 pub record LeavesAll (at after : State) : Type 0 where
   pub log : (bodies after.history ≡ sealed_log at) ⊎ HasGroup at after
@@ -27,7 +27,7 @@ pub record LeavesAll (at after : State) : Type 0 where
   pub acknowledged : after.acknowledged ≡ at.acknowledged
   pub stand : AllStand after.history at.acknowledged
   -- so does what a seat made and was sealed, and wasn't answered yet
-  pub waiting : (who number : ℕ) → at.waiting who ≡ Some number → number < at.sealed → (body : Body) × MadeAt at.history number who body × StandsAt after.history number body
+  pub waiting : (who number : ℕ) → Contains (at.waiting who) number → number < at.sealed → (body : Body) × MadeAt at.history number who body × StandsAt after.history number body
   -- no entry has a seat's number
   pub unseated : after.history ≡ stored after.history
 

@@ -1,10 +1,10 @@
 //! Laws of the core, each the contract of a function that does nothing.
-ghost use Rattle.std.specs.Prelude.{◌≡◌, ◌⊎◌, ◌<◌, ℕ, Bool, true, false, IsTrue, Some, List, [], ◌∷◌, ◌++◌};
+ghost use Rattle.std.specs.Prelude.{◌≡◌, ◌⊎◌, ◌<◌, ℕ, Bool, true, false, IsTrue, Some, Contains, List, [], ◌∷◌, ◌++◌};
 ghost use Rattle.std.specs.List.{AllByRecursion};
 ghost use mathlib.Core.List.{IsPrefix};
 ghost use Rattle.history_model.specs.History.{Body, Entry, bodies, stored};
 ghost use Rattle.history_model.specs.Journal.{Header};
-ghost use Rattle.core_model.specs.Core.{State, Step, Crash, may_be_kept, opened, after_step, after_steps};
+ghost use Rattle.core_model.specs.Core.{State, Step, Crash, group_of, may_be_kept, opened, after_step, after_steps};
 ghost use Rattle.landing_core.specs.Gained.{StandsAt, IsSealedAt, MadeAt, sealed_log, gain_of, gains_of, is_crash};
 ghost use Rattle.landing_core.specs.Whole.{Keeps};
 ghost use Rattle.reply_model.specs.Legal.{IsLegal};
@@ -34,7 +34,7 @@ pub fn the_first_history_stands()
     ensures { (header : Header) (h : List Entry) (steps : List Step) (s : State) (number : ℕ) (body : Body) → after_steps header (opened h) steps ≡ Some s → StandsAt h number body → StandsAt s.history number body }
 {}
 
-/// After any steps from a history as it was opened, a further step seals all that is pending where it is a seal that is done or a crash that keeps the group, and else nothing. It takes nothing away of what is sealed.
+/// After any steps from a history as it was opened, a further step seals the group that is being sealed where it is a seal that is done or a crash that keeps the group, and else nothing. It takes nothing away of what is sealed.
 pub fn each_step_seals_the_group_or_nothing()
     ensures { (header : Header) (h : List Entry) (steps : List Step) (s t : State) (step : Step) → after_steps header (opened h) steps ≡ Some s → after_step header s step ≡ Some t → sealed_log t ≡ sealed_log s ++ gain_of step s }
 {}
@@ -44,18 +44,18 @@ pub fn the_sealed_log_is_what_was_sealed()
     ensures { (header : Header) (h : List Entry) (steps : List Step) (s : State) → after_steps header (opened h) steps ≡ Some s → sealed_log s ≡ bodies h ++ gains_of header (opened h) steps }
 {}
 
-/// A crash leaves the sealed entries, or these and all that were pending, where the gate of their group was to be opened. All that it leaves is sealed, and no entry has a seat's number then. What is acknowledged stays acknowledged.
+/// After any steps from a history as it was opened, a crash leaves the sealed entries, or these and the group, where its gate was to be opened, and nothing of what was entered behind it. All that it leaves is sealed, and no entry has a seat's number then. What is acknowledged stays acknowledged.
 pub fn a_crash_leaves_the_group_or_nothing_of_it()
-    ensures log { (header : Header) (s t : State) (kept : Bool) → after_step header s (Crash kept) ≡ Some t →
-        (bodies t.history ≡ sealed_log s) ⊎ (IsTrue (may_be_kept s.sealing) × (bodies t.history ≡ bodies s.history)) }
+    ensures log { (header : Header) (h : List Entry) (steps : List Step) (s t : State) (kept : Bool) → after_steps header (opened h) steps ≡ Some s → after_step header s (Crash kept) ≡ Some t →
+        (bodies t.history ≡ sealed_log s) ⊎ (IsTrue (may_be_kept s.sealing) × (bodies t.history ≡ sealed_log s ++ group_of s)) }
     ensures reopened { (header : Header) (s t : State) (kept : Bool) → after_step header s (Crash kept) ≡ Some t →
         (t.history ≡ stored t.history) × (sealed_log t ≡ bodies t.history) × (t.acknowledged ≡ s.acknowledged) }
 {}
 
 /// After any steps from a history as it was opened, what a seat waits for is an entry that it made. Once that is sealed, it stands at its number also after all later steps, crashes among them.
 pub fn what_is_waited_for_stands()
-    ensures made { (header : Header) (h : List Entry) (steps : List Step) (s : State) (who number : ℕ) → after_steps header (opened h) steps ≡ Some s → s.waiting who ≡ Some number → (body : Body) × MadeAt s.history number who body }
-    ensures stands { (header : Header) (h : List Entry) (steps later : List Step) (s t : State) (who number : ℕ) → after_steps header (opened h) steps ≡ Some s → s.waiting who ≡ Some number → number < s.sealed →
+    ensures made { (header : Header) (h : List Entry) (steps : List Step) (s : State) (who number : ℕ) → after_steps header (opened h) steps ≡ Some s → Contains (s.waiting who) number → (body : Body) × MadeAt s.history number who body }
+    ensures stands { (header : Header) (h : List Entry) (steps later : List Step) (s t : State) (who number : ℕ) → after_steps header (opened h) steps ≡ Some s → Contains (s.waiting who) number → number < s.sealed →
         after_steps header s later ≡ Some t → (body : Body) × MadeAt s.history number who body × StandsAt t.history number body }
 {}
 

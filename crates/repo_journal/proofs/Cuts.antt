@@ -17,12 +17,6 @@ use Rattle.repo_journal.proofs.Seals.{EachImage, with_group, write_leaves_none, 
 pub write_cut : (m n : Meaning) (size : ℕ) (bytes : List ℕ) → IsSound m → IsTrue m.honest → 0 < size → AllClosed size m.state → Did (Writes size bytes false) m n → IsCutOff Write size bytes m.state n.state
 write_cut m n size bytes sound honest some closed did = ((did honest).most.reads, write_leaves_none m n size bytes false sound honest some closed did)
 
-pub sync_cut : (m a b : Meaning) (size : ℕ) (bytes : List ℕ) → IsSound m → IsTrue m.honest → IsSound a → IsTrue a.honest → 0 < size → AllClosed size m.state → Did (Writes size bytes true) m a → Did (Syncs false) a b → IsCutOff Sync size bytes m.state b.state
-sync_cut m a b size bytes sound honest sound_a honest_a some closed wrote did = (
-  (did honest_a).most.reads ∙ (wrote honest).most.reads,
-  sync_keeps (IsWithout m.state size) a b false sound_a honest_a did (write_leaves_none m a size bytes true sound honest some closed wrote),
-)
-
 -- ---- and from then on
 
 group_behind : (m : Meaning) (size x : ℕ) (bytes image : List ℕ) → 0 < size → size ≤ length m.state.reads → image ≡ take (size - 1) (with_group size bytes m) ++ x ∷ drop size (with_group size bytes m) → HasGroup size bytes image
@@ -41,10 +35,3 @@ open_cut m k n size gate bytes sound_k honest_k place long is only did = (
   (did honest_k).most.reads ∙ is,
   gate_holds m k n size gate 1 bytes false sound_k honest_k place long is only did,
 )
-
-pub seal_cut : (m k n b : Meaning) (size gate : ℕ) (bytes : List ℕ) → IsSound k → IsTrue k.honest → IsSound n → IsTrue n.honest → size ≡ gate + 1 → size ≤ length m.state.reads → k.state.reads ≡ with_group size bytes m → EachImage (λ image. image ≡ k.state.reads) k → Did (Writes gate (1 ∷ []) true) k n → Did (Syncs false) n b → IsCutOff Seal size bytes m.state b.state
-seal_cut m k n b size gate bytes sound_k honest_k sound_n honest_n place long is only wrote did =
-    let at_gate : gate ≡ size - 1 = omega arith in (
-      (did honest_n).most.reads ∙ (wrote honest_k).most.reads ∙ ap (write_at gate (1 ∷ [])) is ∙ ap (λ i. write_at i (1 ∷ []) (with_group size bytes m)) at_gate,
-      sync_keeps (HasGroup size bytes) n b false sound_n honest_n did (gate_holds m k n size gate 1 bytes true sound_k honest_k place long is only wrote),
-    )

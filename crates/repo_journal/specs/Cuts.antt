@@ -8,6 +8,7 @@
 use Rattle.std.specs.Prelude.{◌≡◌, ℕ, ◌-◌, Bool, true, false, IsTrue, List, [], ◌∷◌, length, take, drop, Some}
 use Rattle.disk_model.specs.Images.{Disk, IsImage, write_at}
 use Rattle.disk_model.specs.Meaning.{Meaning}
+use Rattle.repo_journal.specs.Left.{cut_off}
 use Rattle.repo_journal.specs.Sealing.{AllClosed, KeepsRecords}
 use Rattle.repo_journal.specs.View.{JournalView}
 use Rattle.repo_journal.specs.declared.cut.Cut.{Cut}
@@ -39,5 +40,5 @@ IsCutOff Seal size bytes old new = (new.reads ≡ write_at (size - 1) (1 ∷ [])
 
 pub record BreaksOff (bytes : List ℕ) (old new : JournalView) (m after : Meaning) : Type 0 where
   pub cut : Cut
-  pub is : new ≡ record old { broken = Some cut }
+  pub is : new ≡ record old { left = Some (cut_off (length bytes) cut) }
   pub leaves : IsTrue m.honest → AllClosed old.size m.state → IsCutOff cut old.size bytes m.state after.state

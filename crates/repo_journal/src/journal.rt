@@ -5,16 +5,21 @@ ghost use Rattle.ports.specs.Faults.{Counts};
 ghost use Rattle.disk_model.specs.Images.{IsImage};
 ghost use Rattle.changeset_model.specs.Version.{First};
 ghost use Rattle.history_model.specs.Journal.{is_header};
-ghost use Rattle.disk_model.specs.Meaning.{IsLong};
+ghost use Rattle.disk_model.specs.Meaning.{IsLong, Meaning};
 ghost use Rattle.disk_model.specs.Calls.{Kept, LeavesOnly, Looked};
 ghost use Rattle.repo_journal.specs.Answers.{is_full_answer, is_disk_fault, TellsSizes};
 ghost use Rattle.repo_journal.specs.Cuts.{BreaksOff};
+ghost use Rattle.repo_journal.specs.Left.{HasLaid, HasOpened, IsGoing, cut_by, cut_off, laid, left_at, length_of};
+ghost use Rattle.repo_journal.specs.Steps.{Leaves, StopsAt, UnderWay};
+ghost use Rattle.repo_journal.specs.declared.cut.Cut.TheVariants.{Write};
+ghost use Rattle.repo_journal.specs.declared.left.At.TheVariants.{Laid, Opened};
 ghost use Rattle.repo_journal.specs.Sealing.{IsFramed, payload_in, AllClosed, Appends, IsAfter};
 ghost use Rattle.repo_journal.specs.Groups.{IsGroup, AppendsGroup, IsWith, grown, no_records};
 
 use crate::cut::Cut;
 use crate::fault::{AppendFault, DiskFault};
 use crate::header::EMPTY_SIZE;
+use crate::left::{At, Left};
 use crate::opening::Opening;
 use crate::pending::{KEPT_ROOM, Pending};
 use crate::seal;
@@ -24,12 +29,12 @@ use std::marker::Model;
 
 /// The journal of an open file. After a fault of the disk in an append it is broken, and keeps which call failed: nothing may
 /// be added, and what is there may still be read. Records may wait to be sealed together: they are read as
-/// those of the file.
+/// those of the file. A seal may be made in three steps, so that its two syncs are made elsewhere, while more records are held.
 #[derive(Drop)]
 pub struct Journal {
     capacity: u64,
     size: u64,
-    broken: Option<Cut>,
+    left: Option<Left>,
     opening: Opening,
     pending: Pending,
 }
@@ -39,9 +44,9 @@ impl Model for Journal {
 
     ghost Value = { JournalView };
 
-    ghost view = { λ j. record { capacity = j.capacity; size = j.size; broken = j.broken; opening = j.opening; pending = j.pending } };
+    ghost view = { λ j. record { capacity = j.capacity; size = j.size; left = j.left; opening = j.opening; pending = j.pending } };
 
-    ghost invariant = { λ j. IsOpen j.capacity j.size };
+    ghost invariant = { λ j. IsOpen j.capacity j.size j.left j.pending.bytes };
 }
 
 impl Journal {
@@ -51,12 +56,12 @@ impl Journal {
         requires header { IsTrue (is_header (record { capacity = capacity; version = First })) }
         requires some { EMPTY_SIZE ≤ size }
         requires fits { size ≤ capacity }
-        ensures { result ≡ record { capacity = capacity; size = size; broken = None; opening = opening; pending = no_records } }
+        ensures { result ≡ record { capacity = capacity; size = size; left = None; opening = opening; pending = no_records } }
     {
         Journal {
             capacity,
             size,
-            broken: None,
+            left: None,
             opening,
             pending: Pending::new(alloc),
         }
@@ -79,16 +84,26 @@ impl Journal {
 
     /// A call of the disk failed in an append.
     pub fn is_broken(&self) -> bool
-        ensures { result ≡ is_some self.now.broken }
+        ensures { result ≡ is_some (cut_by self.now.left) }
     {
-        self.broken.is_some()
+        self.broken().is_some()
     }
 
     /// Which call of the disk failed in an append.
     pub fn broken(&self) -> Option<Cut>
-        ensures { result ≡ self.now.broken }
+        ensures { result ≡ cut_by self.now.left }
     {
-        self.broken
+        match self.left {
+            Some(left) => left.cut(),
+            None => None,
+        }
+    }
+
+    /// The group whose seal was begun and isn't done, or in whose append a call of the disk failed.
+    pub fn left(&self) -> Option<Left>
+        ensures { result ≡ self.now.left }
+    {
+        self.left
     }
 
     /// What was so at the opening.
@@ -102,7 +117,7 @@ impl Journal {
     /// high byte first, before it, and a closed gate behind it. It takes no memory. What waits then stands one record
     /// further on: append where nothing does.
     pub fn append<D: Disk>(&mut self, disk: &mut D, frame: &[u8]) -> Result<(), AppendFault>
-        requires whole { is_some self.old.broken ≡ false }
+        requires whole { is_some self.old.left ≡ false }
         requires framed { IsFramed frame.now }
         requires long { IsLong (D.meaning disk.old).reads self.old.size }
 
@@ -150,7 +165,7 @@ impl Journal {
     /// `group` has them as they stand behind the closing gate, which is the gate of the first. It takes
     /// no memory.
     pub fn append_group<D: Disk>(&mut self, disk: &mut D, group: &[u8]) -> Result<(), DiskFault>
-        requires whole { is_some self.old.broken ≡ false }
+        requires whole { is_some self.old.left ≡ false }
         requires group { IsGroup group.now }
         requires fits { self.old.size + length group.now ≤ self.old.capacity }
         requires long { IsLong (D.meaning disk.old).reads self.old.size }
@@ -182,7 +197,7 @@ impl Journal {
                 self.size += group.len() as u64;
                 Ok(())
             }
-            Err(cut) => Err(self.fault(cut)),
+            Err(cut) => Err(self.fault(group.len() as u64, cut)),
         }
     }
 
@@ -229,7 +244,7 @@ impl Journal {
     /// Appends the records that wait, as `append_group` does. After a fault of the disk they wait on, so
     /// they are read as before.
     pub fn seal<D: Disk>(&mut self, disk: &mut D) -> Result<(), DiskFault>
-        requires whole { is_some self.old.broken ≡ false }
+        requires whole { is_some self.old.left ≡ false }
         requires group { IsGroup self.old.pending.bytes }
         requires fits { self.old.size + length self.old.pending.bytes ≤ self.old.capacity }
         requires long { IsLong (D.meaning disk.old).reads self.old.size }
@@ -260,21 +275,154 @@ impl Journal {
         ensures settled { OnOk result (IsTrue (D.meaning disk.old).honest
             → (image : List ℕ) → IsImage (D.meaning disk.new).state image → image ≡ (D.meaning disk.new).state.reads) }
     {
+        let length = self.pending.bytes().len() as u64;
         match seal::append(disk, self.size, self.pending.bytes()) {
             Ok(()) => {
-                self.size += self.pending.bytes().len() as u64;
+                self.size += length;
                 self.pending.clear();
                 Ok(())
             }
-            Err(cut) => Err(self.fault(cut)),
+            Err(cut) => Err(self.fault(length, cut)),
+        }
+    }
+
+    /// Begins to seal the records that wait, which are a group from then on: writes them behind the closing gate, and hands
+    /// out the sync of them, to be made elsewhere and brought to `open`. They wait on, and are read as before. What is held
+    /// meanwhile waits behind them. It takes no memory.
+    pub fn begin<D: Disk>(&mut self, disk: &mut D) -> Result<D::Flush, DiskFault>
+        requires whole { is_some self.old.left ≡ false }
+        requires group { IsGroup self.old.pending.bytes }
+        requires fits { self.old.size + length self.old.pending.bytes ≤ self.old.capacity }
+        requires long { IsLong (D.meaning disk.old).reads self.old.size }
+
+        ensures ok { OnOk result (self.new ≡ record self.old { left = Some (laid (length self.old.pending.bytes)) }) }
+
+        // It fails only where the write did, and then the journal is broken by it.
+        ensures faults { Counts (D.meaning disk.old).faults (D.meaning disk.new).faults (is_err result) }
+        ensures broken { OnErr result (BreaksOff self.old.pending.bytes self.old self.new (D.meaning disk.old) (D.meaning disk.new)) }
+        ensures first { OnErr result (cut_by self.new.left ≡ Some Write) }
+        ensures quiet { ForSome (D.meaning disk.old).quiet (λ most. self.old.size + length self.old.pending.bytes ≤ most → IsOk result) }
+
+        ensures kept { Kept (D.meaning disk.old) (D.meaning disk.new) }
+
+        // A crash leaves the records before the call, and none of the group.
+        ensures time { LeavesOnly (IsImage (D.meaning disk.new).state) (D.meaning disk.old) (D.meaning disk.new) }
+        ensures crash { IsTrue (D.meaning disk.old).honest → AllClosed self.old.size (D.meaning disk.old).state
+            → AppendsGroup self.old.size self.old.pending.bytes (D.meaning disk.old) (D.meaning disk.new) }
+        ensures under { OnOk result ((IsTrue (D.meaning disk.old).honest → AllClosed self.old.size (D.meaning disk.old).state)
+            → UnderWay Laid self.old.size self.old.pending.bytes (D.meaning disk.old) (D.meaning disk.new)) }
+    {
+        let length = self.pending.bytes().len() as u64;
+        match seal::lay(disk, self.size, self.pending.bytes()) {
+            Ok(written) => {
+                self.left = Some(Left {
+                    length,
+                    at: At::Laid,
+                });
+                Ok(written)
+            }
+            Err(cut) => Err(self.fault(length, cut)),
+        }
+    }
+
+    /// Opens the gate of a group that is laid, once the sync that `begin` handed out is brought back, and hands out the sync of
+    /// the gate, to be made elsewhere and brought to `close`. Where that sync isn't of this disk, or wasn't run, it is made here. It
+    /// takes no memory.
+    pub fn open<D: Disk>(&mut self, disk: &mut D, flush: D::Flush) -> Result<D::Flush, DiskFault>
+        requires laid { HasLaid self.old.left }
+        requires long { IsLong (D.meaning disk.old).reads self.old.size }
+
+        ensures ok { OnOk result (self.new ≡ record self.old { left = left_at Opened self.old.left }) }
+
+        // It fails only where the sync did, or the write of the gate, and then the journal is broken by it. `bytes` are the
+        // group's as it was begun, and `m` is what was told of the disk then.
+        ensures faults { Counts (D.meaning disk.old).faults (D.meaning disk.new).faults (is_err result) }
+        ensures stops { OnErr result (StopsAt Laid self.old self.new (D.meaning disk.old) (D.meaning disk.new)) }
+        ensures quiet { ForSome (D.meaning disk.old).quiet (λ most. self.old.size ≤ most → IsOk result) }
+
+        ensures kept { Kept (D.meaning disk.old) (D.meaning disk.new) }
+
+        // A crash at any moment leaves the records before the group, or these and all of it.
+        ensures crash { (m : Meaning) (bytes : List ℕ) → UnderWay Laid self.old.size bytes m (D.meaning disk.old) → IsTrue m.honest
+            → Leaves self.old.size bytes m (D.meaning disk.old) (D.meaning disk.new) }
+        ensures under { OnOk result ((m : Meaning) (bytes : List ℕ) → UnderWay Laid self.old.size bytes m (D.meaning disk.old)
+            → UnderWay Opened self.old.size bytes m (D.meaning disk.new)) }
+    {
+        let length = self.under_way();
+        match seal::open(disk, self.size, flush) {
+            Ok(opened) => {
+                self.left = Some(Left {
+                    length,
+                    at: At::Opened,
+                });
+                Ok(opened)
+            }
+            Err(cut) => Err(self.fault(length, cut)),
+        }
+    }
+
+    /// Ends the seal of a group whose gate is opened, once the sync that `open` handed out is brought back: the group is sealed,
+    /// and what was held behind it waits. Where that sync isn't of this disk, or wasn't run, it is made here. It takes no memory.
+    pub fn close<D: Disk>(&mut self, disk: &mut D, flush: D::Flush) -> Result<(), DiskFault>
+        requires opened { HasOpened self.old.left }
+
+        ensures ok { OnOk result (self.new ≡ record self.old { left = None; size = self.old.size + length_of self.old.left; pending = self.new.pending }) }
+        ensures behind { OnOk result (self.new.pending.bytes ≡ drop (length_of self.old.left) self.old.pending.bytes) }
+        ensures keeps { self.old.pending.room ≤ self.new.pending.room }
+        ensures memory { OnOk result (self.new.pending.bytes ≡ [] → (self.new.pending.memory ≤ KEPT_ROOM) ⊎ (1 ≤ self.old.pending.room)) }
+        ensures shrinks { self.new.pending.memory ≤ self.old.pending.memory }
+
+        // It fails only where the sync did, and then the journal is broken by it. `bytes` are the group's as it was begun, and
+        // `m` is what was told of the disk then.
+        ensures faults { Counts (D.meaning disk.old).faults (D.meaning disk.new).faults (is_err result) }
+        ensures stops { OnErr result (StopsAt Opened self.old self.new (D.meaning disk.old) (D.meaning disk.new)) }
+        ensures quiet { IsSome (D.meaning disk.old).quiet → IsOk result }
+
+        ensures kept { Kept (D.meaning disk.old) (D.meaning disk.new) }
+
+        // A crash at any moment leaves the records before the group, or these and all of it.
+        ensures crash { (m : Meaning) (bytes : List ℕ) → UnderWay Opened self.old.size bytes m (D.meaning disk.old) → IsTrue m.honest
+            → Leaves self.old.size bytes m (D.meaning disk.old) (D.meaning disk.new) }
+
+        // Once it is done, a crash leaves the group too, a closed gate, and nothing but what reads give.
+        ensures sealed { OnOk result ((m : Meaning) (bytes : List ℕ) → UnderWay Opened self.old.size bytes m (D.meaning disk.old) → IsTrue m.honest
+            → (image : List ℕ) → IsImage (D.meaning disk.new).state image → IsWith m.state self.old.size bytes image) }
+        ensures closed { OnOk result ((m : Meaning) (bytes : List ℕ) → UnderWay Opened self.old.size bytes m (D.meaning disk.old) → IsTrue m.honest
+            → IsGroup bytes → AllClosed (self.old.size + length bytes) (D.meaning disk.new).state) }
+        ensures settled { OnOk result (IsTrue (D.meaning disk.old).honest
+            → (image : List ℕ) → IsImage (D.meaning disk.new).state image → image ≡ (D.meaning disk.new).state.reads) }
+    {
+        let length = self.under_way();
+        match seal::end(disk, flush) {
+            Ok(()) => {
+                self.size += length;
+                self.left = None;
+                self.pending.pass(length as usize);
+                Ok(())
+            }
+            Err(cut) => Err(self.fault(length, cut)),
+        }
+    }
+
+    // How many bytes the group has that is being sealed.
+    fn under_way(&self) -> u64
+        requires { IsGoing self.now.left }
+        ensures length { result ≡ length_of self.now.left }
+        ensures waits { result ≤ length self.now.pending.bytes }
+        ensures fits { self.now.size + result ≤ self.now.capacity }
+    {
+        match self.left {
+            Some(left) => left.length,
+            None => unreachable!(),
         }
     }
 
     // Nothing may be added any more.
-    fn fault(&mut self, cut: Cut) -> DiskFault
-        ensures { self.new ≡ record self.old { broken = Some cut } }
+    fn fault(&mut self, length: u64, cut: Cut) -> DiskFault
+        ensures { self.new ≡ record self.old { left = Some (cut_off length cut) } }
     {
-        self.broken = Some(cut);
+        let at = At::Cut(cut);
+        self.left = Some(Left { length, at });
         DiskFault
     }
 
