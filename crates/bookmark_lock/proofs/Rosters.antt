@@ -134,13 +134,13 @@ module _ (log : List Entry) (key : Opening) (count next : ℕ) (members : List M
         (at_set members id j (seen p sight) q e)
 
     -- the lead, which may be the seat
-    abbrev again : Sight → Option Meeting → Member
-    again s met = record b.lead { post = seeing b.lead.post s; met = met }
+    abbrev again : Sight → ℕ → Option Meeting → Member
+    again s since met = record b.lead { post = record (seeing b.lead.post s) { since = since }; met = met }
 
-    roster_with : (s : Sight) (met : Option Meeting) → get_elem? now b.lead_at ≡ some (again s met) → Roster after key ((count + add) % 2 ^ 64) next now
-    roster_with s met lead_is = let f = b.fits id p at lives in record {
+    roster_with : (s : Sight) (since : ℕ) (met : Option Meeting) → get_elem? now b.lead_at ≡ some (again s since met) → Roster after key ((count + add) % 2 ^ 64) next now
+    roster_with s since met lead_is = let f = b.fits id p at lives in record {
       lead_at = b.lead_at;
-      lead = again s met;
+      lead = again s since met;
       lead_is = lead_is;
       lead_lives = b.lead_lives;
       lead_zero = b.lead_zero;
@@ -157,7 +157,7 @@ module _ (log : List Entry) (key : Opening) (count next : ℕ) (members : List M
 
     pub roster_after : Roster after key ((count + add) % 2 ^ 64) next now
     roster_after = dite (ℕ_discrete b.lead_at id)
-        (λ here. roster_with sight None
+        (λ here. roster_with sight sight.sealed None
         (let lead_is_p : b.lead ≡ p = some-injective b.lead p (sym b.lead_is ∙ (ap (λ (n : ℕ). get_elem? members n) here ∙ at)) in
         ap (λ (n : ℕ). get_elem? now n) here ∙ (set_here members id (seen p sight) (at_inside members id p at) ∙ ap (λ (q : Member). some (seen q sight)) (sym lead_is_p))))
-        (λ away. roster_with (record { front = b.lead.post.front; sealed = b.lead.post.sealed; unsealed = b.lead.post.unsealed }) b.lead.met (set_else members id b.lead_at (seen p sight) away ∙ b.lead_is))
+        (λ away. roster_with (record { front = b.lead.post.front; sealed = b.lead.post.sealed; reach = b.lead.post.reach; unsealed = b.lead.post.unsealed; disk = b.lead.post.disk }) b.lead.post.since b.lead.met (set_else members id b.lead_at (seen p sight) away ∙ b.lead_is))

@@ -2,6 +2,8 @@ pub mod Place
 pub mod Fronts
 pub mod Members
 pub mod Turning
+pub mod Leaving
+pub mod Lasting
 pub mod Turns
 pub mod Waiting
 pub mod Roster

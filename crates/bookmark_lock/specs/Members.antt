@@ -3,6 +3,7 @@ use Rattle.std.specs.Prelude.{ℕ, ◌+◌, ◌-◌, Bool, true, false, List, []
 use Rattle.history_model.specs.History.{Entry}
 use Rattle.bookmark_lock.specs.Opening.{Opening, unopened}
 use Rattle.bookmark_lock.specs.Place.{Post, Sight, longer}
+use Rattle.bookmark_lock.specs.Turning.{Turn}
 
 -- what the lead and another seat knew when the lead joined that one
 pub record Meeting : Type 0 where
@@ -16,11 +17,11 @@ pub record Member : Type 0 where
   pub drawn : ℕ
   pub met : Option Meeting
 
-abbrev pub lead_member : List Entry → ℕ → Opening → Member
-lead_member history sealed opening = record { spent = false; post = record { number = 0; front = history; sealed = sealed; unsealed = None; opening = opening; split = 0; out = 0; joined = [] }; drawn = 0; met = None }
+abbrev pub lead_member : Turn → Opening → Member
+lead_member t opening = record { spent = false; post = record { number = 0; front = t.log; sealed = t.sealed; since = t.sealed; reach = t.reach; unsealed = None; disk = t.disk; opening = opening; split = 0; out = 0; joined = [] }; drawn = 0; met = None }
 
 abbrev pub seeing : Post → Sight → Post
-seeing p s = record p { front = s.front; sealed = s.sealed; unsealed = s.unsealed }
+seeing p s = record p { front = s.front; sealed = s.sealed; since = s.sealed; reach = s.reach; unsealed = s.unsealed; disk = s.disk }
 
 abbrev pub seen : Member → Sight → Member
 seen m s = record m { post = seeing m.post s; met = None }
@@ -35,7 +36,7 @@ forking m = record m { post = record m.post { split = m.post.split + 1; out = m.
 
 abbrev pub fork_of : Member → Member
 fork_of m =
-    record { spent = false; post = record { number = m.post.split + 1; front = m.post.front; sealed = m.post.sealed; unsealed = None; opening = m.post.opening; split = 0; out = 0; joined = [] }; drawn = 0; met = None }
+    record { spent = false; post = record { number = m.post.split + 1; front = m.post.front; sealed = m.post.sealed; since = m.post.since; reach = m.post.reach; unsealed = None; disk = m.post.disk; opening = m.post.opening; split = 0; out = 0; joined = [] }; drawn = 0; met = None }
 
 -- the lead takes in another seat
 abbrev pub merge_post : Post → Post → Post
@@ -51,7 +52,7 @@ settling m = record m { met = None }
 abbrev pub spent_member : Member
 spent_member = record {
   spent = true;
-  post = record { number = 0; front = []; sealed = 0; unsealed = None; opening = unopened; split = 0; out = 0; joined = [] };
+  post = record { number = 0; front = []; sealed = 0; since = 0; reach = 0; unsealed = None; disk = unopened.disk; opening = unopened; split = 0; out = 0; joined = [] };
   drawn = 0;
   met = None;
 }

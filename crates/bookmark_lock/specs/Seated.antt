@@ -5,9 +5,9 @@ use Rattle.atomic_table.specs.Seated.{TableId}
 use Rattle.bookmark_lock.specs.Rule.{spent_view}
 use Rattle.bookmark_lock.specs.declared.view.View.{View}
 
--- the lock's table has seven words and one slot
+-- the lock's table has nine words and one slot
 pub record IsBoard (id : TableId) : Type 0 where
-  pub words : id.words ≡ 7
+  pub words : id.words ≡ 9
   pub slots : id.slots ≡ 1
 
 module _ {T : Type 0} where

@@ -12,9 +12,9 @@ pub struct Turns<T> {
 }
 
 impl<T: Recorded> TableRule<Option<T>, View, Snapshot<T>> for Turns<T> {
-    ghost holds = { λ key. Kept T.history T.opening T.sealed key.value };
+    ghost holds = { λ key. Kept T.history T.opening T.sealed T.reach T.disk T.most key.value };
 
-    ghost first = { λ key. first_view T.history T.opening T.sealed key.value };
+    ghost first = { λ key. first_view T.history T.opening T.sealed T.reach T.disk key.value };
 }
 
 pub struct Take<T> {
@@ -22,7 +22,7 @@ pub struct Take<T> {
 }
 
 impl<T: Recorded> Play<Option<T>, View> for Take<T> {
-    ghost then = { taken T.history T.opening T.sealed };
+    ghost then = { taken T.history T.opening T.sealed T.reach T.disk };
 }
 
 pub struct Count<T> {
@@ -30,7 +30,7 @@ pub struct Count<T> {
 }
 
 impl<T: Recorded> Play<Option<T>, View> for Count<T> {
-    ghost then = { counted T.history T.opening T.sealed };
+    ghost then = { counted T.history T.opening T.sealed T.reach T.disk };
 }
 
 pub struct Pass;

@@ -15,6 +15,7 @@ pub struct Seat {
     pub(crate) number: u64,
     pub(crate) split: u64,
     pub(crate) out: u64,
+    pub(crate) sealed: u64,
 }
 
 impl Model for Seat {
@@ -26,7 +27,7 @@ impl Model for Seat {
 
     ghost view = { λ s. place_of s.badge.table_id (view_in s.badge.views).member.post };
 
-    ghost invariant = { λ s. IsSettled s.badge.views × (s.number ≡ (view_in s.badge.views).member.post.number) × (s.split ≡ (view_in s.badge.views).member.post.split) × (s.out ≡ (view_in s.badge.views).member.post.out) × (s.out ≤ s.split) };
+    ghost invariant = { λ s. IsSettled s.badge.views × (s.number ≡ (view_in s.badge.views).member.post.number) × (s.split ≡ (view_in s.badge.views).member.post.split) × (s.out ≡ (view_in s.badge.views).member.post.out) × (s.out ≤ s.split) × (s.sealed ≡ (view_in s.badge.views).member.post.sealed) };
 }
 
 impl Seat {
@@ -35,6 +36,13 @@ impl Seat {
         ensures { result ≡ self.now.number }
     {
         self.number
+    }
+
+    /// How many stored entries it has seen sealed.
+    pub fn sealed(&self) -> u64
+        ensures { result ≡ self.now.sealed }
+    {
+        self.sealed
     }
 
     /// How many of the seats that it split off are not joined.

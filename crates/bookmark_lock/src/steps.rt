@@ -3,8 +3,8 @@ ghost use Rattle.std.specs.Prelude.{◌≡◌, ◌+◌, ◌<◌, ◌^◌, ◌≤
 ghost use Rattle.history_model.specs.History.{Entry};
 ghost use Rattle.bookmark_lock.specs.Fronts.{HasJoined};
 ghost use Rattle.bookmark_lock.specs.Members.{Meeting, seen, drawing, forking, fork_of, merging, settling};
-ghost use Rattle.bookmark_lock.specs.Turns.{Finds, Ended, sight_after};
-ghost use Rattle.bookmark_lock.specs.Rule.{Took, Gives, view_of, turn_of};
+ghost use Rattle.bookmark_lock.specs.Turns.{Finds, Ended, sight_after, turn_of};
+ghost use Rattle.bookmark_lock.specs.Rule.{Took, Gives, view_of};
 ghost use Rattle.bookmark_lock.specs.Turning.{log_of};
 ghost use Rattle.bookmark_lock.specs.Seated.{IsIdle, IsBoard};
 
@@ -37,12 +37,17 @@ const WAITING: usize = 5;
 
 const BEHIND: usize = 6;
 
+// How many seals ended, and how many seats wait for the end of one.
+const ENDED: usize = 7;
+
+const AWAITING: usize = 8;
+
 // One try for the turn.
 fn try_take<T: Recorded>(board: &Board<T>, seat: &mut Inner<T>) -> bool
     requires place { (seat.old.table_id ≡ board.now.table_id) × IsBoard board.now.table_id }
     requires idle { IsIdle seat.old.me }
     ensures place { seat.new.table_id ≡ seat.old.table_id }
-    ensures seat { MatchBool result (Took T.history T.opening T.sealed seat.old.me seat.new.me) (seat.new.me ≡ seat.old.me) }
+    ensures seat { MatchBool result (Took T.history T.opening T.sealed T.reach T.disk seat.old.me seat.new.me) (seat.new.me ≡ seat.old.me) }
 {
     board.compare_exchange::<Take<T>>(seat, TURN, 0, 1) == 0
 }
@@ -52,8 +57,8 @@ pub(crate) fn take<T: Recorded, R: Wait>(rt: &R, board: &Board<T>, seat: &mut In
     requires place { (seat.old.table_id ≡ board.now.table_id) × IsBoard board.now.table_id }
     requires idle { IsIdle seat.old.me }
     ensures place { seat.new.table_id ≡ seat.old.table_id }
-    ensures value { Finds T.history T.opening T.sealed seat.old.me.0.member.post result }
-    ensures seat { seat.new.me ≡ (view_of seat.old.me.0.member (Some (turn_of T.history T.opening T.sealed result)), (0, None) ∷ []) }
+    ensures value { Finds T.history T.opening T.sealed T.reach T.disk seat.old.me.0.member.post result }
+    ensures seat { seat.new.me ≡ (view_of seat.old.me.0.member (Some (turn_of T.history T.sealed T.reach T.disk result)), (0, None) ∷ []) }
 {
     count_up(board, seat, ASKED);
     take_turn(rt, board, seat);
@@ -65,7 +70,7 @@ fn take_turn<T: Recorded, R: Wait>(rt: &R, board: &Board<T>, seat: &mut Inner<T>
     requires place { (seat.old.table_id ≡ board.now.table_id) × IsBoard board.now.table_id }
     requires idle { IsIdle seat.old.me }
     ensures place { seat.new.table_id ≡ seat.old.table_id }
-    ensures seat { Took T.history T.opening T.sealed seat.old.me seat.new.me }
+    ensures seat { Took T.history T.opening T.sealed T.reach T.disk seat.old.me seat.new.me }
 {
     if try_take(board, seat) {
         return;
@@ -79,7 +84,7 @@ fn wait<T: Recorded, R: Wait>(rt: &R, board: &Board<T>, seat: &mut Inner<T>)
     requires place { (seat.old.table_id ≡ board.now.table_id) × IsBoard board.now.table_id }
     requires idle { IsIdle seat.old.me }
     ensures place { seat.new.table_id ≡ seat.old.table_id }
-    ensures seat { Took T.history T.opening T.sealed seat.old.me seat.new.me }
+    ensures seat { Took T.history T.opening T.sealed T.reach T.disk seat.old.me seat.new.me }
 {
     count_up(board, seat, WAITING);
     for _ in rt.forever() {
@@ -95,7 +100,7 @@ fn wait<T: Recorded, R: Wait>(rt: &R, board: &Board<T>, seat: &mut Inner<T>)
 // One more of a count of which the rule says nothing.
 fn count_up<T: Recorded>(board: &Board<T>, seat: &mut Inner<T>, word: usize)
     requires place { (seat.old.table_id ≡ board.now.table_id) × IsBoard board.now.table_id }
-    requires counts { (3 ≤ word) × (word < 7) }
+    requires counts { (3 ≤ word) × (word < 9) }
     requires lives { seat.old.me.0.member.spent ≡ false }
     ensures place { seat.new.table_id ≡ seat.old.table_id }
     ensures seat { seat.new.me ≡ seat.old.me }
@@ -106,7 +111,7 @@ fn count_up<T: Recorded>(board: &Board<T>, seat: &mut Inner<T>, word: usize)
 // One less of such a count.
 fn count_down<T: Recorded>(board: &Board<T>, seat: &mut Inner<T>, word: usize)
     requires place { (seat.old.table_id ≡ board.now.table_id) × IsBoard board.now.table_id }
-    requires counts { (3 ≤ word) × (word < 7) }
+    requires counts { (3 ≤ word) × (word < 9) }
     requires lives { seat.old.me.0.member.spent ≡ false }
     ensures place { seat.new.table_id ≡ seat.old.table_id }
     ensures seat { seat.new.me ≡ seat.old.me }
@@ -144,6 +149,57 @@ fn wait_until_had<T: Recorded, R: Wait>(rt: &R, board: &Board<T>, asked: u64)
     }
 }
 
+/// How many seals ended, as far as was told.
+pub(crate) fn ended<T: Recorded>(board: &Board<T>) -> u64
+    requires { IsBoard board.now.table_id }
+{
+    board.peek(ENDED)
+}
+
+// Waits until another number of seals ended than this one.
+pub(crate) fn wait_for_end<T: Recorded, R: Wait>(
+    rt: &R,
+    board: &Board<T>,
+    seat: &mut Inner<T>,
+    seen: u64,
+)
+    requires place { (seat.old.table_id ≡ board.now.table_id) × IsBoard board.now.table_id }
+    requires lives { seat.old.me.0.member.spent ≡ false }
+    ensures place { seat.new.table_id ≡ seat.old.table_id }
+    ensures seat { seat.new.me ≡ seat.old.me }
+{
+    count_up(board, seat, AWAITING);
+    wait_past(rt, board, seen);
+    count_down(board, seat, AWAITING);
+}
+
+// No end is missed. The seat is counted before it reads how many ended, and who tells of an end adds to that number before
+// it reads the count: where it finds nobody, the seat reads the new number and doesn't park. A seat that parks on the old
+// number isn't parked where the number changed meanwhile, and is woken where it changes later.
+fn wait_past<T: Recorded, R: Wait>(rt: &R, board: &Board<T>, seen: u64)
+    requires { IsBoard board.now.table_id }
+{
+    for _ in rt.forever() {
+        if board.peek(ENDED) != seen {
+            return;
+        }
+        board.park(rt, ENDED, (seen % (1 << 32)) as u32);
+    }
+}
+
+// One more seal ended, of which all are told that wait for one.
+pub(crate) fn tell_end<T: Recorded>(board: &Board<T>, seat: &mut Inner<T>)
+    requires place { (seat.old.table_id ≡ board.now.table_id) × IsBoard board.now.table_id }
+    requires lives { seat.old.me.0.member.spent ≡ false }
+    ensures place { seat.new.table_id ≡ seat.old.table_id }
+    ensures seat { seat.new.me ≡ seat.old.me }
+{
+    count_up(board, seat, ENDED);
+    if board.peek(AWAITING) != 0 {
+        board.wake_all(ENDED);
+    }
+}
+
 fn step_of(added: bool) -> u64
     ensures { result ≡ (if added then 1 else 0) }
 {
@@ -154,9 +210,9 @@ fn step_of(added: bool) -> u64
 pub(crate) fn give<T: Recorded>(board: &Board<T>, seat: &mut Inner<T>, value: T, added: bool)
     requires place { (seat.old.table_id ≡ board.now.table_id) × IsBoard board.now.table_id }
     requires lives { seat.old.me.0.member.spent ≡ false }
-    requires turn { Gives T.history T.opening T.sealed seat.old.me value added }
+    requires turn { Gives T.history T.opening T.sealed T.reach T.disk T.most seat.old.me value added }
     ensures place { seat.new.table_id ≡ seat.old.table_id }
-    ensures seat { seat.new.me ≡ (view_of (seen seat.old.me.0.member (sight_after T.history T.opening T.sealed seat.old.me.0.member.post.unsealed (log_of seat.old.me.0.turn) value)) None, []) }
+    ensures seat { seat.new.me ≡ (view_of (seen seat.old.me.0.member (sight_after T.history T.opening T.sealed T.reach T.disk seat.old.me.0.member.post.unsealed (log_of seat.old.me.0.turn) value)) None, []) }
 {
     put_back(board, seat, value, added);
     count_up(board, seat, HAD);
@@ -169,9 +225,9 @@ pub(crate) fn give<T: Recorded>(board: &Board<T>, seat: &mut Inner<T>, value: T,
 fn put_back<T: Recorded>(board: &Board<T>, seat: &mut Inner<T>, value: T, added: bool)
     requires place { (seat.old.table_id ≡ board.now.table_id) × IsBoard board.now.table_id }
     requires lives { seat.old.me.0.member.spent ≡ false }
-    requires turn { Gives T.history T.opening T.sealed seat.old.me value added }
+    requires turn { Gives T.history T.opening T.sealed T.reach T.disk T.most seat.old.me value added }
     ensures place { seat.new.table_id ≡ seat.old.table_id }
-    ensures seat { seat.new.me ≡ (view_of (seen seat.old.me.0.member (sight_after T.history T.opening T.sealed seat.old.me.0.member.post.unsealed (log_of seat.old.me.0.turn) value)) None, []) }
+    ensures seat { seat.new.me ≡ (view_of (seen seat.old.me.0.member (sight_after T.history T.opening T.sealed T.reach T.disk seat.old.me.0.member.post.unsealed (log_of seat.old.me.0.turn) value)) None, []) }
 {
     let slot = board.exchange(seat, 0, Some(value));
     let None = slot else { unreachable!() };
@@ -241,7 +297,7 @@ pub(crate) fn shut<T: Recorded>(table: Home<T>, seat: Inner<T>) -> T
     requires leads { seat.me.0.member.post.number ≡ 0 }
     requires alone { seat.me.0.member.post.out ≡ 0 }
     requires sealed { seat.me.0.member.post.unsealed ≡ None }
-    ensures { Ended T.history T.opening T.sealed seat.me.0.member.post (T.opening table.shared.key.value) result }
+    ensures { Ended T.history T.opening T.sealed T.reach T.disk T.most seat.me.0.member.post (T.opening table.shared.key.value) result }
 {
     let mut closed = table.close_with(seat);
     let slot = closed.take(0);

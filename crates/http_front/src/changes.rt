@@ -1,5 +1,5 @@
 //! The answers to changes.
-ghost use Rattle.std.specs.Prelude.{◌≡◌, ℕ, List, length, Err};
+ghost use Rattle.std.specs.Prelude.{◌≡◌, ◌≤◌, ℕ, List, length, Err};
 ghost use Rattle.reply_model.specs.After.{Asks, Call};
 ghost use Rattle.reply_model.specs.Reply.{PutContent};
 ghost use Rattle.repo_calls.specs.Asking.{stored_answer};
@@ -28,9 +28,10 @@ pub(crate) fn change<T: Seat, C: Clock>(
     ask: &Ask<'_>,
     form: ResponseForm,
 )
-    ensures answers { Replied (Dated (C.tells clock.now) (T.replies (T.home seat.old))) (T.header seat.old) (T.number seat.old) (T.front seat.old) (call_seen ask.now) (change_response (call_seen ask.now)) form.close form.head_only buffer.new (T.front seat.new) }
+    ensures answers { Replied (Dated (C.tells clock.now) (T.replies (T.home seat.old) (T.sealed seat.new))) (T.header seat.old) (T.number seat.old) (T.front seat.old) (call_seen ask.now) (change_response (call_seen ask.now)) form.close form.head_only buffer.new (T.front seat.new) }
     ensures header { T.header seat.new ≡ T.header seat.old }
     ensures number { T.number seat.new ≡ T.number seat.old }
+    ensures seals { T.sealed seat.old ≤ T.sealed seat.new }
     ensures home { T.home seat.new ≡ T.home seat.old }
 {
     make(alloc, seat, buffer, &dated(clock, ask), form);
@@ -44,9 +45,10 @@ pub(crate) fn store<T: Seat>(
     bytes: Vec<u8>,
     form: ResponseForm,
 )
-    ensures answers { Replied (T.replies (T.home seat.old)) (T.header seat.old) (T.number seat.old) (T.front seat.old) (Asks (PutContent bytes.items)) (change_response (Asks (PutContent bytes.items))) form.close form.head_only buffer.new (T.front seat.new) }
+    ensures answers { Replied (T.replies (T.home seat.old) (T.sealed seat.new)) (T.header seat.old) (T.number seat.old) (T.front seat.old) (Asks (PutContent bytes.items)) (change_response (Asks (PutContent bytes.items))) form.close form.head_only buffer.new (T.front seat.new) }
     ensures header { T.header seat.new ≡ T.header seat.old }
     ensures number { T.number seat.new ≡ T.number seat.old }
+    ensures seals { T.sealed seat.old ≤ T.sealed seat.new }
     ensures home { T.home seat.new ≡ T.home seat.old }
 {
     let size = bytes.len();
@@ -98,9 +100,10 @@ fn make<T: Seat>(
     ask: &Ask<'_>,
     form: ResponseForm,
 )
-    ensures answers { Replied (T.replies (T.home seat.old)) (T.header seat.old) (T.number seat.old) (T.front seat.old) (call_seen ask.now) (change_response (call_seen ask.now)) form.close form.head_only buffer.new (T.front seat.new) }
+    ensures answers { Replied (T.replies (T.home seat.old) (T.sealed seat.new)) (T.header seat.old) (T.number seat.old) (T.front seat.old) (call_seen ask.now) (change_response (call_seen ask.now)) form.close form.head_only buffer.new (T.front seat.new) }
     ensures header { T.header seat.new ≡ T.header seat.old }
     ensures number { T.number seat.new ≡ T.number seat.old }
+    ensures seals { T.sealed seat.old ≤ T.sealed seat.new }
     ensures home { T.home seat.new ≡ T.home seat.old }
 {
     match seat.change(alloc, ask) {

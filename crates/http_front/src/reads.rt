@@ -33,9 +33,10 @@ pub(crate) fn look<T: Seat>(
     question: &Question<'_>,
     form: ResponseForm,
 )
-    ensures answers { Replied (T.replies (T.home seat.old)) (T.header seat.old) (T.number seat.old) (T.front seat.old) (Looks (question_seen question.now)) (read_response (question_seen question.now)) form.close form.head_only buffer.new (T.front seat.new) }
+    ensures answers { Replied (T.replies (T.home seat.old) (T.sealed seat.new)) (T.header seat.old) (T.number seat.old) (T.front seat.old) (Looks (question_seen question.now)) (read_response (question_seen question.now)) form.close form.head_only buffer.new (T.front seat.new) }
     ensures header { T.header seat.new ≡ T.header seat.old }
     ensures number { T.number seat.new ≡ T.number seat.old }
+    ensures seals { T.sealed seat.old ≤ T.sealed seat.new }
     ensures home { T.home seat.new ≡ T.home seat.old }
 {
     match seat.look(alloc, question) {

@@ -8,7 +8,6 @@ ghost use Rattle.manifest_model.specs.Unode.{Unode as ModelUnode};
 ghost use Rattle.changeset_store.specs.Store.{known_at};
 ghost use Rattle.unode.specs.Parts.{parents_seen};
 ghost use Rattle.node_table.specs.Table.{is_settled};
-ghost use Rattle.manifest_store.specs.Nodes.{file_under};
 ghost use Rattle.manifest_store.specs.Manifests.{AreManifests};
 ghost use Rattle.manifest_store.specs.Reads.{IsAbsence, history_at};
 ghost use Rattle.manifest_store.specs.Histories.{AreUnodesOf, IsFileNode, IsUnodeOf, left_seen, puts};
@@ -21,15 +20,7 @@ use object_id::Id;
 use repo_path::RepoPath;
 use std::alloc::{AllocError, Global};
 use std::collections::BTreeMap;
-use unode::{FileUnode, Nodes, Parents, UnodeEntry};
-
-impl<'a> Nodes for Unodes<'a> {
-    ghost file_at = { λ t x. file_under t.table.now.nodes x };
-
-    fn file_unode(&self, id: &Id) -> Option<FileUnode> {
-        self.table.file_unode(id)
-    }
-}
+use unode::{FileUnode, Parents, UnodeEntry};
 
 impl ManifestStore {
     /// The changesets that made the unode of a file of a settled changeset, or one that this reaches through parents, each
@@ -110,7 +101,7 @@ fn add_node(
     requires { (n : ℕ) × (u : ModelUnode) × IsUnodeOf unodes.now.table.now.nodes changesets.now.known id.now n u }
     ensures { (n : ℕ) (u : ModelUnode) → IsUnodeOf unodes.now.table.now.nodes changesets.now.known id.now n u → OnOk result (left_seen left.new ≡ insert_entry nat_cmp (left_seen left.old) n u) }
 {
-    let Some(file) = unodes.file_unode(id) else {
+    let Some(file) = unodes.table.file_unode(id) else {
         unreachable!()
     };
     let Some(number) = changesets.number_of(&file.linknode) else {

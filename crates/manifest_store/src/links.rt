@@ -19,7 +19,7 @@ use node_table::NodeTable;
 use object_id::Id;
 use path_log::{Lines, Members};
 use repo_path::RepoPath;
-use unode::{Nodes, UnodeEntry};
+use unode::UnodeEntry;
 
 /// The settled changesets, each with its line of first parents.
 #[derive(Clone, Copy)]
@@ -44,7 +44,7 @@ impl<'a> SettledLines<'a> {
             return None;
         };
         match entry {
-            UnodeEntry::File(id) => match unodes.file_unode(&id) {
+            UnodeEntry::File(id) => match self.table.file_unode(&id) {
                 Some(file) => Some(file.linknode),
                 None => unreachable!(),
             },

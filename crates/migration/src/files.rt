@@ -1,5 +1,5 @@
 //! Copying an opened repository to the file of a name.
-ghost use Rattle.std.specs.Prelude.{◌≡◌, ◌≤◌, List, true, is_err, IfOk, OnOk};
+ghost use Rattle.std.specs.Prelude.{◌≡◌, ◌≤◌, List, true, is_err, IfOk, OnErr, OnOk};
 ghost use Rattle.std.specs.Option.{option_map};
 ghost use Rattle.ports.specs.Faults.{Counts};
 ghost use Rattle.ports.specs.Openers.{left};
@@ -43,6 +43,7 @@ pub fn migrate_to<D: Disk, O: Opener<D>>(
     ensures opened { (header : Header) (h : List Entry) → IsOpened header h journal.now (D.meaning from.old) → IsOpened header h journal.now (D.meaning from.new) }
     ensures read { OnlyRead (D.meaning from.old) (D.meaning from.new) }
     ensures left { OnOk result (O.shelf opener.new ≡ option_map (left name.now true) (O.shelf opener.old)) }
+    ensures err { OnErr result (O.shelf opener.new ≡ O.shelf opener.old) }
     ensures faults { Counts (O.faults opener.old) (O.faults opener.new) (is_err result) }
 {
     let mut disk = opener.open(name, true)?;

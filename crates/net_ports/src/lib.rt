@@ -19,6 +19,6 @@ pub use reader_source::ReaderSource;
 pub use silent::{MOST_SILENT, SILENCE};
 pub use system_clock::SystemClock;
 pub use tcp_accept::TcpAccept;
-pub use tcp_dial::TcpDial;
-pub use tcp_link::{READ_PATIENCE, REQUEST_PATIENCE, TcpLink, WRITE_PATIENCE};
+pub use tcp_dial::{DIAL, TcpDial};
+pub use tcp_link::{IDLE_PATIENCE, READ_PATIENCE, REQUEST_PATIENCE, TcpLink, WRITE_PATIENCE};
 pub use writer_sink::WriterSink;

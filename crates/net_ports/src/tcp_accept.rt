@@ -92,7 +92,7 @@ fn next_link<R: Clock + Eprint + Copy>(porch: &mut Option<Porch<R>>) -> Option<T
     let porch = porch.as_mut()?;
     for _ in 0..u64::MAX {
         let stream = porch.next_stream()?;
-        if let Ok(link) = TcpLink::new(porch.runtime(), TcpStream::from(stream)) {
+        if let Ok(link) = TcpLink::accepted(porch.runtime(), TcpStream::from(stream)) {
             return Some(link);
         }
     }

@@ -5,12 +5,15 @@ use crate::tcp_link::TcpLink;
 use ports::{Accept, Failed};
 use std::alloc::{AllocError, Global};
 use std::io;
-use std::io::Eprint;
-use std::net::{Net, TcpStream};
-use std::time::Clock;
+use std::io::{Eprint, ErrorKind};
+use std::net::{Net, TcpStream, ToSocketAddrs};
+use std::time::{Clock, Duration};
+
+/// How many seconds a dial waits for an answer.
+pub const DIAL: u64 = 2;
 
 /// Connects to a server when it is asked, gives that one connection, and says from then on that no more will come. A call
-/// fails where nobody answers there, which is said on standard error.
+/// fails where nobody answers there within `DIAL` seconds, which is said on standard error.
 #[derive(Drop)]
 pub struct TcpDial<R> {
     rt: R,
@@ -86,9 +89,17 @@ fn link_to<R: Net<Stream = TcpStream> + Clock + Eprint + Copy>(
     }
 }
 
+// The first of the host's addresses that answers in time. The error is that of the last that was tried.
 fn connect<R: Net<Stream = TcpStream> + Clock + Copy>(
     rt: R,
     address: &str,
 ) -> io::Result<TcpLink<R>> {
-    TcpLink::new(rt, TcpStream::connect(&rt, address)?)
+    let mut last = io::Error::from(ErrorKind::InvalidInput);
+    for address in address.to_socket_addrs(&rt)? {
+        match TcpStream::connect_timeout(&rt, &address, Duration::from_secs(DIAL)) {
+            Ok(stream) => return TcpLink::new(rt, stream),
+            Err(error) => last = error,
+        }
+    }
+    Err(last)
 }

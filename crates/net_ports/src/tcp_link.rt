@@ -11,6 +11,10 @@ use std::time::{Clock, Duration, Instant};
 /// How many seconds a read waits for a byte of the peer before it fails.
 pub const READ_PATIENCE: u64 = 10;
 
+/// How many seconds it waits in place of these over a connection that was accepted, for the first byte since the last write:
+/// so long may a client keep its connection between two requests.
+pub const IDLE_PATIENCE: u64 = 60;
+
 /// How many seconds a write waits for the peer to take a byte before it fails.
 pub const WRITE_PATIENCE: u64 = 15;
 
@@ -18,9 +22,9 @@ pub const WRITE_PATIENCE: u64 = 15;
 pub const REQUEST_PATIENCE: u64 = 60;
 
 /// A TCP connection, which sends each write at once. A read that was interrupted is tried again; one for which the peer
-/// sends nothing within `READ_PATIENCE` fails, and so does one that is called when `REQUEST_PATIENCE` has passed since
-/// the first byte that was read since the last write. A write fails that the peer takes nothing of within
-/// `WRITE_PATIENCE`, or in the second after it.
+/// sends nothing within `READ_PATIENCE` fails, or within `IDLE_PATIENCE` where the connection was accepted and nothing was read
+/// since the last write; and so does one that is called when `REQUEST_PATIENCE` has passed since the first byte that was read
+/// since the last write. A write fails that the peer takes nothing of within `WRITE_PATIENCE`, or in the second after it.
 #[derive(Drop)]
 pub struct TcpLink<R> {
     rt: R,
@@ -28,12 +32,29 @@ pub struct TcpLink<R> {
     faults: u64,
     // when the first byte since the last write was read
     begun: Option<Instant>,
+    // how many seconds a read waits for that byte, and how many the system was told to wait
+    idle: u64,
+    waits: u64,
 }
 
 impl<R: Clock + Copy> TcpLink<R> {
     /// A link over this connection, of which no call has failed. An error is the system's, which
     /// refused an option of the connection; the connection is closed then.
     pub fn new(rt: R, stream: TcpStream) -> io::Result<Self>
+        ensures { IfOk result (λ link. ⟦<Self as Link>⟧.faults link ≡ 0) }
+    {
+        TcpLink::waiting(rt, stream, READ_PATIENCE)
+    }
+
+    /// The same over a connection that was accepted, which may be silent between requests for longer.
+    pub fn accepted(rt: R, stream: TcpStream) -> io::Result<Self>
+        ensures { IfOk result (λ link. ⟦<Self as Link>⟧.faults link ≡ 0) }
+    {
+        TcpLink::waiting(rt, stream, IDLE_PATIENCE)
+    }
+
+    // One whose reads wait for so many seconds where nothing was read since the last write.
+    fn waiting(rt: R, stream: TcpStream, idle: u64) -> io::Result<Self>
         ensures { IfOk result (λ link. ⟦<Self as Link>⟧.faults link ≡ 0) }
     {
         stream.set_nonblocking(false)?;
@@ -46,7 +67,27 @@ impl<R: Clock + Copy> TcpLink<R> {
             stream,
             faults: 0,
             begun: None,
+            idle,
+            waits: READ_PATIENCE,
         })
+    }
+
+    // Has the system wait as long as the next read may. It is told only where that differs from the last.
+    fn set_patience(&mut self) -> Option<()>
+        ensures faults { self.new.faults ≡ self.old.faults }
+    {
+        let wanted = if self.begun.is_none() {
+            self.idle
+        } else {
+            READ_PATIENCE
+        };
+        if wanted != self.waits {
+            self.stream
+                .set_read_timeout(Some(Duration::from_secs(wanted)))
+                .ok()?;
+            self.waits = wanted;
+        }
+        Some(())
     }
 
     // Whether what is being read began too long ago. A clock that can't be read stands still.
@@ -67,6 +108,7 @@ impl<R: Clock + Copy> TcpLink<R> {
         if self.is_late() {
             return None;
         }
+        self.set_patience()?;
         let count = read_uninterrupted(&mut self.stream, buf)?;
         if self.begun.is_none() {
             self.begun = Instant::now(&self.rt).ok();

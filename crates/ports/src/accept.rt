@@ -1,5 +1,5 @@
 //! What connections come from.
-ghost use Rattle.std.specs.Prelude.{◌≡◌, ◌≤◌, ◌-◌, ◌^◌, ◌||◌, ℕ, Bool, Ok, Option, None, IfOk, IfSome, IsTrue, is_err, if◌then◌else◌};
+ghost use Rattle.std.specs.Prelude.{◌≡◌, ◌≤◌, ◌-◌, ◌^◌, ◌||◌, ℕ, Bool, Ok, Option, None, IfOk, IfSome, IsTrue, false, is_err, if◌then◌else◌};
 ghost use Rattle.ports.specs.Accepts.{is_end, is_link};
 ghost use Rattle.ports.specs.Faults.{Counts};
 ghost use Rattle.ports.specs.Memory.{raised};
@@ -28,5 +28,6 @@ pub trait Accept<L>: Drop {
         ensures over { over self.new ≡ (over self.old || is_end result) }
         ensures again { IsTrue (over self.old) → result ≡ Ok None }
         ensures link { IfOk result (λ link. IfSome (next_link self.old) (λ next. link ≡ next)) }
-        ensures faults { Counts (faults self.old) (faults self.new) (is_err result) };
+        ensures faults { Counts (faults self.old) (faults self.new) (is_err result) }
+        ensures quiet { is_err result ≡ false → faults self.new ≡ faults self.old };
 }

@@ -63,6 +63,7 @@ impl<L: Drop> Accept<L> for MemAccept<L> {
         ensures over { self.new.over ≡ (self.old.over || is_end result) }
         ensures again { IsTrue self.old.over → result ≡ Ok None }
         ensures faults { Counts self.old.faults self.new.faults (is_err result) }
+        ensures quiet { is_err result ≡ false → self.new.faults ≡ self.old.faults }
         ensures fails { IsErr result ↔ IsTrue (fails_at self.old.failing self.old.calls && not self.old.over) }
         ensures link { IfOk result (λ link. link ≡ slice_get self.old.links 0) }
         ensures links { self.new.links ≡ (if is_link result then drop 1 self.old.links else self.old.links) }

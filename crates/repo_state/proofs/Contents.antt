@@ -25,7 +25,7 @@ use Rattle.repo_machine.specs.Indexes.{StandsAt}
 use Rattle.bookmark_lock.specs.Opening.{Opening}
 use Rattle.repo_state.specs.Images.{sealed_part, IsPending}
 use Rattle.repo_state.specs.State.{IsSound}
-use Rattle.repo_state.proofs.GroupParts.{rest, bodies_part, bodies_rest, part_and_rest, part_grows}
+use Rattle.repo_state.proofs.GroupParts.{bodies_part, bodies_rest, part_and_rest, part_grows, part_least, rest}
 use Rattle.repo_state.proofs.Stands.{size-same, size-split, stands-same}
 
 -- the entry of a content in a history
@@ -151,6 +151,13 @@ waiting_content {h} {x} {place} s n bytes behind p =
     ∙ ap (drop (place.at - size (sealed_part n h))) (sym p.is) in
     subst (λ t. IsContent x place.length (take place.length t)) there (place_in (bodies (rest n s.before)) (bodies s.later) x place.length all holds)
 
+-- what is in the sealed part is in each longer one
+further_in : {h : List Entry} {x : Id} {place : Place} (s : StandsAt h x place) (n more : ℕ) → InFile s n → n ≤ more → InFile s more
+further_in {h} {x} {place} s n more in_it le = elim (lies s more) as (λ _. InFile s more) [
+  | inl there ↦ there
+  | inr behind ↦ absurd (let ends = in_it.ends in let starts = behind.starts in let grows = part_least n more h le in omega arith)
+]
+
 -- ---- an honest disk gives the content
 
 content_stands : (header : Header) {h : List Entry} {x : Id} {place : Place} (s : StandsAt h x place) (g later : List Entry) (image : List ℕ) → bodies g ≡ bodies (s.before ++ stored_at s.who x place.length ∷ later) → Stands header image g → IsContent x place.length (take place.length (drop place.at image))
@@ -159,14 +166,14 @@ content_stands header {h} {x} {place} s g later image is stands =
     (content_place header image s.before later s.who x place.length (stands-same header image g (s.before ++ stored_at s.who x place.length ∷ later) is stands))
 
 -- what an honest disk gives at its place is the content
-pub honest_content : (opening : Opening) {h : List Entry} {x : Id} {place : Place} (s : StandsAt h x place) (n : ℕ) (m : Meaning) (bytes : List ℕ) → InFile s n
-    → IsSound opening h n m → disk.IsSound m → IsTrue m.honest → bytes ≡ take place.length (drop place.at m.state.reads) → IsContent x place.length bytes
-honest_content opening {h} {x} {place} s n m bytes in_it sound told honest read =
+pub honest_content : (opening : Opening) {h : List Entry} {x : Id} {place : Place} (s : StandsAt h x place) (n : ℕ) {reach : ℕ} (m : Meaning) (bytes : List ℕ) → InFile s n
+    → IsSound opening h n reach m → disk.IsSound m → IsTrue m.honest → bytes ≡ take place.length (drop place.at m.state.reads) → IsContent x place.length bytes
+honest_content opening {h} {x} {place} s n {reach} m bytes in_it sound told honest read =
     let leaves = sound.leaves honest in
     subst (λ b. IsContent x place.length b) (sym read)
     (elim (leaves.now m.state.reads (told.image honest)) as (λ _. IsContent x place.length (take place.length (drop place.at m.state.reads))) [
       | inl stands ↦ content_stands opening.header s (sealed_part n h) in_it.later m.state.reads in_it.is stands
-      | inr all ↦ content_stands opening.header s h s.later m.state.reads (ap (λ g. bodies g) s.history_is) all.1
+      | inr further ↦ (let more = further_in s n reach in_it sound.reaches in content_stands opening.header s (sealed_part reach h) more.later m.state.reads more.is further)
     ])
 
 -- ---- a content that isn't in the sealed part

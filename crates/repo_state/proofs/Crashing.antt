@@ -1,24 +1,23 @@
 -- What a crash may leave of a repository's file is what a crash of the core leaves, and begins with what is sealed.
-use Rattle.std.proofs.Common.{◌≡◌, ℕ, ◌≤◌, Bool, true, false, List, ◌++◌, map, length, take, drop, refl, sym, ap, subst, ◌∙◌, arith, length-append}
+use Rattle.std.proofs.Common.{◌≡◌, ℕ, ◌≤◌, Bool, true, false, List, ◌++◌, map, length, take, drop, refl, sym, ap, subst, ◌∙◌, arith}
 use Rattle.std.specs.Prelude.{if◌then◌else◌, IsTrue, Option, None, Some, option_map}
 use mathlib.Core.List.{IsPrefix}
 use mathlib.Core.Logic.{inl, inr}
 use Rattle.std.proofs.lemmas.List.{map-append, take-take, take-append-drop, take-append-le}
 use Rattle.disk_model.specs.Images.{IsImage}
 use Rattle.disk_model.specs.Meaning.{Meaning}
-use Rattle.history_model.specs.History.{Body, Entry, bodies, unnumbered}
+use Rattle.history_model.specs.History.{Entry, bodies, unnumbered}
 use Rattle.history_model.specs.Journal.{Header, Stands}
 use Rattle.reply_model.proofs.Histories.{bodies-append}
-use Rattle.core_model.specs.Core.{State, may_be_kept, reopened}
+use Rattle.core_model.specs.Core.{State, group_end as core_end, may_be_kept, reopened}
 use Rattle.landing_core.specs.Steps.{Shows}
-use Rattle.repo_journal.specs.declared.cut.Cut.{Cut}
 use Rattle.bookmark_lock.specs.Opening.{Opening}
 use Rattle.repo_state.specs.Cores.{CrashLeaves, CrashesOf, ShowsLeft}
 use Rattle.repo_state.specs.Images.{sealed_part}
+use Rattle.repo_state.specs.Groups.{group_end}
 use Rattle.repo_state.specs.State.{IsSound, LeavesAfter}
-use Rattle.repo_state.proofs.GroupParts.{part_whole}
-use Rattle.repo_state.proofs.LeftGates.{kept_by}
-use Rattle.repo_state.proofs.Stands.{stands-same}
+use Rattle.repo_state.specs.declared.left.Left.{Left}
+use Rattle.repo_state.proofs.LeftGates.{end_by, kept_by}
 
 -- ---- a crash of the core
 
@@ -32,19 +31,19 @@ alone_left header h n s image same sealed stands = record {
 }
 
 -- or the whole group, where the gate may stand open
-group_left : (header : Header) (h : List Entry) (s : State) (image : List ℕ) → s.history ≡ h → may_be_kept s.sealing ≡ true → Stands header image h → CrashLeaves header s image
-group_left header h s image same gate stands = record {
+group_left : (header : Header) (h : List Entry) (upto : ℕ) (s : State) (image : List ℕ) → s.history ≡ h → may_be_kept s.sealing ≡ true → core_end s ≡ upto → Stands header image (sealed_part upto h) → CrashLeaves header s image
+group_left header h upto s image same gate ends stands = record {
   kept = true;
-  after = reopened s (length (bodies s.history));
-  crashes = ap (λ (b : Bool). option_map (reopened s) (if b then Some (length (bodies s.history)) else None)) gate;
-  stands = stands-same header image h (sealed_part (length (bodies s.history)) s.history) (sym (part_whole s.history ∙ ap (λ g. bodies g) same)) stands;
+  after = reopened s (core_end s);
+  crashes = ap (λ (b : Bool). option_map (reopened s) (if b then Some (core_end s) else None)) gate;
+  stands = subst (Stands header image) (λ i. sealed_part (sym ends i) (sym same i)) stands;
 }
 
-pub crashes_of : (header : Header) (h : List Entry) (n : ℕ) (pending : List ℕ) (left : Option Cut) (m : Meaning) (s : State) → LeavesAfter header h n pending left m → IsTrue m.honest → Shows h n s → ShowsLeft left s → CrashesOf header m s
+pub crashes_of : (header : Header) (h : List Entry) (n : ℕ) (pending : List ℕ) (left : Option Left) (m : Meaning) (s : State) → LeavesAfter header h n pending left m → IsTrue m.honest → Shows h n s → ShowsLeft left s → CrashesOf header m s
 crashes_of header h n pending left m s leaves honest shows gate image is =
     elim (leaves.now honest image is) as (λ _. CrashLeaves header s image) [
       | inl stands ↦ alone_left header h n s image shows.history_is shows.sealed_is stands
-      | inr whole ↦ group_left header h s image shows.history_is (kept_by s.sealing left gate whole.0) whole.1
+      | inr whole ↦ group_left header h (group_end n left) s image shows.history_is (kept_by s left gate whole.0) (end_by s n left shows.sealed_is gate) whole.1
     ]
 
 -- ---- what is sealed
@@ -59,13 +58,11 @@ part_begins h later n more most prefix le =
       sym (map-append unnumbered (take n (bodies h)) (drop n all)) ∙ ap (map unnumbered) (ap (λ bs. bs ++ drop n all) front ∙ take-append-drop n all),
     )
 
-pub sealed_outlasts : (opening : Opening) (h later : List Entry) (n more : ℕ) (m : Meaning) (image : List ℕ) → n ≤ length (bodies h) → IsPrefix h later → n ≤ more → IsSound opening later more m → IsTrue m.honest → IsImage m.state image
+pub sealed_outlasts : (opening : Opening) (h later : List Entry) (n more reach : ℕ) (m : Meaning) (image : List ℕ) → n ≤ length (bodies h) → IsPrefix h later → n ≤ more → IsSound opening later more reach m → IsTrue m.honest → IsImage m.state image
     → (g : List Entry) × Stands opening.header image g × IsPrefix (sealed_part n h) g
-sealed_outlasts opening h later n more m image most prefix le sound honest is =
-    let longer = ap (λ (bs : List Body). length bs) (ap (λ g. bodies g) (sym prefix.1) ∙ bodies-append h prefix.0) in
-    let sum = length-append (bodies h) (bodies prefix.0) in
-    let count = length (bodies later) in
+sealed_outlasts opening h later n more reach m image most prefix le sound honest is =
+    let further = sound.reaches in
     elim ((sound.leaves honest).now image is) as (λ _. (g : List Entry) × Stands opening.header image g × IsPrefix (sealed_part n h) g) [
       | inl stands ↦ (sealed_part more later, stands, part_begins h later n more most prefix le)
-      | inr whole ↦ (sealed_part count later, stands-same opening.header image later (sealed_part count later) (sym (part_whole later)) whole.1, part_begins h later n count most prefix (omega arith))
+      | inr stands ↦ (sealed_part reach later, stands, part_begins h later n reach most prefix (omega arith))
     ]

@@ -82,7 +82,7 @@ parts_long header before later e (p ∷ parts) (piece ∷ pieces) legal all are 
     let whole = length-append piece (concat pieces) in
     omega arith
 
-module _ {header : Header} {h : List Entry} {n : ℕ} {journal : JournalView} {m : Meaning} (agrees : Agrees header h n journal m) where
+module _ {header : Header} {h : List Entry} {n upto : ℕ} {journal : JournalView} {m : Meaning} (agrees : Agrees header h n upto journal m) where
   abbrev file_laid : List ℕ
   file_laid = with_group journal.size journal.pending.bytes m.state.reads
 
@@ -270,7 +270,7 @@ other_among j m parts wanted found other =
     (subst (λ x. Contains (map (λ (p : Piece). p.id) (other.before ++ other.other ∷ other.after)) x) (sym other.wanted_is) (ids_with other.before other.other other.after)))
 
 -- an honest disk gives a content's own bytes
-pub true_bytes : (opening : Opening) (h : List Entry) (n : ℕ) (journal : JournalView) (m : Meaning) → IsSound opening h n m → Agrees opening.header h n journal m → disk.IsSound m → IsTrue m.honest → (x : Id) (place : Place) (bytes : List ℕ) → StandsAt h x place → IsReadAt journal m place.at place.length bytes → sha256 bytes ≡ x
+pub true_bytes : (opening : Opening) (h : List Entry) (n : ℕ) {reach upto : ℕ} (journal : JournalView) (m : Meaning) → IsSound opening h n reach m → Agrees opening.header h n upto journal m → disk.IsSound m → IsTrue m.honest → (x : Id) (place : Place) (bytes : List ℕ) → StandsAt h x place → IsReadAt journal m place.at place.length bytes → sha256 bytes ≡ x
 true_bytes opening h n journal m sound agrees told honest x place bytes s read = by (lies s n)
   where
     file : journal.size ≡ size (sealed_part n h)
@@ -280,7 +280,7 @@ true_bytes opening h n journal m sound agrees told honest x place bytes s read =
     by (inl in_it) = (let ends = in_it.ends in (honest_content opening s n m bytes in_it sound told honest (read.in_file (omega arith) honest)).0)
     by (inr behind) = (let starts = behind.starts in waits_true agrees sound.legal told x place bytes s read (omega arith))
 
-pub none_other : (opening : Opening) (h : List Entry) (n : ℕ) (journal : JournalView) (m : Meaning) → IsSound opening h n m → Agrees opening.header h n journal m → disk.IsSound m → IsTrue m.honest → (parts : List Part) (wanted found : Id) → AllStand h parts → HasOther journal m (map piece_of parts) wanted found → ⊥
+pub none_other : (opening : Opening) (h : List Entry) (n : ℕ) {reach upto : ℕ} (journal : JournalView) (m : Meaning) → IsSound opening h n reach m → Agrees opening.header h n upto journal m → disk.IsSound m → IsTrue m.honest → (parts : List Part) (wanted found : Id) → AllStand h parts → HasOther journal m (map piece_of parts) wanted found → ⊥
 none_other opening h n journal m sound agrees told honest parts wanted found all other =
     let stands = subst (AllByRecursion (PieceStands h)) other.parts (pieces_stand h parts all) in
     let p = other.other in
@@ -290,7 +290,7 @@ none_other opening h n journal m sound agrees told honest parts wanted found all
 -- ---- of the repository
 
 -- a whole that was read is what the repository has of its parts
-pub join_of : {header : Header} {h : List Entry} {n : ℕ} {journal : JournalView} {m : Meaning} → Agrees header h n journal m → IsLegal header h → disk.IsSound m → {inside now : State} → inside ≡ now → inside.history ≡ h → inside.disk ≡ m → laid inside ≡ with_group journal.size journal.pending.bytes m.state.reads
+pub join_of : {header : Header} {h : List Entry} {n upto : ℕ} {journal : JournalView} {m : Meaning} → Agrees header h n upto journal m → IsLegal header h → disk.IsSound m → {inside now : State} → inside ≡ now → inside.history ≡ h → inside.disk ≡ m → laid inside ≡ with_group journal.size journal.pending.bytes m.state.reads
     → (parts : List Part) (whole : Joined) → AreStanding now.history parts → IsReadWhole journal m parts whole → IsJoinOf now parts whole
 join_of {h = h} {journal = journal} {m = m} agrees legal told {inside} {now} same history_is disk_is laid_is parts whole places read =
     let standing_now = subst (λ g. AreStanding g parts) (sym (ap (λ (s : State). s.history) same) ∙ history_is) places in
@@ -328,7 +328,7 @@ unread_by DiskFault = refl
 unread_by ReadFault = refl
 unread_by (BadBytes wanted found) = refl
 
-pub is_misread_by : (opening : Opening) (h : List Entry) (n : ℕ) (journal : JournalView) (m : Meaning) → IsSound opening h n m → Agrees opening.header h n journal m → disk.IsSound m → IsTrue m.honest → (parts : List Part) → AllStand h parts → (fault : ChangeFault) → TellsUnread journal m parts fault → is_misread {T = Unit {0}} (Err fault) ≡ false
+pub is_misread_by : (opening : Opening) (h : List Entry) (n : ℕ) {reach upto : ℕ} (journal : JournalView) (m : Meaning) → IsSound opening h n reach m → Agrees opening.header h n upto journal m → disk.IsSound m → IsTrue m.honest → (parts : List Part) → AllStand h parts → (fault : ChangeFault) → TellsUnread journal m parts fault → is_misread {T = Unit {0}} (Err fault) ≡ false
 is_misread_by opening h n journal m sound agrees told honest parts all (Refused refusal) tells = refl
 is_misread_by opening h n journal m sound agrees told honest parts all DiskFault tells = refl
 is_misread_by opening h n journal m sound agrees told honest parts all ReadFault tells = refl

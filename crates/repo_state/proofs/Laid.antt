@@ -1,17 +1,19 @@
 -- The bytes of a file with those that wait behind them, when more wait, and once they are sealed.
-use Rattle.std.proofs.Common.{◌≡◌, ℕ, zero, suc, ◌+◌, ◌-◌, ◌≤◌, ◌<◌, ◌⊎◌, inl, inr, List, [], ◌∷◌, ◌++◌, length, take, drop, refl, sym, ap, subst, ◌∙◌, arith, length-append, append_assoc}
+use Rattle.std.proofs.Common.{◌≡◌, ℕ, zero, suc, ◌+◌, ◌-◌, ◌≤◌, ◌<◌, List, [], ◌∷◌, ◌++◌, length, take, drop, refl, sym, ap, subst, ◌∙◌, arith, length-append, append_assoc}
 use Rattle.std.specs.Prelude.{sum_by}
 use Rattle.std.specs.List.{AllByRecursion}
-use Rattle.std.proofs.lemmas.List.{drop-take, length-take-le, take-append-le, take-append-drop}
+use Rattle.std.proofs.lemmas.List.{drop-take, length-take-le, take-append-drop}
 use Rattle.std.proofs.Math.Seq.{take-append_seam, drop-append-add}
 use Rattle.byte_fields.proofs.Lists.{all_both}
 use Rattle.history_model.specs.History.{Body, Entry, bodies}
 use Rattle.history_model.specs.Journal.{Header, HoldsParts, record_len, size}
 use Rattle.reply_model.specs.Legal.{IsLegal, MayFollow}
 use Rattle.reply_model.proofs.Opened.{has_parts, have_parts}
-use Rattle.repo_journal.specs.Groups.{grown, with_group, AddsGroup}
-use Rattle.repo_journal.specs.Sealing.{KeepsRecords}
+use Rattle.repo_journal.specs.Groups.{group, grown, with_group, AddsGroup}
+use Rattle.repo_journal.specs.Payloads.{records}
+use Rattle.repo_journal.proofs.Groups.{before_gate}
 use Rattle.repo_journal.proofs.Wholes.{each_same, each_still}
+use Rattle.repo_state.proofs.GroupParts.{group_front}
 
 front_long : (size : ℕ) (reads : List ℕ) → size ≤ length reads → length (take (size - 1) reads) ≡ size - 1
 front_long size reads long = length-take-le (size - 1) reads (omega arith)
@@ -88,26 +90,38 @@ holds_grown header h body size_now bytes frame reads legal follows some long who
     (each_still file other end same (bodies h) fits (body ∷ []) (bodies h) (have_parts header h legal) all)
     (each_still file other end same (bodies h) fits (body ∷ []) (body ∷ []) (has_parts header h body follows, tt) (next, tt))
 
--- ---- all is sealed
+-- ---- a group is sealed
 
--- the file has what waited
-pub holds_added : (h : List Entry) (size_now : ℕ) (bytes before reads : List ℕ) → 1 ≤ size_now → size_now ≤ length before → size h ≡ size_now + length bytes → size h ≤ length reads → AddsGroup size_now bytes before reads
-    → AllHold (with_group size_now bytes before) (bodies h) → AllHold (with_group (size h) [] reads) (bodies h)
-holds_added h size_now bytes before reads some long whole fits added all =
-    let other = with_group size_now bytes before in
-    let end = size h - 1 in
-    let len = length_laid size_now bytes before some long in
-    let parts : reads ≡ other ++ added.rest = added.is ∙ sym (append_assoc (take (size_now - 1) before) (1 ∷ bytes) added.rest) in
-    let same : take end (with_group (size h) [] reads) ≡ take end other = front_same (size h) [] reads (omega arith) fits ∙ ap (take end) parts ∙ take-append-le end other added.rest (omega arith) in
-    each_same (with_group (size h) [] reads) other end same (bodies h) (omega arith) (bodies h) all
+-- the gate behind it is open in memory, where more waits
+tail_length : (later : List (List ℕ)) → length (records later ++ 0 ∷ []) ≡ length (group later) + 1
+tail_length [] = refl
+tail_length (p ∷ ps) = let one : length (records (p ∷ ps) ++ 0 ∷ []) ≡ suc (length (group (p ∷ ps))) = refl in omega arith
 
--- or it has what stood there before
-pub laid_failed : (size_now : ℕ) (bytes before reads : List ℕ) → 1 ≤ size_now → size_now ≤ length before → KeepsRecords size_now before reads ⊎ AddsGroup size_now bytes before reads → with_group size_now bytes reads ≡ with_group size_now bytes before
-laid_failed size_now bytes before reads some long (inl kept) = ap (λ front. front ++ 1 ∷ bytes) kept.front
-laid_failed size_now bytes before reads some long (inr added) =
-    let len = front_long size_now before long in
-    ap (λ front. front ++ 1 ∷ bytes)
-    (ap (take (size_now - 1)) added.is ∙ subst (λ n. take n (take (size_now - 1) before ++ (1 ∷ (bytes ++ added.rest))) ≡ take (size_now - 1) before) len (take-append_seam (take (size_now - 1) before) (1 ∷ (bytes ++ added.rest))))
+same_tail : (front : List ℕ) (later : List (List ℕ)) (end : ℕ) → length front + length (group later) ≡ end → take end (front ++ 1 ∷ group later) ≡ take end (front ++ (records later ++ 0 ∷ []))
+same_tail front [] end e = seam end front (1 ∷ []) (0 ∷ []) (let none : length (group []) ≡ 0 = refl in omega arith)
+same_tail front (p ∷ ps) end e = refl
+
+-- the file has it, and what waited behind it waits on
+pub holds_behind : (h : List Entry) (size_now : ℕ) (payload : List ℕ) (payloads later : List (List ℕ)) (before reads : List ℕ) → 1 ≤ size_now → size_now ≤ length before → size h ≡ size_now + length (group (payload ∷ (payloads ++ later))) → AddsGroup size_now (group (payload ∷ payloads)) before reads
+    → AllHold (with_group size_now (group (payload ∷ (payloads ++ later))) before) (bodies h) → AllHold (with_group (size_now + length (group (payload ∷ payloads))) (group later) reads) (bodies h)
+holds_behind h size_now payload payloads later before reads some long whole added all =
+    let front = take (size_now - 1) before in
+    let gate = before_gate payload payloads in
+    let done = front ++ 1 ∷ gate in
+    let front_len = front_long size_now before long in
+    let done_len = length-append front (1 ∷ gate) in
+    let group_len : length (group (payload ∷ payloads)) ≡ length gate + 1 = length-append gate (0 ∷ []) in
+    let file : reads ≡ done ++ 0 ∷ added.rest = added.is ∙ ap (λ xs. front ++ 1 ∷ xs) (append_assoc gate (0 ∷ []) added.rest) ∙ sym (append_assoc front (1 ∷ gate) (0 ∷ added.rest)) in
+    let at_end : size_now + length (group (payload ∷ payloads)) - 1 ≡ length done = omega arith in
+    let now : with_group (size_now + length (group (payload ∷ payloads))) (group later) reads ≡ done ++ 1 ∷ group later =
+    ap (λ xs. xs ++ 1 ∷ group later) (ap (λ k. take k reads) at_end ∙ ap (take (length done)) file ∙ take-append_seam done (0 ∷ added.rest)) in
+    let was : with_group size_now (group (payload ∷ (payloads ++ later))) before ≡ done ++ (records later ++ 0 ∷ []) =
+    ap (λ xs. front ++ 1 ∷ xs) (group_front payload payloads later) ∙ sym (append_assoc front (1 ∷ gate) (records later ++ 0 ∷ [])) in
+    let group_size = ap (λ (xs : List ℕ). length xs) (group_front payload payloads later) ∙ length-append gate (records later ++ 0 ∷ []) in
+    let tail = tail_length later in
+    let end : length done + length (group later) ≡ size h - 1 = omega arith in
+    each_same (with_group (size_now + length (group (payload ∷ payloads))) (group later) reads) (with_group size_now (group (payload ∷ (payloads ++ later))) before) (size h - 1)
+    (ap (take (size h - 1)) now ∙ same_tail done later (size h - 1) end ∙ sym (ap (take (size h - 1)) was)) (bodies h) (omega arith) (bodies h) all
 
 -- ---- a file that was opened
 

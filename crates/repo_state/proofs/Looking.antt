@@ -36,26 +36,28 @@ use Rattle.history_model.specs.Journal.{Header, size}
 use Rattle.reply_model.specs.After.{entry_by}
 use Rattle.repo_journal.specs.View.{JournalView}
 use Rattle.repo_state.specs.Images.{sealed_part}
+use Rattle.repo_state.specs.Groups.{left_of, reach_of}
 use Rattle.repo_state.specs.State.{State, IsSound, Agrees, opening_of, unseated}
 use Rattle.repo_state.proofs.Sounds.{Holds, holds_at, Read, sound_read, sound_read_failed, agrees_read, agrees_read_failed, sound_cleared, agrees_cleared}
 
 pub read_as : (m new : Meaning) (fails b : Bool) → fails ≡ b → Kept m new → Counts m.faults new.faults fails → (IsSome m.quiet → fails ≡ false) → Looked m new → (IsTrue m.honest → LeavesOnly (IsImage new.state) m new) → Read b m new
 read_as m new fails b e kept counts calm looked only = subst (λ x. Read x m new) e (record { kept = kept; counts = counts; calm = calm; looked = looked; only = only })
 
-pub holds_read : (header header1 : Header) (h h1 : List Entry) (n : ℕ) (journal : JournalView) (first m new : Meaning) → header1 ≡ header → h1 ≡ h → Read false m new → Holds first m header h n journal → Holds first new header1 h1 n journal
-holds_read header header1 h h1 n journal first m new eh e done holds =
-    holds_at first new header header1 h h1 n journal eh e (sound_read (opening_of header journal.opening first) h n m new done holds.0, agrees_read header h n journal m new done.kept done.looked holds.1)
+pub holds_read : (header header1 : Header) (h h1 : List Entry) (n upto : ℕ) (journal : JournalView) (first m new : Meaning) → header1 ≡ header → h1 ≡ h → Read false m new → Holds first m header h n upto journal → Holds first new header1 h1 n upto journal
+holds_read header header1 h h1 n upto journal first m new eh e done holds =
+    holds_at first new header header1 h h1 n upto journal eh e
+    (sound_read (opening_of header journal.opening first) h n (reach_of n (left_of upto journal.left)) m new done holds.0, agrees_read header h n upto journal m new done.kept done.looked done.only holds.1)
 
-pub holds_read_failed : (header header1 header2 : Header) (h h1 h2 : List Entry) (n who : ℕ) (journal : JournalView) (first m new : Meaning) → header1 ≡ header → header2 ≡ header1 → h1 ≡ h → h2 ≡ h1 ++ entry_by who (Fault false) ∷ [] → Read true m new
-    → Holds first m header h n journal → Holds first new header2 h2 n journal
-holds_read_failed header header1 header2 h h1 h2 n who journal first m new eh1 eh2 e1 e2 done holds =
-    holds_at first new header header2 (h ++ entry_by who (Fault false) ∷ []) h2 n journal (eh2 ∙ eh1) (e2 ∙ ap (λ (g : List Entry). g ++ entry_by who (Fault false) ∷ []) e1)
-    (sound_read_failed (opening_of header journal.opening first) h n who m new done holds.0, agrees_read_failed header h n who journal m new done.kept done.looked holds.1)
+pub holds_read_failed : (header header1 header2 : Header) (h h1 h2 : List Entry) (n who upto : ℕ) (journal : JournalView) (first m new : Meaning) → header1 ≡ header → header2 ≡ header1 → h1 ≡ h → h2 ≡ h1 ++ entry_by who (Fault false) ∷ [] → Read true m new
+    → Holds first m header h n upto journal → Holds first new header2 h2 n upto journal
+holds_read_failed header header1 header2 h h1 h2 n who upto journal first m new eh1 eh2 e1 e2 done holds =
+    holds_at first new header header2 (h ++ entry_by who (Fault false) ∷ []) h2 n upto journal (eh2 ∙ eh1) (e2 ∙ ap (λ (g : List Entry). g ++ entry_by who (Fault false) ∷ []) e1)
+    (sound_read_failed (opening_of header journal.opening first) h n (reach_of n (left_of upto journal.left)) who m new done holds.0, agrees_read_failed header h n upto who journal m new done.kept done.looked done.only holds.1)
 
-pub holds_cleared : (header header1 : Header) (h h1 : List Entry) (n : ℕ) (journal : JournalView) (first m : Meaning) → header1 ≡ header → h1 ≡ map unseated h → IsLegal header1 h1 → Holds first m header h n journal → Holds first m header1 h1 n journal
-holds_cleared header header1 h h1 n journal first m eh e legal holds =
-    holds_at first m header header1 (map unseated h) h1 n journal eh e
-    (sound_cleared (opening_of header journal.opening first) h n m (subst (λ x. IsLegal x (map unseated h)) eh (subst (λ g. IsLegal header1 g) e legal)) holds.0, agrees_cleared header h n journal m holds.1)
+pub holds_cleared : (header header1 : Header) (h h1 : List Entry) (n upto : ℕ) (journal : JournalView) (first m : Meaning) → header1 ≡ header → h1 ≡ map unseated h → IsLegal header1 h1 → Holds first m header h n upto journal → Holds first m header1 h1 n upto journal
+holds_cleared header header1 h h1 n upto journal first m eh e legal holds =
+    holds_at first m header header1 (map unseated h) h1 n upto journal eh e
+    (sound_cleared (opening_of header journal.opening first) h n (reach_of n (left_of upto journal.left)) m (subst (λ x. IsLegal x (map unseated h)) eh (subst (λ g. IsLegal header1 g) e legal)) holds.0, agrees_cleared header h n upto journal m holds.1)
 
 -- what a call that was done told
 pub ok_told : {X E P : Type 0} (r : Result X E) → is_err r ≡ false → OnOk r P → P
@@ -179,7 +181,7 @@ checked_waits m h n x bytes parts (Err fault) unsealed there err = absurd (err.1
 
 -- ---- the bytes, before their digest is compared
 
-module _ {header : Header} {h : List Entry} {n : ℕ} {journal : JournalView} {m : Meaning} (agrees : Agrees header h n journal m) {x : Id} {place : Place} (s : StandsAt h x place) (len : ℕ) (short : len ≡ place.length) where
+module _ {header : Header} {h : List Entry} {n upto : ℕ} {journal : JournalView} {m : Meaning} (agrees : Agrees header h n upto journal m) {x : Id} {place : Place} (s : StandsAt h x place) (len : ℕ) (short : len ≡ place.length) where
   -- the file or what waits has them all
   pub fill_inside : place.at + len ≤ journal.size + length journal.pending.bytes
   fill_inside =
@@ -200,7 +202,7 @@ module _ {header : Header} {h : List Entry} {n : ℕ} {journal : JournalView} {m
       let file = agrees.size_is in
       omega arith
 
-pub read_for : (header : Header) (h : List Entry) (n : ℕ) (journal : JournalView) (m : Meaning) (x : Id) (place : Place) (len : ℕ) (bytes : List ℕ) (parts : List Part) → IsLegal header h → Agrees header h n journal m → content_len h x ≡ Some place.length → StandsAt h x place → len ≡ place.length → length bytes ≡ len → parts ≡ []
+pub read_for : (header : Header) (h : List Entry) (n : ℕ) {upto : ℕ} (journal : JournalView) (m : Meaning) (x : Id) (place : Place) (len : ℕ) (bytes : List ℕ) (parts : List Part) → IsLegal header h → Agrees header h n upto journal m → content_len h x ≡ Some place.length → StandsAt h x place → len ≡ place.length → length bytes ≡ len → parts ≡ []
     → (place.at < journal.size → ForSome m.reads (λ file. bytes ≡ take len (drop place.at file))) → (journal.size ≤ place.at → bytes ≡ take len (drop (place.at - journal.size) journal.pending.bytes)) → IsReadFor m h n x bytes parts
 read_for header h n journal m x place len bytes parts legal agrees found s short long none read waits = record {
   stored = found ∙ ap Some (sym short ∙ sym long);
@@ -222,7 +224,7 @@ read_for header h n journal m x place len bytes parts legal agrees found s short
         ap (λ b. sha256 b) is ∙ (waiting_content s n journal.pending.bytes behind agrees.waits).0
 
 -- a content's own bytes, on an honest disk
-pub single_honest : (opening : Opening) (h : List Entry) (n : ℕ) (m : Meaning) (x : Id) (place : Place) (bytes : List ℕ) (parts : List Part) → IsSound opening h n m → disk.IsSound m → StandsAt h x place → IsReadFor m h n x bytes parts → IsTrue m.honest → sha256 bytes ≡ x
+pub single_honest : (opening : Opening) (h : List Entry) (n : ℕ) {reach : ℕ} (m : Meaning) (x : Id) (place : Place) (bytes : List ℕ) (parts : List Part) → IsSound opening h n reach m → disk.IsSound m → StandsAt h x place → IsReadFor m h n x bytes parts → IsTrue m.honest → sha256 bytes ≡ x
 single_honest opening h n m x place bytes parts sound told s there honest = by there.read
   where
     by : IsSingle m h n x bytes parts ⊎ IsOfParts m h n x bytes parts → sha256 bytes ≡ x

@@ -1,6 +1,8 @@
 -- A repository that is served alone: a change with the seal of its entry, and a read.
 use Rattle.std.proofs.Common.{◌≡◌, ◌≢◌, ℕ, ◌+◌, ◌≤◌, ◌<◌, Bool, true, false, not, cond, List, [], ◌∷◌, ◌++◌, length, refl, sym, ap, subst, ◌∙◌, arith, append-nil, append_assoc}
-use Rattle.std.specs.Prelude.{◌⊎◌, is_some, Option, None, Some, IsTrue, Ok, Err}
+use Rattle.std.specs.Prelude.{◌⊎◌, Option, None, Some, IsTrue, Ok, Err}
+use Rattle.std.specs.Option.{ForSome}
+use Rattle.std.proofs.lemmas.Bool.{cases_lt}
 use mathlib.Core.Bool.{true≢false}
 use mathlib.Core.Logic.{inl, inr}
 use Rattle.disk_model.specs.Images.{IsImage}
@@ -10,10 +12,9 @@ use Rattle.history_model.specs.History.{Body, Fault, Entry, bodies, is_down, is_
 use Rattle.history_model.specs.Journal.{Header, Stands}
 use Rattle.core_model.specs.Core.{Step, after_steps}
 use Rattle.landing_core.specs.Steps.{asking, calls_to, Goes, Shows as Holds}
-use Rattle.landing_core.proofs.Asked.{stored_goes}
+use Rattle.landing_core.proofs.Asked.{after_then, stored_goes}
 use Rattle.landing_core.proofs.Down.{down-stored, down-fault, down-breaking}
-use Rattle.landing_core.proofs.Sealed.{cut_goes}
-use Rattle.landing_core.proofs.Serving.{goes_then, served_goes}
+use Rattle.landing_core.proofs.Serving.{served_goes}
 use Rattle.reply_model.specs.Reply as reply
 use Rattle.reply_model.specs.Reply.{Ask, Granted, Question, HeadOf, ContentOf, ChangesetOf, LogFrom, FsnodeOf, UnodeOf, HistoryOf, CopiesOf, PathLogOf, DeletedOf, PolicyOf, judge}
 use Rattle.reply_model.specs.After.{Call, Asks, Joins, Looks, Derives, Answer, Grants, Refuses, Shows, Lacks, Roots, DiskFault, ReadFault, BadBytes, NodeCollision, Memory, Made, nothing, only_fault, Answers, Replies, entry_by, entries_of}
@@ -28,15 +29,18 @@ use Rattle.repo_calls.specs.declared.calls.ChangeFault.{ChangeFault}
 use Rattle.repo_calls.specs.declared.calls.ChangeFault.TheVariants as changes
 use Rattle.repo_calls.specs.declared.refusal.Refusal.{Refusal}
 use Rattle.repo_journal.specs.declared.cut.Cut.{Cut}
+use Rattle.repo_journal.specs.declared.left.At.TheVariants as stages
 use Rattle.repo_state.specs.Alone.{RepliesAlone, wanted}
 use Rattle.repo_state.specs.Cores.{ShowsLeft, StoresAlone, StoresCall, StoresCallAlone, cut_of}
-use Rattle.repo_state.specs.Images.{sealed_part, LeavesSeal, LeavesChange, StandsNow}
-use Rattle.repo_state.specs.State.{IsSealedAlone, after_seal}
+use Rattle.repo_state.specs.Groups.{group_end, is_cut_off, is_under_way, reach_of}
+use Rattle.repo_state.specs.Images.{sealed_part, LeavesChange, LeavesSeals, StandsFor, StandsNow}
+use Rattle.repo_state.specs.State.{EndsWithin, IsSealedAlone, after_seal}
+use Rattle.repo_state.specs.declared.left.Left.{Left}
 use Rattle.repo_state.proofs.Answered.{refused_by}
 use Rattle.repo_state.proofs.Asked.{refuses_ask, refuses_nothing}
-use Rattle.repo_state.proofs.LeftGates.{asking_leaves, cut_shows, gate_left, shows_none}
+use Rattle.repo_state.proofs.LeftGates.{asking_leaves, gate_left, idle_by, rests_none}
 use Rattle.repo_state.proofs.LeftOver.{none_of, some_of}
-use Rattle.repo_state.proofs.Stepping.{stays, wants_nothing}
+use Rattle.repo_state.proofs.Stepping.{cut_so, stays, wants_nothing}
 use Rattle.repo_state.proofs.Chains.{leaves_map, leaves_nothing}
 use Rattle.repo_state.proofs.GroupParts.{part_grows, part_same, part_whole}
 use Rattle.repo_state.proofs.Stands.{bodies-fault, stands-same}
@@ -162,9 +166,15 @@ module _ {header : Header} {h : List Entry} {ask : Ask} {granted : Granted} {fro
       let same : bodies (sealed_part n front) ≡ bodies h = ap (λ g. bodies g) part ∙ ap (λ k. bodies (sealed_part k h)) whole ∙ part_whole h in
       stands-same header image (sealed_part n front) h same stands
 
+  -- no group is under way, and none was cut off
+  pub none_there : (left : Option Left) → is_under_way left ≡ false → is_cut_off left ≡ is_down h → left ≡ None
+  none_there left idle broken = none_of left (broken ∙ up) idle
+
   -- before that the disk was read at most
-  pub granted_looked : (new : List Entry) (m after : Meaning) → ((image : List ℕ) → IsImage after.state image → StandsNow header front n image) → LeavesOnly (IsImage after.state) m after → LeavesChange header h new m after
-  granted_looked new m after stands only = leaves_map m after (λ image is. inl (elim (stands image is) as (λ _. Stands header image h) [ inl sealed ↦ stood image sealed | inr all ↦ absurd (true≢false (sym all.0 ∙ front_up)) ])) only
+  pub granted_looked : (left : Option Left) (new : List Entry) (m after : Meaning) → is_under_way left ≡ false → is_cut_off left ≡ is_down h → ((image : List ℕ) → IsImage after.state image → StandsNow header front n (reach_of n left) image) → LeavesOnly (IsImage after.state) m after → LeavesChange header h new m after
+  granted_looked left new m after idle broken stands only =
+      let at_n : reach_of n left ≡ n = ap (reach_of n) (none_there left idle broken) in
+      leaves_map m after (λ image is. inl (elim (stands image is) as (λ _. Stands header image h) [ inl sealed ↦ stood image sealed | inr all ↦ stood image (subst (λ i. StandsFor header front i image) at_n all) ])) only
 
   -- ---- it is sealed
 
@@ -181,14 +191,35 @@ module _ {header : Header} {h : List Entry} {ask : Ask} {granted : Granted} {fro
   pub nothing_waits : front ≡ h → length (bodies front) ≤ n
   nothing_waits same = (let len = ap (λ g. length (bodies g)) same in let is = whole in omega arith)
 
-  pub granted_leaves : (new : List Entry) (m after : Meaning) → bodies new ≡ bodies front → LeavesSeal header front n m after → LeavesChange header h new m after
-  granted_leaves new m after same leaves =
-      leaves_map m after (λ image stands. elim stands as (λ _. Stands header image h ⊎ Stands header image new) [ inl before ↦ inl (stood image before) | inr now ↦ inr (stands-same header image front new (sym same) now) ]) leaves
+  -- an image stands for what was sealed, or for all
+  one_of : (new : List Entry) (i : ℕ) (image : List ℕ) → bodies new ≡ bodies front → n ≤ i → i ≤ length (bodies new) → StandsFor header new i image → Stands header image h ⊎ Stands header image new
+  one_of new i image same least last stands =
+      let len = ap (λ (bs : List Body). length bs) same in
+      let one = one_at_most in
+      elim (cases_lt n i) as (λ _. Stands header image h ⊎ Stands header image new) [
+        | inl more ↦ (
+            let all : i ≡ length (bodies new) = omega arith in
+            inr (stands-same header image (sealed_part (length (bodies new)) new) new (part_whole new) (subst (λ k. StandsFor header new k image) all stands)))
+        | inr less ↦ (
+            let at_n : i ≡ n = omega arith in
+            inl (stood image (subst (Stands header image) (part_same n new front same) (subst (λ k. StandsFor header new k image) at_n stands))))
+      ]
 
-  pub granted_core : (left gate : Option Cut) (new : List Entry) (after : ℕ) → new ≡ front → length (bodies front) ≤ after → after ≤ length (bodies front) → is_some gate ≡ is_down new → StoresAlone header h n left ask (Grants granted) new after gate
-  granted_core left gate new after same least last broken = λ s shows _ may.
+  pub granted_leaves : (left : Option Left) (new : List Entry) (after reach : ℕ) (m now : Meaning) → is_under_way left ≡ false → is_cut_off left ≡ is_down h → bodies new ≡ bodies front → n ≤ after → after ≤ reach → reach ≤ length (bodies new) → LeavesSeals header front n (group_end n left) new after reach m now → LeavesChange header h new m now
+  granted_leaves left new after reach m now idle broken same grows further within leaves =
+      let at_n : group_end n left ≡ n = ap (group_end n) (none_there left idle broken) in
+      leaves_map m now (λ image stands. by image stands at_n) leaves
+    where
+      by : (image : List ℕ) → StandsNow header front n (group_end n left) image ⊎ StandsNow header new after reach image → group_end n left ≡ n → Stands header image h ⊎ Stands header image new
+      by image (inl (inl before)) at_n = inl (stood image before)
+      by image (inl (inr before)) at_n = inl (stood image (subst (λ k. StandsFor header front k image) at_n before))
+      by image (inr (inl now)) at_n = one_of new after image same grows (omega arith) now
+      by image (inr (inr now)) at_n = one_of new reach image same (omega arith) within now
+
+  pub granted_core : (left gate : Option Left) (new : List Entry) (after : ℕ) → is_under_way left ≡ false → new ≡ front → length (bodies front) ≤ after → after ≤ length (bodies front) → is_under_way gate ≡ false → is_cut_off gate ≡ is_down new → StoresAlone header h n left ask (Grants granted) new after gate
+  granted_core left gate new after idle same least last still broken = λ s shows there may.
       (let replies = subst (λ g. Replies header h 0 (Asks ask) (Grants granted) g) (sym same) r in
-      let served = served_goes header h n 0 ask (Grants granted) new s replies (λ e. absurd cc) (λ _. whole) shows may in
+      let served = served_goes header h n 0 ask (Grants granted) new s replies (λ e. absurd cc) (λ _. whole) (shows, idle_by left s idle there) may in
       let goes = served.2 in
       let len = ap (λ g. length (bodies g)) same in
       let is : length (bodies new) ≡ after = omega arith in
@@ -199,7 +230,7 @@ module _ {header : Header} {h : List Entry} {ask : Ask} {granted : Granted} {fro
         record {
           state = goes.state;
           taken = goes.taken;
-          meets = (subst (λ k. Holds new k goes.state) is goes.meets, subst (λ o. ShowsLeft o goes.state) (sym (none_of gate (broken ∙ new_up))) (shows_none new (length (bodies new)) goes.state new_up goes.meets));
+          meets = (subst (λ k. Holds new k goes.state) is goes.meets.0, subst (λ (o : Option Left). ShowsLeft o goes.state) (sym (none_of gate (broken ∙ new_up) still)) (rests_none new (length (bodies new)) goes.state new_up goes.meets));
         },
       ))
 
@@ -241,29 +272,35 @@ module _ {header : Header} {h : List Entry} {ask : Ask} {granted : Granted} {fro
         let one = one_at_most in
         (λ still_up. absurd (true≢false (sym (down-breaking front 0) ∙ sym (ap (λ g. is_down g) now) ∙ still_up)), omega arith)
 
-    pub failed_leaves : (new : List Entry) (m after : Meaning) → new ≡ after_seal 0 true front → LeavesSeal header front n m after → LeavesChange header h new m after
-    failed_leaves new m after same leaves = granted_leaves new m after (ap (λ g. bodies g) (same ∙ failed_is) ∙ same_stored) leaves
+    pub failed_leaves : (left : Option Left) (new : List Entry) (after reach : ℕ) (m now : Meaning) → is_under_way left ≡ false → is_cut_off left ≡ is_down h → new ≡ after_seal 0 true front → n ≤ after → after ≤ reach → reach ≤ length (bodies new) → LeavesSeals header front n (group_end n left) new after reach m now → LeavesChange header h new m now
+    failed_leaves left new after reach m now idle broken same grows further within leaves = granted_leaves left new after reach m now idle broken (ap (λ g. bodies g) (same ∙ failed_is) ∙ same_stored) grows further within leaves
 
-    failed_steps : (left : Option Cut) (cut : Cut) → StoresAlone header h n left ask DiskFault failed n (Some cut)
-    failed_steps left cut = λ s shows _ may.
+    failed_steps : (left : Option Left) (cut : Cut) → is_under_way left ≡ false → is_cut_off left ≡ is_down h → StoresAlone header h n left ask DiskFault failed n (Some (record { upto = length (bodies front); at = stages.Cut cut }))
+    failed_steps left cut idle broken = λ s shows there may.
         (let steps = stored_goes header h n 0 ask (Grants granted) front s (λ p. absurd cc) r shows may in
         let entered = subst (λ (x : List Step). Goes header s x (Holds front n)) steps.1 steps.2 in
-        let goes = goes_then header s (asking 0 ask) (calls_to 0 (cut_of cut)) (Holds front n) (λ t. Holds failed n t × ShowsLeft (Some cut) t) entered
-        (λ t shown. let seal = cut_goes header front n 0 t (cut_of cut) front_up waits shown in record { state = seal.state; taken = seal.taken; meets = (seal.meets, cut_shows header t seal.state 0 cut seal.taken) }) in
-        (asking 0 ask ++ calls_to 0 (cut_of cut), (cut_of cut, refl), (cut, refl, refl), goes))
+        let still : ShowsLeft None entered.state = gate_left header None (asking 0 ask) s entered.state (asking_leaves 0 ask) entered.taken (subst (λ (o : Option Left). ShowsLeft o s) (none_there left idle broken) there) in
+        let seal = cut_so header front n 0 cut front_up waits entered.state entered.meets still in
+        (asking 0 ask ++ calls_to 0 (cut_of cut), (cut_of cut, refl), (cut, refl, refl), record { state = seal.state; taken = after_then header s entered.state (asking 0 ask) (calls_to 0 (cut_of cut)) entered.taken ∙ seal.taken; meets = seal.meets }))
 
-    pub failed_core : (left gate : Option Cut) (new : List Entry) (after : ℕ) → new ≡ after_seal 0 true front → after ≡ n → is_some gate ≡ is_down new → StoresAlone header h n left ask DiskFault new after gate
-    failed_core left gate new after same is broken =
+    pub failed_core : (left gate : Option Left) (new : List Entry) (after : ℕ) → is_under_way left ≡ false → is_cut_off left ≡ is_down h → new ≡ after_seal 0 true front → after ≡ n → is_cut_off gate ≡ is_down new → ForSome gate (EndsWithin new after) → StoresAlone header h n left ask DiskFault new after gate
+    failed_core left gate new after idle broken same is cut_is ends =
         let now = same ∙ failed_is in
-        let cut = some_of gate (broken ∙ ap (λ g. is_down g) now ∙ down-breaking front 0) in
-        subst (λ o. StoresAlone header h n left ask DiskFault new after o) (sym cut.1)
-        (subst (λ k. StoresAlone header h n left ask DiskFault new k (Some cut.0)) (sym is)
-        (subst (λ g. StoresAlone header h n left ask DiskFault g n (Some cut.0)) (sym now) (failed_steps left cut.0)))
+        let cut = some_of gate (cut_is ∙ ap (λ g. is_down g) now ∙ down-breaking front 0) in
+        let within = ends (record { upto = cut.1; at = stages.Cut cut.0 }) cut.2 in
+        let less = within.0 in
+        let most = within.1 in
+        let one = one_at_most in
+        let len = ap (λ g. length (bodies g)) now ∙ ap (λ (bs : List Body). length bs) same_stored in
+        let all : cut.1 ≡ length (bodies front) = omega arith in
+        subst (λ (o : Option Left). StoresAlone header h n left ask DiskFault new after o) (sym (cut.2 ∙ ap (λ k. Some (record { upto = k; at = stages.Cut cut.0 })) all))
+        (subst (λ k. StoresAlone header h n left ask DiskFault new k (Some (record { upto = length (bodies front); at = stages.Cut cut.0 }))) (sym is)
+        (subst (λ g. StoresAlone header h n left ask DiskFault g n (Some (record { upto = length (bodies front); at = stages.Cut cut.0 }))) (sym now) (failed_steps left cut.0 idle broken)))
 
 -- ---- or it is refused
 
-pub refused_core : {header : Header} {h : List Entry} (call : Call) {new : List Entry} (n : ℕ) (left : Option Cut) (e : Refusal) → IsSealedAlone h n → n ≤ length (bodies h) → Replies header h 0 call (refused e) new → StoresCallAlone header h n left call (refused e) new n left
-refused_core {header} {h} call {new} n left e all most =
+pub refused_core : {header : Header} {h : List Entry} (call : Call) {new : List Entry} (n : ℕ) (left : Option Left) (e : Refusal) → is_under_way left ≡ false → IsSealedAlone h n → n ≤ length (bodies h) → Replies header h 0 call (refused e) new → StoresCallAlone header h n left call (refused e) new n left
+refused_core {header} {h} call {new} n left e idle all most =
     refused_by (λ answer. Replies header h 0 call answer new → StoresCallAlone header h n left call answer new n left)
     (λ refusal r. (let a = refuses_ask header h 0 call refusal new r in (a.ask, a.asks, λ s shows gate may. by a.ask refusal a.replies s shows gate may)))
     (λ r. (stays header h new n (wants_nothing header h 0 call new r), (refl, refl)))
@@ -274,10 +311,10 @@ refused_core {header} {h} call {new} n left e all most =
 
     by : (ask : Ask) (refusal : reply.Refusal) → Replies header h 0 (Asks ask) (Refuses refusal) new → StoresAlone header h n left ask (Refuses refusal) new n left
     by ask refusal replies s shows gate may =
-        let served = served_goes header h n 0 ask (Refuses refusal) new s replies (λ p. absurd cc) whole shows may in
+        let served = served_goes header h n 0 ask (Refuses refusal) new s replies (λ p. absurd cc) whole (shows, idle_by left s idle gate) may in
         let goes = served.2 in
         let asked = subst (λ (x : List Step). after_steps header s x ≡ Some goes.state) served.1 goes.taken in
-        (served.0, served.1, tt, record { state = goes.state; taken = goes.taken; meets = (goes.meets, gate_left header left (asking 0 ask) s goes.state (asking_leaves 0 ask) asked gate) })
+        (served.0, served.1, tt, record { state = goes.state; taken = goes.taken; meets = (goes.meets.0, gate_left header left (asking 0 ask) s goes.state (asking_leaves 0 ask) asked gate) })
 
 -- ---- or contents can't be read
 
@@ -314,26 +351,26 @@ misread_made header h (Looks (PolicyOf n)) wanted found made a = absurd a
 misread_made header h (Derives x) wanted found made a = absurd a
 
 -- what comes of a change that isn't granted
-pub record IsUngranted (header : Header) (h : List Entry) (n : ℕ) (left : Option Cut) (call : Call) (answer : Answer) (new : List Entry) : Type 0 where
+pub record IsUngranted (header : Header) (h : List Entry) (n : ℕ) (left : Option Left) (call : Call) (answer : Answer) (new : List Entry) : Type 0 where
   pub replies : RepliesAlone header h 0 call answer new
   pub sealed : IsSealedAlone new n
   pub core : StoresCallAlone header h n left call answer new n left
   pub bodies_same : bodies new ≡ bodies h
   pub down_same : is_down new ≡ is_down h
 
-pub ungranted : {header : Header} {h : List Entry} {call : Call} {new : List Entry} (n : ℕ) (left : Option Cut) (fault : ChangeFault) → IsSealedAlone h n → n ≤ length (bodies h) → is_disk_fault {T = calls.Granted} (Err fault) ≡ false
+pub ungranted : {header : Header} {h : List Entry} {call : Call} {new : List Entry} (n : ℕ) (left : Option Left) (fault : ChangeFault) → is_under_way left ≡ false → IsSealedAlone h n → n ≤ length (bodies h) → is_disk_fault {T = calls.Granted} (Err fault) ≡ false
     → Replies header h 0 call (stored_answer (Err fault)) new → StoresCall header h n 0 call (stored_answer (Err fault)) new → IsUngranted header h n left call (stored_answer (Err fault)) new
-ungranted {header} {h} {call} {new} n left (changes.Refused e) all most undone r core =
+ungranted {header} {h} {call} {new} n left (changes.Refused e) idle all most undone r core =
     let alone = refused_alone e r in
     record {
       replies = alone.0;
       sealed = subst (λ g. IsSealedAlone g n) (sym alone.1) all;
-      core = refused_core call n left e all most r;
+      core = refused_core call n left e idle all most r;
       bodies_same = ap (λ (g : List Entry). bodies g) alone.1;
       down_same = ap (λ (g : List Entry). is_down g) alone.1;
     }
-ungranted {header} {h} {call} {new} n left changes.DiskFault all most undone r core = absurd (true≢false undone)
-ungranted {header} {h} {call} {new} n left changes.ReadFault all most undone r core =
+ungranted {header} {h} {call} {new} n left changes.DiskFault idle all most undone r core = absurd (true≢false undone)
+ungranted {header} {h} {call} {new} n left changes.ReadFault idle all most undone r core =
     let made = unread_made header h call r.made r.answers in
     let grows : new ≡ h ++ entry_by 0 (Fault false) ∷ [] = r.new_is ∙ ap (λ made. h ++ entries_of 0 made) made in
     let same = ap (λ (g : List Entry). bodies g) grows ∙ bodies-fault h 0 false in
@@ -344,7 +381,7 @@ ungranted {header} {h} {call} {new} n left changes.ReadFault all most undone r c
       bodies_same = same;
       down_same = ap (λ (g : List Entry). is_down g) grows ∙ down-fault h 0;
     }
-ungranted {header} {h} {call} {new} n left (changes.BadBytes wanted found) all most undone r core =
+ungranted {header} {h} {call} {new} n left (changes.BadBytes wanted found) idle all most undone r core =
     let made = misread_made header h call wanted found r.made r.answers in
     let same : new ≡ h = r.new_is ∙ ap (λ made. h ++ entries_of 0 made) made ∙ append-nil h in
     record {
@@ -356,9 +393,9 @@ ungranted {header} {h} {call} {new} n left (changes.BadBytes wanted found) all m
     }
 
 -- the disk was read, or not even that
-pub ungranted_leaves : (header : Header) (h front new : List Entry) (n : ℕ) (m after : Meaning) → IsSealedAlone h n → n ≤ length (bodies h) → bodies front ≡ bodies h → is_down front ≡ is_down h → (is_down h ≡ true → after ≡ m)
-    → ((image : List ℕ) → IsImage after.state image → StandsNow header front n image) → LeavesOnly (IsImage after.state) m after → LeavesChange header h new m after
-ungranted_leaves header h front new n m after all most same down still stands only = by (is_down h) refl
+pub ungranted_leaves : (header : Header) (h front new : List Entry) (n : ℕ) (left : Option Left) (m after : Meaning) → IsSealedAlone h n → n ≤ length (bodies h) → bodies front ≡ bodies h → is_under_way left ≡ false → is_cut_off left ≡ is_down h → (is_down h ≡ true → after ≡ m)
+    → ((image : List ℕ) → IsImage after.state image → StandsNow header front n (reach_of n left) image) → LeavesOnly (IsImage after.state) m after → LeavesChange header h new m after
+ungranted_leaves header h front new n left m after all most same idle broken still stands only = by (is_down h) refl
   where
     by : (t : Bool) → is_down h ≡ t → LeavesChange header h new m after
     by true e = subst (λ (d : Meaning). LeavesChange header h new m d) (sym (still e)) (leaves_nothing m)
@@ -366,12 +403,13 @@ ungranted_leaves header h front new n m after all most same down still stands on
         let least = all.0 e in
         let whole : n ≡ length (bodies h) = omega arith in
         let part : bodies (sealed_part n front) ≡ bodies h = ap (λ g. bodies g) (part_same n front h same) ∙ ap (λ k. bodies (sealed_part k h)) whole ∙ part_whole h in
-        inl (elim (stands image is) as (λ _. Stands header image h) [ inl sealed ↦ stands-same header image (sealed_part n front) h part sealed | inr all ↦ absurd (true≢false (sym all.0 ∙ down ∙ e)) ]))) only
+        let at_n : reach_of n left ≡ n = ap (reach_of n) (none_of left (broken ∙ e) idle) in
+        inl (elim (stands image is) as (λ _. Stands header image h) [ inl sealed ↦ stands-same header image (sealed_part n front) h part sealed | inr all ↦ stands-same header image (sealed_part n front) h part (subst (λ i. StandsFor header front i image) at_n all) ]))) only
 
 -- ---- what is told of the seal, of the values before the change
 
-pub seal_leaves : (header header1 : Header) (front : List Entry) (n n1 : ℕ) (m m1 new : Meaning) → header1 ≡ header → n1 ≡ n → m1 ≡ m → (IsTrue m1.honest → LeavesSeal header1 front n1 m1 new) → IsTrue m.honest → LeavesSeal header front n m new
-seal_leaves header header1 front n n1 m m1 new eh en em leaves =
-    subst (λ (d : Meaning). IsTrue d.honest → LeavesSeal header front n d new) em
-    (subst (λ k. IsTrue m1.honest → LeavesSeal header front k m1 new) en
-    (subst (λ x. IsTrue m1.honest → LeavesSeal x front n1 m1 new) eh leaves))
+pub seal_leaves : (header header1 : Header) (front new : List Entry) (n n1 after reach : ℕ) (left left1 : Option Left) (m now : Meaning) → header1 ≡ header → n1 ≡ n → left1 ≡ left → (IsTrue m.honest → LeavesSeals header1 front n1 (group_end n1 left1) new after reach m now) → IsTrue m.honest → LeavesSeals header front n (group_end n left) new after reach m now
+seal_leaves header header1 front new n n1 after reach left left1 m now eh en el leaves =
+    subst (λ (o : Option Left). IsTrue m.honest → LeavesSeals header front n (group_end n o) new after reach m now) el
+    (subst (λ k. IsTrue m.honest → LeavesSeals header front k (group_end k left1) new after reach m now) en
+    (subst (λ x. IsTrue m.honest → LeavesSeals x front n1 (group_end n1 left1) new after reach m now) eh leaves))

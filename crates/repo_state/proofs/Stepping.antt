@@ -1,6 +1,6 @@
 -- The calls of a repository in a file as steps of the core, by their answers.
 use Rattle.std.proofs.Common.{◌≡◌, ℕ, ◌<◌, Bool, true, false, List, length, [], ◌∷◌, ◌++◌, refl, sym, ap, subst, ◌∙◌, append-nil}
-use Rattle.std.specs.Prelude.{Option, None, Some, Result, Ok, Err, IfOk}
+use Rattle.std.specs.Prelude.{◌⊎◌, Option, None, Some, Result, Ok, Err, IfOk}
 use mathlib.Core.Logic.{inl, inr}
 use Rattle.byte_fields.specs.Bytes.{Id}
 use Rattle.history_model.specs.History.{Fault, Entry, bodies, is_down, stored}
@@ -15,11 +15,11 @@ use Rattle.repo_calls.specs.Calls.{denied_path, refused}
 use Rattle.repo_calls.specs.declared.refusal.Refusal as refusal
 use Rattle.repo_calls.specs.declared.refusal.Refusal.TheVariants as refusals
 use Rattle.repo_machine.specs.Plans.{PlannedLanding, RebasedLanding, IsPlan, PassesPlan}
-use Rattle.core_model.specs.Core.{State, opened}
+use Rattle.core_model.specs.Core.{State, Step, WriteGroup, SyncGroup, OpenGate, Seal, opened}
 use Rattle.landing_core.specs.Steps.{Shows, HasPlan, all_calls, calls_to, Goes}
-use Rattle.landing_core.proofs.Asked.{stored_goes}
+use Rattle.landing_core.proofs.Asked.{after_then, stored_goes}
 use Rattle.landing_core.proofs.Exchanged.{landed_goes, moved_goes, refused_goes}
-use Rattle.landing_core.proofs.Sealed.{seal_goes, cut_goes}
+use Rattle.landing_core.proofs.Sealed.{write_goes, write_fails, open_goes, sync_fails, open_fails, end_goes, end_fails}
 use Rattle.landing_core.proofs.Others.{plan_goes, looked_goes, fault_goes, opened_shows}
 use Rattle.repo_machine.proofs.Judging.{refused_down}
 use Rattle.repo_state.specs.Alone.{wanted}
@@ -28,8 +28,10 @@ use Rattle.repo_state.proofs.Asked.{granted_ask, refuses_ask}
 use Rattle.repo_state.proofs.Storing.{refused_replies}
 use Rattle.repo_state.specs.Exchanging.{Exchanges}
 use Rattle.repo_journal.specs.declared.cut.Cut.{Cut}
-use Rattle.repo_state.specs.Cores.{StoresCall, Stays, asked_landing, ExchangesSo, SealsSo, ShowsLeft, Plans, LooksSo, cut_of}
-use Rattle.repo_state.proofs.LeftGates.{cut_shows, shows_none}
+use Rattle.repo_journal.specs.declared.cut.Cut.TheVariants as cuts
+use Rattle.repo_journal.specs.declared.left.At.TheVariants as stages
+use Rattle.repo_state.specs.Cores.{StoresCall, Stays, asked_landing, EndCalls, EndsSo, ExchangesSo, FailsFrom, RestSo, SealsSo, ShowsLeft, StepsSo, TurnSo, Plans, LooksSo, cut_of}
+use Rattle.repo_state.specs.declared.left.Left.{Left}
 use Rattle.repo_state.proofs.Opening.{stored_count}
 use Rattle.repo_state.specs.declared.exchanged.Exchanged.{Exchanged}
 use Rattle.repo_state.specs.declared.exchanged.Exchanged.TheVariants.{Landed, HeadMoved, Refused}
@@ -131,38 +133,176 @@ looks_fault header h new n who grows = λ s shows. fault_goes header h new n who
 -- ---- seals
 
 -- nothing is asked
-pub seals_nothing : (header : Header) (h : List Entry) (n : ℕ) (left : Option Cut) (who : ℕ) (failed : Bool) → SealsSo header h n left who failed h n left
+pub seals_nothing : (header : Header) (h : List Entry) (n : ℕ) (left : Option Left) (who : ℕ) (failed : Bool) → SealsSo header h n left who failed h n left
 seals_nothing header h n left who failed = λ s shows gate. ([], inl (refl, refl), record { state = s; taken = refl; meets = (shows, gate) })
 
-pub seals_all : (header : Header) (h : List Entry) (n p : ℕ) (left gate : Option Cut) (who : ℕ) → is_down h ≡ false → n < length (bodies h) → p ≡ length (bodies h) → gate ≡ None → SealsSo header h n left who false h p gate
-seals_all header h n p left gate who up some all none = λ s shows _.
-    (let goes = seal_goes header h n who s up some shows in (
-      all_calls who,
-      inr refl,
-      record {
-        state = goes.state;
-        taken = goes.taken;
-        meets = (subst (λ k. Shows h k goes.state) (sym all) goes.meets, subst (λ o. ShowsLeft o goes.state) (sym none) (shows_none h (length (bodies h)) goes.state up goes.meets));
-      },
-    ))
+pub steps_nothing : (header : Header) (h : List Entry) (n : ℕ) (left : Option Left) (who : ℕ) (failed : Bool) → StepsSo header h n left who failed h n left
+steps_nothing header h n left who failed = λ s shows gate. ([], inl (refl, refl), record { state = s; taken = refl; meets = (shows, gate) })
 
-pub seals_failed : (header : Header) (h new : List Entry) (n : ℕ) (left gate : Option Cut) (who : ℕ) (cut : Cut) → is_down h ≡ false → n < length (bodies h) → new ≡ h ++ entry_by who (Fault true) ∷ [] → gate ≡ Some cut → SealsSo header h n left who true new n gate
-seals_failed header h new n left gate who cut up some grows is = λ s shows _.
-    (let goes = cut_goes header h n who s (cut_of cut) up some shows in (
-      calls_to who (cut_of cut),
-      inr (cut, is, refl),
-      record {
-        state = goes.state;
-        taken = goes.taken;
-        meets = (subst (λ g. Shows g n goes.state) (sym grows) goes.meets, subst (λ o. ShowsLeft o goes.state) (sym is) (cut_shows header s goes.state who cut goes.taken));
-      },
-    ))
+pub step_turn : (header : Header) (h : List Entry) (n : ℕ) (left : Option Left) (who : ℕ) (failed : Bool) (new : List Entry) (after : ℕ) (gate : Option Left) → TurnSo header h n left who failed new after gate → StepsSo header h n left who failed new after gate
+step_turn header h n left who failed new after gate turn = λ s shows there. (let t = turn s shows there in (t.0, inr t.1, t.2))
+
+-- ---- turns
+
+abbrev broke : List Entry → ℕ → List Entry
+broke h who = h ++ entry_by who (Fault true) ∷ []
+
+pub begun_so : (header : Header) (h : List Entry) (n who : ℕ) → is_down h ≡ false → n < length (bodies h) → TurnSo header h n None who false h n (Some (record { upto = length (bodies h); at = stages.Laid }))
+begun_so header h n who up some = λ s shows there. (WriteGroup who true ∷ [], refl, write_goes header h n who s up some (shows, there))
+
+pub unbegun_so : (header : Header) (h : List Entry) (n who : ℕ) → is_down h ≡ false → n < length (bodies h) → TurnSo header h n None who true (broke h who) n (Some (record { upto = length (bodies h); at = stages.Cut cuts.Write }))
+unbegun_so header h n who up some = λ s shows there. (WriteGroup who false ∷ [], (refl, refl), write_fails header h n who s up some (shows, there))
+
+pub opened_so : (header : Header) (h : List Entry) (n who upto : ℕ) → TurnSo header h n (Some (record { upto = upto; at = stages.Laid })) who false h n (Some (record { upto = upto; at = stages.Opened }))
+opened_so header h n who upto = λ s shows there. (SyncGroup who true ∷ OpenGate who true ∷ [], refl, open_goes header h n who upto s (shows, there))
+
+pub unopened_so : (header : Header) (h : List Entry) (n who upto : ℕ) (cut : Cut) → (cut ≡ cuts.Sync) ⊎ (cut ≡ cuts.Open) → TurnSo header h n (Some (record { upto = upto; at = stages.Laid })) who true (broke h who) n (Some (record { upto = upto; at = stages.Cut cut }))
+unopened_so header h n who upto cut (inl e) =
+    subst (λ (c : Cut). TurnSo header h n (Some (record { upto = upto; at = stages.Laid })) who true (broke h who) n (Some (record { upto = upto; at = stages.Cut c }))) (sym e)
+    (λ s shows there. (SyncGroup who false ∷ [], inl (refl, refl), sync_fails header h n who upto s (shows, there)))
+unopened_so header h n who upto cut (inr e) =
+    subst (λ (c : Cut). TurnSo header h n (Some (record { upto = upto; at = stages.Laid })) who true (broke h who) n (Some (record { upto = upto; at = stages.Cut c }))) (sym e)
+    (λ s shows there. (SyncGroup who true ∷ OpenGate who false ∷ [], inr (refl, refl), open_fails header h n who upto s (shows, there)))
+
+pub closed_so : (header : Header) (h : List Entry) (n who upto : ℕ) → TurnSo header h n (Some (record { upto = upto; at = stages.Opened })) who false h upto None
+closed_so header h n who upto = λ s shows there. (Seal who true ∷ [], refl, end_goes header h n who upto s (shows, there))
+
+pub unclosed_so : (header : Header) (h : List Entry) (n who upto : ℕ) (cut : Cut) → cut ≡ cuts.Seal → TurnSo header h n (Some (record { upto = upto; at = stages.Opened })) who true (broke h who) n (Some (record { upto = upto; at = stages.Cut cut }))
+unclosed_so header h n who upto cut e =
+    subst (λ (c : Cut). TurnSo header h n (Some (record { upto = upto; at = stages.Opened })) who true (broke h who) n (Some (record { upto = upto; at = stages.Cut c }))) (sym e)
+    (λ s shows there. (Seal who false ∷ [], (refl, refl), end_fails header h n who upto s (shows, there)))
+
+-- at other names of the same values
+pub turn_at : (header : Header) (h new new1 : List Entry) (n after after1 : ℕ) (left left1 gate gate1 : Option Left) (who : ℕ) (failed : Bool) → left1 ≡ left → new1 ≡ new → after1 ≡ after → gate1 ≡ gate → TurnSo header h n left who failed new after gate → TurnSo header h n left1 who failed new1 after1 gate1
+turn_at header h new new1 n after after1 left left1 gate gate1 who failed el en ea eg turn =
+    subst (λ (o : Option Left). TurnSo header h n o who failed new1 after1 gate1) (sym el)
+    (subst (λ (g : List Entry). TurnSo header h n left who failed g after1 gate1) (sym en)
+    (subst (λ (k : ℕ). TurnSo header h n left who failed new k gate1) (sym ea)
+    (subst (λ (o : Option Left). TurnSo header h n left who failed new after o) (sym eg) turn)))
+
+-- ---- one after another
+
+join_goes : {P Q : State → Type 0} (header : Header) (s : State) (first rest : List Step) → (a : Goes header s first P) → Goes header a.state rest Q → Goes header s (first ++ rest) Q
+join_goes {P} {Q} header s first rest a b = record { state = b.state; taken = after_then header s a.state first rest a.taken ∙ b.taken; meets = b.meets }
+
+abbrev ShownAt : List Entry → ℕ → Option Left → State → Type 0
+ShownAt h n gate t = Shows h n t × ShowsLeft gate t
+
+-- all the calls up to one that fails
+pub cut_so : (header : Header) (h : List Entry) (n who : ℕ) (cut : Cut) → is_down h ≡ false → n < length (bodies h) → (s : State) → Shows h n s → ShowsLeft None s → Goes header s (calls_to who (cut_of cut)) (ShownAt (broke h who) n (Some (record { upto = length (bodies h); at = stages.Cut cut })))
+cut_so header h n who cuts.Write up some s shows none = write_fails header h n who s up some (shows, none)
+cut_so header h n who cuts.Sync up some s shows none =
+    let a = write_goes header h n who s up some (shows, none) in
+    join_goes header s (WriteGroup who true ∷ []) (SyncGroup who false ∷ []) a (sync_fails header h n who (length (bodies h)) a.state a.meets)
+cut_so header h n who cuts.Open up some s shows none =
+    let a = write_goes header h n who s up some (shows, none) in
+    join_goes header s (WriteGroup who true ∷ []) (SyncGroup who true ∷ OpenGate who false ∷ []) a (open_fails header h n who (length (bodies h)) a.state a.meets)
+cut_so header h n who cuts.Seal up some s shows none =
+    let a = write_goes header h n who s up some (shows, none) in
+    let b = open_goes header h n who (length (bodies h)) a.state a.meets in
+    join_goes header s (WriteGroup who true ∷ []) (SyncGroup who true ∷ OpenGate who true ∷ Seal who false ∷ []) a
+    (join_goes header a.state (SyncGroup who true ∷ OpenGate who true ∷ []) (Seal who false ∷ []) b (end_fails header h n who (length (bodies h)) b.state b.meets))
+
+abbrev group_laid : ℕ → Option Left
+group_laid upto = Some (record { upto = upto; at = stages.Laid })
+
+abbrev group_opened : ℕ → Option Left
+group_opened upto = Some (record { upto = upto; at = stages.Opened })
+
+-- the gate is opened, and the group is sealed, or that fails
+pub ends_both : (header : Header) (h h1 h2 : List Entry) (n n1 n2 upto who : ℕ) (failed : Bool) (mid gate : Option Left) → mid ≡ Some (record { upto = upto; at = stages.Opened }) → TurnSo header h n (Some (record { upto = upto; at = stages.Laid })) who false h1 n1 mid → TurnSo header h1 n1 mid who failed h2 n2 gate
+    → EndsSo header h n (Some (record { upto = upto; at = stages.Laid })) who failed h2 n2 gate
+ends_both header h h1 h2 n n1 n2 upto who failed mid gate is first second = by failed (subst (λ (o : Option Left). TurnSo header h n (Some (record { upto = upto; at = stages.Laid })) who false h1 n1 o) is first) (subst (λ (o : Option Left). TurnSo header h1 n1 o who failed h2 n2 gate) is second)
+  where
+    by : (failed : Bool) → TurnSo header h n (group_laid upto) who false h1 n1 (group_opened upto) → TurnSo header h1 n1 (group_opened upto) who failed h2 n2 gate → EndsSo header h n (group_laid upto) who failed h2 n2 gate
+    by false first second s shows there =
+        let a = first s shows there in
+        let opens = subst (λ (x : List Step). Goes header s x (ShownAt h1 n1 (group_opened upto))) a.1 a.2 in
+        let b = second opens.state opens.meets.0 opens.meets.1 in
+        let seals = subst (λ (x : List Step). Goes header opens.state x (ShownAt h2 n2 gate)) b.1 b.2 in
+        (SyncGroup who true ∷ OpenGate who true ∷ Seal who true ∷ [], refl, join_goes header s (SyncGroup who true ∷ OpenGate who true ∷ []) (Seal who true ∷ []) opens seals)
+    by true first second s shows there =
+        let a = first s shows there in
+        let opens = subst (λ (x : List Step). Goes header s x (ShownAt h1 n1 (group_opened upto))) a.1 a.2 in
+        let b = second opens.state opens.meets.0 opens.meets.1 in
+        let seals = subst (λ (x : List Step). Goes header opens.state x (ShownAt h2 n2 gate)) b.1.1 b.2 in
+        (SyncGroup who true ∷ OpenGate who true ∷ Seal who false ∷ [], (cuts.Seal, b.1.0, refl), join_goes header s (SyncGroup who true ∷ OpenGate who true ∷ []) (Seal who false ∷ []) opens seals)
+
+-- it is sealed, or that fails
+pub ends_last : (header : Header) (h h2 : List Entry) (n n2 upto who : ℕ) (failed : Bool) (left gate : Option Left) → left ≡ Some (record { upto = upto; at = stages.Opened }) → TurnSo header h n left who failed h2 n2 gate → EndsSo header h n left who failed h2 n2 gate
+ends_last header h h2 n n2 upto who failed left gate is turn = subst (λ (o : Option Left). EndsSo header h n o who failed h2 n2 gate) (sym is) (by failed (subst (λ (o : Option Left). TurnSo header h n o who failed h2 n2 gate) is turn))
+  where
+    by : (failed : Bool) → TurnSo header h n (group_opened upto) who failed h2 n2 gate → EndsSo header h n (group_opened upto) who failed h2 n2 gate
+    by false turn s shows there = (let b = turn s shows there in (b.0, b.1, b.2))
+    by true turn s shows there = (let b = turn s shows there in (b.0, (cuts.Seal, b.1.0, b.1.1), b.2))
+
+-- opening the gate fails
+pub ends_unopened : (header : Header) (h h2 : List Entry) (n n2 upto who : ℕ) (left gate : Option Left) → left ≡ Some (record { upto = upto; at = stages.Laid }) → TurnSo header h n left who true h2 n2 gate → EndsSo header h n left who true h2 n2 gate
+ends_unopened header h h2 n n2 upto who left gate is turn = subst (λ (o : Option Left). EndsSo header h n o who true h2 n2 gate) (sym is) (by (subst (λ (o : Option Left). TurnSo header h n o who true h2 n2 gate) is turn))
+  where
+    by : TurnSo header h n (group_laid upto) who true h2 n2 gate → EndsSo header h n (group_laid upto) who true h2 n2 gate
+    by turn s shows there =
+        let b = turn s shows there in
+        elim b.1 as (λ _. (steps : List Step) × EndCalls who true (group_laid upto) gate steps × Goes header s steps (ShownAt h2 n2 gate)) [
+          | inl sync ↦ (b.0, (cuts.Sync, sync.0, sync.1), b.2)
+          | inr gate ↦ (b.0, (cuts.Open, gate.0, gate.1), b.2)
+        ]
+
+-- nothing is under way
+pub ends_nothing : (header : Header) (h : List Entry) (n who : ℕ) (left : Option Left) → left ≡ None → EndsSo header h n left who false h n left
+ends_nothing header h n who left none = subst (λ (o : Option Left). EndsSo header h n o who false h n o) (sym none) (λ s shows there. ([], refl, record { state = s; taken = refl; meets = (shows, there) }))
+
+-- all that waits is written, and then sealed, or that fails
+from_cut : (who : ℕ) (cut : Cut) (steps : List Step) → FailsFrom who stages.Laid cut steps → WriteGroup who true ∷ steps ≡ calls_to who (cut_of cut)
+from_cut who cuts.Write steps f = absurd f
+from_cut who cuts.Sync steps f = ap (λ (x : List Step). WriteGroup who true ∷ x) f
+from_cut who cuts.Open steps f = ap (λ (x : List Step). WriteGroup who true ∷ x) f
+from_cut who cuts.Seal steps f = ap (λ (x : List Step). WriteGroup who true ∷ x) f
+
+pub rest_so : (header : Header) (h h1 h2 : List Entry) (n n1 n2 upto who : ℕ) (failed : Bool) (mid gate : Option Left) → mid ≡ Some (record { upto = upto; at = stages.Laid }) → TurnSo header h n None who false h1 n1 mid → EndsSo header h1 n1 mid who failed h2 n2 gate → RestSo header h n who failed h2 n2 gate
+rest_so header h h1 h2 n n1 n2 upto who failed mid gate is first second = by failed (subst (λ (o : Option Left). TurnSo header h n None who false h1 n1 o) is first) (subst (λ (o : Option Left). EndsSo header h1 n1 o who failed h2 n2 gate) is second)
+  where
+    by : (failed : Bool) → TurnSo header h n None who false h1 n1 (group_laid upto) → EndsSo header h1 n1 (group_laid upto) who failed h2 n2 gate → RestSo header h n who failed h2 n2 gate
+    by false first second s shows there =
+        let a = first s shows there in
+        let writes = subst (λ (x : List Step). Goes header s x (ShownAt h1 n1 (group_laid upto))) a.1 a.2 in
+        let b = second writes.state writes.meets.0 writes.meets.1 in
+        let seals = subst (λ (x : List Step). Goes header writes.state x (ShownAt h2 n2 gate)) b.1 b.2 in
+        (all_calls who, refl, join_goes header s (WriteGroup who true ∷ []) (SyncGroup who true ∷ OpenGate who true ∷ Seal who true ∷ []) writes seals)
+    by true first second s shows there =
+        let a = first s shows there in
+        let writes = subst (λ (x : List Step). Goes header s x (ShownAt h1 n1 (group_laid upto))) a.1 a.2 in
+        let b = second writes.state writes.meets.0 writes.meets.1 in
+        (WriteGroup who true ∷ b.0, (b.1.0, b.1.1, from_cut who b.1.0 b.0 b.1.2), join_goes header s (WriteGroup who true ∷ []) b.0 writes b.2)
+
+-- writing it fails
+pub rest_unbegun : (header : Header) (h h2 : List Entry) (n n2 who : ℕ) (gate : Option Left) → TurnSo header h n None who true h2 n2 gate → RestSo header h n who true h2 n2 gate
+rest_unbegun header h h2 n n2 who gate turn = λ s shows there. (let a = turn s shows there in (a.0, (cuts.Write, a.1.0, a.1.1), a.2))
+
+-- the group under way was enough, or failed
+pub seals_ended : (header : Header) (h h2 : List Entry) (n n2 who : ℕ) (failed : Bool) (left gate : Option Left) → EndsSo header h n left who failed h2 n2 gate → SealsSo header h n left who failed h2 n2 gate
+seals_ended header h h2 n n2 who false left gate ends = λ s shows there. (let a = ends s shows there in (a.0, inr (inl a.1), a.2))
+seals_ended header h h2 n n2 who true left gate ends = λ s shows there. (let a = ends s shows there in (a.0, inr (a.1.0, a.1.1, inl a.1.2), a.2))
+
+-- or the rest is sealed too
+pub seals_rest : (header : Header) (h h1 h2 : List Entry) (n n1 n2 who : ℕ) (failed : Bool) (left mid gate : Option Left) → mid ≡ None → EndsSo header h n left who false h1 n1 mid → RestSo header h1 n1 who failed h2 n2 gate → SealsSo header h n left who failed h2 n2 gate
+seals_rest header h h1 h2 n n1 n2 who failed left mid gate is first second = by failed (subst (λ (o : Option Left). EndsSo header h n left who false h1 n1 o) is first) second
+  where
+    by : (failed : Bool) → EndsSo header h n left who false h1 n1 None → RestSo header h1 n1 who failed h2 n2 gate → SealsSo header h n left who failed h2 n2 gate
+    by false first second s shows there =
+        let a = first s shows there in
+        let b = second a.2.state a.2.meets.0 a.2.meets.1 in
+        (a.0 ++ b.0, inr (inr (λ i. a.1 i ++ b.1 i)), join_goes header s a.0 b.0 a.2 b.2)
+    by true first second s shows there =
+        let a = first s shows there in
+        let b = second a.2.state a.2.meets.0 a.2.meets.1 in
+        (a.0 ++ b.0, inr (b.1.0, b.1.1, inr (λ i. a.1 i ++ b.1.2 i)), join_goes header s a.0 b.0 a.2 b.2)
 
 -- ---- as it is opened
 
 pub opened_as : (h : List Entry) (n : ℕ) → n ≡ length (stored h) → h ≡ stored h → Shows h n (opened h)
-opened_as h n count alone = subst (λ k. Shows h k (opened h)) (sym (count ∙ stored_count h)) (opened_shows h (ap is_down alone ∙ is_down-stored h))
+opened_as h n count alone = subst (λ k. Shows h k (opened h)) (sym (count ∙ stored_count h)) (opened_shows h (ap is_down alone ∙ is_down-stored h)).0
 
--- nothing is left over then
-pub opened_left : (h : List Entry) (left : Option Cut) → left ≡ None → ShowsLeft left (opened h)
+-- no group is under way then
+pub opened_left : (h : List Entry) (left : Option Left) → left ≡ None → ShowsLeft left (opened h)
 opened_left h left none = subst (λ o. ShowsLeft o (opened h)) (sym none) refl

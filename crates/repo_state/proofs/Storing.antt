@@ -21,6 +21,7 @@ use Rattle.repo_machine.specs.Asked.{JudgesCall}
 use Rattle.repo_machine.specs.Entering.{Judges}
 use Rattle.repo_machine.specs.Held.{Room}
 use Rattle.repo_machine.specs.Judged.{JudgedChange, IsJudged, Frames}
+use Rattle.repo_state.specs.Groups.{left_of, reach_of}
 use Rattle.repo_state.specs.Images.{sealed_part}
 use Rattle.repo_state.specs.Joining.{Holds as HoldsNext}
 use Rattle.repo_state.specs.State.{State, HasFaultRoom, IsSound, opening_of}
@@ -78,18 +79,18 @@ still h h1 who o none e = e ∙ ap (λ (o : Option Body). h ++ entries_of who (r
 
 -- ---- it is entered, and waits
 
-pub holds_entered : (header header1 header2 : Header) (h h1 h2 : List Entry) (n : ℕ) (ask : Ask) (judged : JudgedChange) (frame : List ℕ) (journal after : JournalView) (first m : Meaning)
+pub holds_entered : (header header1 header2 : Header) (h h1 h2 : List Entry) (n : ℕ) (ask : Ask) (judged : JudgedChange) (frame : List ℕ) (upto : ℕ) (journal after : JournalView) (first m : Meaning)
     → header1 ≡ header → header2 ≡ header1 → h1 ≡ h → h2 ≡ h1 ++ entries_of judged.who (record { entry = judged.made; fault = None }) → (making : Making header h ask judged frame) → disk.IsSound m
     → after ≡ record journal { pending = after.pending } → after.pending.bytes ≡ grown journal.pending.bytes frame
     → (IsTrue m.honest → HoldsParts (with_group journal.size journal.pending.bytes m.state.reads) (bodies h) making.body)
-    → Holds first m header h n journal → Holds first m header2 h2 n after
-holds_entered header header1 header2 h h1 h2 n ask judged frame journal after first m eh1 eh2 e1 e2 making told same grows parts holds =
+    → Holds first m header h n upto journal → Holds first m header2 h2 n upto after
+holds_entered header header1 header2 h h1 h2 n ask judged frame upto journal after first m eh1 eh2 e1 e2 making told same grows parts holds =
     let entry : Entry = entry_by judged.who making.body in
     let now : h2 ≡ h ++ entry ∷ [] = e2 ∙ ap (λ (g : List Entry). g ++ entries_of judged.who (record { entry = judged.made; fault = None })) e1 ∙ ap (λ (o : Option Body). h ++ entries_of judged.who (record { entry = o; fault = None })) making.made_is in
-    holds_at first m header header2 (h ++ entry ∷ []) h2 n after (eh2 ∙ eh1) now (
-      subst (λ o. IsSound (opening_of header o first) (h ++ entry ∷ []) n m) (sym (ap (λ (j : JournalView). j.opening) same))
-          (sound_entered (opening_of header journal.opening first) h n entry m making.up making.kind making.follows holds.1.waits.most holds.0),
-      agrees_entered header h n entry making.payload frame journal after m making.up told holds.0.legal making.kind making.follows making.is_payload making.framed_is same grows parts holds.1,
+    holds_at first m header header2 (h ++ entry ∷ []) h2 n upto after (eh2 ∙ eh1) now (
+      subst (λ (j : JournalView). IsSound (opening_of header j.opening first) (h ++ entry ∷ []) n (reach_of n (left_of upto j.left)) m) (sym same)
+          (sound_entered (opening_of header journal.opening first) h n (reach_of n (left_of upto journal.left)) entry m making.kind making.follows holds.1.waits.most holds.0),
+      agrees_entered header h n upto entry making.payload frame journal after m told holds.0.legal making.kind making.follows making.is_payload making.framed_is same grows parts holds.1,
     )
 
 -- what it needs of the file, as the repository tells

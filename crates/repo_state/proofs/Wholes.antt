@@ -6,7 +6,7 @@ use mathlib.Core.Bool.{true≢false}
 use Rattle.disk_model.specs.Meaning.{Meaning}
 use Rattle.changeset_model.specs.Path.{Path}
 use Rattle.changeset_model.specs.Changeset.{Changeset}
-use Rattle.history_model.specs.History.{Body, Entry, bodies, is_down, known}
+use Rattle.history_model.specs.History.{Body, Entry, bodies, known}
 use Rattle.history_model.specs.Journal.{Header, HoldsParts, size}
 use Rattle.opening_laws.proofs.Made.{MakesEach, Fitting, MadeBy, judge_makes}
 use Rattle.reply_model.specs.Reply.{Ask, PutContent, PutWhole, PutChangeset, SetBookmark, LandDraft, SetPolicy, Granted, unresolved_of, judge}
@@ -84,9 +84,9 @@ all_behind P (suc n) [] all = tt
 all_behind P (suc n) (x ∷ xs) all = all_behind P n xs all.1
 
 -- behind each image of the file it has what the parts of its wholes need
-pub group_holds : (header : Header) (h : List Entry) (n : ℕ) (journal : JournalView) (m : Meaning) (bytes : List ℕ) → Agrees header h n journal m → is_down h ≡ false → IsTrue m.honest → journal.pending.bytes ≡ bytes → GroupHolds m.state (size (sealed_part n h)) bytes (bodies h) (drop n (bodies h))
-group_holds header h n journal m bytes agrees up honest is = λ before left.
+pub group_holds : (header : Header) (h : List Entry) (n upto : ℕ) (journal : JournalView) (m : Meaning) (bytes : List ℕ) → Agrees header h n upto journal m → journal.left ≡ None → IsTrue m.honest → journal.pending.bytes ≡ bytes → GroupHolds m.state (size (sealed_part n h)) bytes (bodies h) (drop n (bodies h))
+group_holds header h n upto journal m bytes agrees none honest is = λ before left.
     (let all = agrees.holds honest in
     let file : with_group journal.size journal.pending.bytes m.state.reads ≡ with_group (size (sealed_part n h)) bytes before =
-    (λ i. with_group (agrees.size_is i) (is i) (sym (agrees.stable honest up before left) i)) in
+    (λ i. with_group (agrees.size_is i) (is i) (sym (agrees.stable honest none before left) i)) in
     all_behind (HoldsParts (with_group (size (sealed_part n h)) bytes before) (bodies h)) n (bodies h) (subst (λ f. AllByRecursion (HoldsParts f (bodies h)) (bodies h)) file all))

@@ -3,13 +3,14 @@
 --     IsSealedFor before call between result after      then this is answered, once what waited in the state between is sealed
 use Rattle.std.specs.Prelude.{◌≡◌, ◌≤◌, false, IsTrue, Result, length}
 use Rattle.ports.specs.Faults.{Counts}
-use Rattle.history_model.specs.History.{bodies}
+use Rattle.history_model.specs.History.{bodies, is_down}
 use Rattle.reply_model.specs.After.{Call, Replies}
 use Rattle.repo_calls.specs.Asking.{stored_answer, is_disk_fault}
 use Rattle.repo_calls.specs.declared.ask.Granted.{Granted}
 use Rattle.repo_calls.specs.declared.calls.ChangeFault.{ChangeFault}
 use Rattle.repo_state.specs.Alone.{RepliesAlone}
 use Rattle.repo_state.specs.Cores.{StoresCall, StoresCallAlone}
+use Rattle.repo_state.specs.Groups.{is_cut_off, is_under_way}
 use Rattle.repo_state.specs.Images.{LeavesChange}
 use Rattle.repo_state.specs.State.{State, IsSealedAlone}
 
@@ -20,6 +21,9 @@ pub record IsStored (before : State) (call : Call) (stored : Result Granted Chan
   pub header : after.header ≡ before.header
   pub sealed : after.sealed ≡ before.sealed
   pub left : after.left ≡ before.left
+  -- between calls no group is under way
+  pub idle : is_under_way before.left ≡ false
+  pub broken : is_cut_off before.left ≡ is_down before.history
   pub replies : Replies before.header before.history 0 call (stored_answer stored) after.history
   pub core : StoresCall before.header before.history before.sealed 0 call (stored_answer stored) after.history
 

@@ -1,4 +1,5 @@
 pub mod Images
+pub mod Groups
 pub mod State
 pub mod Manifests
 pub mod Asking

@@ -7,15 +7,16 @@ ghost use Rattle.bookmark_lock.specs.Opening.{Opening};
 ghost use Rattle.reply_model.specs.After.{Asks, Call};
 ghost use Rattle.reply_model.specs.Reply.{PutContent};
 ghost use Rattle.repo_calls.proofs.Honest.{honestly};
+ghost use Rattle.repo_calls.proofs.Sealing.{honestly_wider};
 ghost use Rattle.repo_calls.specs.Calls.{call_seen, granted_seen};
 ghost use Rattle.repo_calls.specs.Asking.{stored_answer, is_disk_fault, is_misread, is_unread};
 ghost use Rattle.repo_calls.specs.Replying.{Honestly};
 ghost use Rattle.repo_state.specs.Asking.{is_join};
-ghost use Rattle.repo_state.specs.Alone.{RepliesAlone, replying_alone};
+ghost use Rattle.repo_state.specs.Alone.{RepliesAlone, SealedAlone, alone_wider, sealed_alone};
 ghost use Rattle.repo_state.specs.AloneSteps.{IsSealedFor, IsStored};
 ghost use Rattle.repo_state.specs.Cores.{StoresCallAlone};
 ghost use Rattle.repo_state.specs.Images.{LeavesChange};
-ghost use Rattle.repo_state.specs.State.{State, IsSealedAlone, IsSound, LeavesNow};
+ghost use Rattle.repo_state.specs.State.{State, IsSealedAlone, IsSound, LeavesNow, reach};
 ghost use Rattle.repo_state.specs.Trees.{LandsAs};
 
 use crate::state::RepoState;
@@ -71,9 +72,10 @@ impl<D: Disk> Alone<D> {
     pub fn store(&mut self, alloc: Global, ask: &Ask) -> Result<Granted, ChangeFault>
         ensures reply { RepliesAlone self.old.header self.old.history 0 (call_seen ask.now) (stored_answer result) self.new.history }
         ensures header { self.new.header ≡ self.old.header }
+        ensures seals { self.old.sealed ≤ self.new.sealed }
         ensures opening { self.new.opening ≡ self.old.opening }
         ensures table { self.new.table ≡ self.old.table }
-        ensures sound { IsSound self.new.opening self.new.history self.new.sealed self.new.disk }
+        ensures sound { IsSound self.new.opening self.new.history self.new.sealed (reach self.new) self.new.disk }
         ensures leaves_now { LeavesNow self.new }
 
         // What is granted is sealed.
@@ -103,7 +105,7 @@ impl<D: Disk> Alone<D> {
         // It is these steps of the repository of many seats.
         ensures core { StoresCallAlone self.old.header self.old.history self.old.sealed self.old.left (call_seen ask.now) (stored_answer result) self.new.history self.new.sealed self.new.left }
     {
-        // What is sealed is stored, and the header is that of the opening.
+        // What is sealed is stored, no group is under way, and the header is that of the opening.
         let _stored = self.state.stored_length();
         let _length = self.state.history_length();
         let stored = self.state.store(alloc, 0, ask);
@@ -119,9 +121,10 @@ impl<D: Disk> Alone<D> {
     ) -> Result<Granted, ChangeFault>
         ensures reply { RepliesAlone self.old.header self.old.history 0 (Asks (PutContent content)) (stored_answer result) self.new.history }
         ensures header { self.new.header ≡ self.old.header }
+        ensures seals { self.old.sealed ≤ self.new.sealed }
         ensures opening { self.new.opening ≡ self.old.opening }
         ensures table { self.new.table ≡ self.old.table }
-        ensures sound { IsSound self.new.opening self.new.history self.new.sealed self.new.disk }
+        ensures sound { IsSound self.new.opening self.new.history self.new.sealed (reach self.new) self.new.disk }
         ensures leaves_now { LeavesNow self.new }
 
         // What is granted is sealed.
@@ -142,8 +145,9 @@ impl<D: Disk> Alone<D> {
         // It is these steps of the repository of many seats.
         ensures core { StoresCallAlone self.old.header self.old.history self.old.sealed self.old.left (Asks (PutContent content)) (stored_answer result) self.new.history self.new.sealed self.new.left }
     {
-        // What is sealed is stored.
+        // What is sealed is stored, and no group is under way.
         let _stored = self.state.stored_length();
+        let _length = self.state.history_length();
         let entered = self.state.store_framed(alloc, 0, content);
         self.state.seal_stored(entered)
     }
@@ -153,9 +157,10 @@ impl<D: Disk> RepoState<D> {
     // Seals the entry of a change of the only seat, if it made one, and answers the change.
     fn seal_stored(&mut self, stored: Result<Granted, ChangeFault>) -> Result<Granted, ChangeFault>
         ensures header { self.new.header ≡ self.old.header }
+        ensures seals { self.old.sealed ≤ self.new.sealed }
         ensures opening { self.new.opening ≡ self.old.opening }
         ensures table { self.new.table ≡ self.old.table }
-        ensures sound { IsSound self.new.opening self.new.history self.new.sealed self.new.disk }
+        ensures sound { IsSound self.new.opening self.new.history self.new.sealed (reach self.new) self.new.disk }
         ensures leaves_now { LeavesNow self.new }
         ensures kept { Kept self.old.disk self.new.disk }
         ensures sealed { IfOk result (λ granted. length (bodies self.new.history) ≤ self.new.sealed) }
@@ -185,17 +190,24 @@ impl<D: Disk> Seat for Alone<D> {
 
     ghost number = { λ _. 0 };
 
+    ghost sealed = { λ s. s.sealed };
+
     ghost Home = { Opening };
 
     ghost home = { λ s. s.opening };
 
-    ghost replies = { λ opening. Honestly opening.honest RepliesAlone };
+    ghost replies = { λ opening n. Honestly opening.honest (SealedAlone n) };
 
+    fn sealed(&self) -> u64 {
+        self.state.sealed()
+    }
+
+    #[tactic(auto, using(crate::proofs::AloneSealed::change_owed))]
     fn change(&mut self, alloc: Global, ask: &Ask) -> Result<Granted, ChangeFault> {
         self.store(alloc, ask)
     }
 
-    #[tactic(auto, using(crate::proofs::AloneSteps::alone_memory))]
+    #[tactic(auto, using(crate::proofs::AloneSealed::change_owed, crate::proofs::AloneSealed::memory_owed))]
     fn put_content(&mut self, alloc: Global, bytes: Vec<u8>) -> Result<Granted, ChangeFault> {
         if bytes.len() as u64 > MOST_CONTENT {
             return self.store(alloc, &Ask::PutContent(bytes.as_slice()));
@@ -206,9 +218,12 @@ impl<D: Disk> Seat for Alone<D> {
         self.store_framed(alloc, content)
     }
 
+    #[tactic(auto, using(crate::proofs::AloneSealed::look_owed))]
     fn look(&mut self, alloc: Global, question: &Question) -> Result<Seen, AskFault> {
         self.state.look(alloc, 0, question)
     }
 
-    ghost lawful = { λ opening. honestly opening.honest RepliesAlone replying_alone };
+    ghost lawful = { λ opening n. honestly opening.honest (SealedAlone n) (sealed_alone n) };
+
+    ghost widens = { λ opening m n le. honestly_wider opening.honest (SealedAlone m) (SealedAlone n) (alone_wider m n le) };
 }

@@ -12,7 +12,7 @@ ghost use Rattle.repo_machine.specs.Indexes.{StandsAt};
 ghost use Rattle.repo_state.specs.Asking.{IsReadFor, IsUnsealed, TellsDigest};
 ghost use Rattle.repo_state.specs.Cores.{LooksSo};
 ghost use Rattle.repo_state.specs.Joining.{AreStanding, ids_of};
-ghost use Rattle.repo_state.specs.State.{IsSound, LeavesNow};
+ghost use Rattle.repo_state.specs.State.{IsSound, LeavesNow, reach};
 
 use crate::fill::{fill, fill_parts, total};
 use crate::read_content::{ReadContent, check_digest};
@@ -32,7 +32,7 @@ impl<D: Disk> RepoState<D> {
         ensures opening { self.new.opening ≡ self.old.opening }
         ensures sealed { self.new.sealed ≡ self.old.sealed }
         ensures table { self.new.table ≡ self.old.table }
-        ensures sound { IsSound self.new.opening self.new.history self.new.sealed self.new.disk }
+        ensures sound { IsSound self.new.opening self.new.history self.new.sealed (reach self.new) self.new.disk }
         ensures left { self.new.left ≡ self.old.left }
         ensures leaves_now { LeavesNow self.new }
         ensures looked { Looked self.old.disk self.new.disk }
@@ -80,7 +80,7 @@ impl<D: Disk> RepoState<D> {
         ensures opening { self.new.opening ≡ self.old.opening }
         ensures sealed { self.new.sealed ≡ self.old.sealed }
         ensures table { self.new.table ≡ self.old.table }
-        ensures sound { IsSound self.new.opening self.new.history self.new.sealed self.new.disk }
+        ensures sound { IsSound self.new.opening self.new.history self.new.sealed (reach self.new) self.new.disk }
         ensures left { self.new.left ≡ self.old.left }
         ensures leaves_now { LeavesNow self.new }
         ensures looked { Looked self.old.disk self.new.disk }
@@ -131,7 +131,7 @@ impl<D: Disk> RepoState<D> {
         ensures opening { self.new.opening ≡ self.old.opening }
         ensures sealed { self.new.sealed ≡ self.old.sealed }
         ensures table { self.new.table ≡ self.old.table }
-        ensures sound { IsSound self.new.opening self.new.history self.new.sealed self.new.disk }
+        ensures sound { IsSound self.new.opening self.new.history self.new.sealed (reach self.new) self.new.disk }
         ensures left { self.new.left ≡ self.old.left }
         ensures leaves_now { LeavesNow self.new }
         ensures looked { Looked self.old.disk self.new.disk }
@@ -181,7 +181,7 @@ impl<D: Disk> RepoState<D> {
         ensures opening { self.new.opening ≡ self.old.opening }
         ensures sealed { self.new.sealed ≡ self.old.sealed }
         ensures table { self.new.table ≡ self.old.table }
-        ensures sound { IsSound self.new.opening self.new.history self.new.sealed self.new.disk }
+        ensures sound { IsSound self.new.opening self.new.history self.new.sealed (reach self.new) self.new.disk }
         ensures left { self.new.left ≡ self.old.left }
         ensures leaves_now { LeavesNow self.new }
         ensures looked { Looked self.old.disk self.new.disk }

@@ -5,7 +5,7 @@ ghost use Rattle.repo_machine.specs.Held.{HasRoom};
 ghost use Rattle.repo_machine.specs.Plans.{WasPlanned, frame_size, landing_in};
 ghost use Rattle.repo_state.specs.Cores.{ExchangesSo};
 ghost use Rattle.repo_state.specs.Exchanging.{Exchanges};
-ghost use Rattle.repo_state.specs.State.{HasRecordRoom, IsSound, LeavesNow};
+ghost use Rattle.repo_state.specs.State.{HasRecordRoom, IsSound, LeavesNow, reach};
 ghost use Rattle.repo_state.specs.Trees.{LandsSo};
 
 use crate::exchanged::Exchanged;
@@ -28,7 +28,7 @@ impl<D: Disk> RepoState<D> {
         ensures table { self.new.table ≡ self.old.table }
         ensures sealed { self.new.sealed ≡ self.old.sealed }
         ensures disk { self.new.disk ≡ self.old.disk }
-        ensures sound { IsSound self.new.opening self.new.history self.new.sealed self.new.disk }
+        ensures sound { IsSound self.new.opening self.new.history self.new.sealed (reach self.new) self.new.disk }
         ensures left { self.new.left ≡ self.old.left }
         ensures leaves_now { LeavesNow self.new }
 

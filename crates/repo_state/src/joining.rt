@@ -13,7 +13,7 @@ ghost use Rattle.repo_calls.specs.Asking.{is_disk_fault, is_misread, is_unread, 
 ghost use Rattle.repo_state.specs.Cores.{StoresCall};
 ghost use Rattle.repo_state.specs.Filling.{piece_of};
 ghost use Rattle.repo_state.specs.Joining.{AreStanding, IsJoinOf, IsReadWhole, JoinFails, TellsUnread, ids_of as ids_in, is_disks, piece_fault};
-ghost use Rattle.repo_state.specs.State.{IsSound, LeavesNow};
+ghost use Rattle.repo_state.specs.State.{IsSound, LeavesNow, reach};
 
 use crate::fill::total;
 use crate::state::RepoState;
@@ -40,7 +40,7 @@ impl<D: Disk> RepoState<D> {
         ensures opening { self.new.opening ≡ self.old.opening }
         ensures table { self.new.table ≡ self.old.table }
         ensures sealed { self.new.sealed ≡ self.old.sealed }
-        ensures sound { IsSound self.new.opening self.new.history self.new.sealed self.new.disk }
+        ensures sound { IsSound self.new.opening self.new.history self.new.sealed (reach self.new) self.new.disk }
         ensures left { self.new.left ≡ self.old.left }
         ensures leaves_now { LeavesNow self.new }
         ensures looked { Looked self.old.disk self.new.disk }
@@ -81,7 +81,7 @@ impl<D: Disk> RepoState<D> {
         ensures opening { self.new.opening ≡ self.old.opening }
         ensures table { self.new.table ≡ self.old.table }
         ensures sealed { self.new.sealed ≡ self.old.sealed }
-        ensures sound { IsSound self.new.opening self.new.history self.new.sealed self.new.disk }
+        ensures sound { IsSound self.new.opening self.new.history self.new.sealed (reach self.new) self.new.disk }
         ensures left { self.new.left ≡ self.old.left }
         ensures leaves_now { LeavesNow self.new }
         ensures looked { Looked self.old.disk self.new.disk }

@@ -12,19 +12,19 @@ ghost use Rattle.landing_core.specs.Settled.{leaves_manifests};
 ghost use Rattle.node_table.specs.Table.{Table};
 ghost use Rattle.manifest_store.specs.Manifests.{AreManifests};
 ghost use Rattle.bookmark_lock.specs.Opening.{Opening};
-ghost use Rattle.repo_journal.specs.declared.cut.Cut.{Cut};
 ghost use Rattle.repo_state.specs.Cores.{CrashesOf, ShowsLeft, ShowsTable, leaves_gate};
 ghost use Rattle.repo_state.specs.Images.{sealed_part};
 ghost use Rattle.repo_state.specs.State.{IsSound, LeavesAfter};
+ghost use Rattle.repo_state.specs.declared.left.Left.{Left};
 
-/// What a crash may leave of the file on an honest disk is what a crash of the repository of many seats leaves: of each state that shows the history and, where a seal failed, the group that is left over with its gate as the call that failed leaves it.
+/// What a crash may leave of the file on an honest disk is what a crash of the repository of many seats leaves: of each state that shows the history and the group that is being sealed or, where a seal failed, left over, with its gate as it may stand then.
 pub fn a_crash_of_the_file_is_one_of_the_core()
-    ensures { (header : Header) (h : List Entry) (n : ℕ) (pending : List ℕ) (left : Option Cut) (m : Meaning) (s : State) → LeavesAfter header h n pending left m → IsTrue m.honest → Shows h n s → ShowsLeft left s → CrashesOf header m s }
+    ensures { (header : Header) (h : List Entry) (n : ℕ) (pending : List ℕ) (left : Option Left) (m : Meaning) (s : State) → LeavesAfter header h n pending left m → IsTrue m.honest → Shows h n s → ShowsLeft left s → CrashesOf header m s }
 {}
 
-/// Steps that seal nothing and are no crash leave the group that is left over, with its gate as it was.
+/// Steps that seal nothing and are no crash leave the group that is being sealed or left over, with its gate as it was.
 pub fn other_steps_leave_the_gate()
-    ensures { (header : Header) (left : Option Cut) (steps : List Step) (s after : State) → AllByRecursion (λ step. leaves_gate step ≡ true) steps → after_steps header s steps ≡ Some after → ShowsLeft left s → ShowsLeft left after }
+    ensures { (header : Header) (left : Option Left) (steps : List Step) (s after : State) → AllByRecursion (λ step. leaves_gate step ≡ true) steps → after_steps header s steps ≡ Some after → ShowsLeft left s → ShowsLeft left after }
 {}
 
 /// Steps that neither take nor settle a job leave what is shown of a table, also where more becomes known.
@@ -35,6 +35,6 @@ pub fn other_steps_leave_the_table()
 
 /// Each image of the file on an honest disk, in this state of the repository and in each later one, stands for a history that begins with what is sealed now.
 pub fn what_is_sealed_outlasts_a_crash()
-    ensures { (opening : Opening) (h later : List Entry) (n more : ℕ) (m : Meaning) (image : List ℕ) → n ≤ length (bodies h) → IsPrefix h later → n ≤ more → IsSound opening later more m → IsTrue m.honest → IsImage m.state image
+    ensures { (opening : Opening) (h later : List Entry) (n more reach : ℕ) (m : Meaning) (image : List ℕ) → n ≤ length (bodies h) → IsPrefix h later → n ≤ more → IsSound opening later more reach m → IsTrue m.honest → IsImage m.state image
         → (g : List Entry) × Stands opening.header image g × IsPrefix (sealed_part n h) g }
 {}

@@ -14,7 +14,7 @@ ghost use Rattle.manifest_store.specs.Manifests.{AreManifests};
 ghost use Rattle.repo_state.specs.Cores.{LooksSo};
 ghost use Rattle.repo_state.specs.Manifests.{asks_manifest};
 ghost use Rattle.settled_merge.specs.Settling.{StaySettled};
-ghost use Rattle.repo_state.specs.State.{IsSound, LeavesNow};
+ghost use Rattle.repo_state.specs.State.{IsSound, LeavesNow, reach};
 
 use crate::state::RepoState;
 use blob_disk::Disk;
@@ -33,7 +33,7 @@ impl<D: Disk> RepoState<D> {
         ensures header { self.new.header ≡ self.old.header }
         ensures opening { self.new.opening ≡ self.old.opening }
         ensures sealed { self.new.sealed ≡ self.old.sealed }
-        ensures sound { IsSound self.new.opening self.new.history self.new.sealed self.new.disk }
+        ensures sound { IsSound self.new.opening self.new.history self.new.sealed (reach self.new) self.new.disk }
         ensures left { self.new.left ≡ self.old.left }
         ensures leaves_now { LeavesNow self.new }
         ensures looked { Looked self.old.disk self.new.disk }
@@ -100,7 +100,7 @@ impl<D: Disk> RepoState<D> {
     // A page of the log.
     fn page(&self, alloc: Global, from: u64) -> Result<Seen, AskFault>
         ensures answer { (answer : Answer) × IsAnswer result answer × Answers self.now.header self.now.history (Looks (LogFrom from)) answer nothing }
-        ensures sound { IsSound self.now.opening self.now.history self.now.sealed self.now.disk }
+        ensures sound { IsSound self.now.opening self.now.history self.now.sealed (reach self.now) self.now.disk }
         ensures read { (is_read_fault result ≡ false) × (is_bad_bytes result ≡ false) }
     {
         match self.machine.log(alloc, from) {
@@ -112,7 +112,7 @@ impl<D: Disk> RepoState<D> {
     // The encoding of a changeset.
     fn encoding(&self, alloc: Global, id: Id) -> Result<Seen, AskFault>
         ensures answer { (answer : Answer) × IsAnswer result answer × Answers self.now.header self.now.history (Looks (ChangesetOf id)) answer nothing }
-        ensures sound { IsSound self.now.opening self.now.history self.now.sealed self.now.disk }
+        ensures sound { IsSound self.now.opening self.now.history self.now.sealed (reach self.now) self.now.disk }
         ensures read { (is_read_fault result ≡ false) × (is_bad_bytes result ≡ false) }
     {
         let commit = self.changeset(id)?;
@@ -125,7 +125,7 @@ impl<D: Disk> RepoState<D> {
     // What a changeset sets as copies.
     fn copies(&self, alloc: Global, id: Id) -> Result<Seen, AskFault>
         ensures answer { (answer : Answer) × IsAnswer result answer × Answers self.now.header self.now.history (Looks (CopiesOf id)) answer nothing }
-        ensures sound { IsSound self.now.opening self.now.history self.now.sealed self.now.disk }
+        ensures sound { IsSound self.now.opening self.now.history self.now.sealed (reach self.now) self.now.disk }
         ensures read { (is_read_fault result ≡ false) × (is_bad_bytes result ≡ false) }
     {
         match self.machine.copies(alloc, id) {
@@ -137,7 +137,7 @@ impl<D: Disk> RepoState<D> {
     // The text of the policy that is held, or of the one that has this number in the log.
     fn policy(&self, alloc: Global, number: Option<u64>) -> Result<Seen, AskFault>
         ensures answer { (answer : Answer) × IsAnswer result answer × Answers self.now.header self.now.history (Looks (PolicyOf number)) answer nothing }
-        ensures sound { IsSound self.now.opening self.now.history self.now.sealed self.now.disk }
+        ensures sound { IsSound self.now.opening self.now.history self.now.sealed (reach self.now) self.now.disk }
         ensures read { (is_read_fault result ≡ false) × (is_bad_bytes result ≡ false) }
     {
         let Some(text) = self.machine.policy(number) else {
@@ -154,7 +154,7 @@ impl<D: Disk> RepoState<D> {
         ensures ok { IfOk result (λ commit. changeset_of (known self.now.history) id ≡ Some (arc_value commit)) }
         ensures err { IfErr result (λ fault. Answers self.now.header self.now.history (Looks (ChangesetOf id)) (fault_answer fault) nothing) }
         ensures read { (is_read_fault result ≡ false) × (is_bad_bytes result ≡ false) }
-        ensures sound { IsSound self.now.opening self.now.history self.now.sealed self.now.disk }
+        ensures sound { IsSound self.now.opening self.now.history self.now.sealed (reach self.now) self.now.disk }
     {
         match self.machine.shared_changeset(&id) {
             Ok(Some(commit)) => Ok(commit),

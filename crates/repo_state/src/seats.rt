@@ -1,7 +1,7 @@
 //! Seats' numbers.
 ghost use Rattle.std.specs.Prelude.{◌≡◌};
 ghost use Rattle.repo_machine.specs.Seats.{cleared};
-ghost use Rattle.repo_state.specs.State.{IsSound, LeavesNow};
+ghost use Rattle.repo_state.specs.State.{IsSound, LeavesNow, reach};
 
 use crate::state::RepoState;
 use blob_disk::Disk;
@@ -15,7 +15,7 @@ impl<D: Disk> RepoState<D> {
         ensures opening { self.new.opening ≡ self.old.opening }
         ensures table { self.new.table ≡ self.old.table }
         ensures sealed { self.new.sealed ≡ self.old.sealed }
-        ensures sound { IsSound self.new.opening self.new.history self.new.sealed self.new.disk }
+        ensures sound { IsSound self.new.opening self.new.history self.new.sealed (reach self.new) self.new.disk }
         ensures left { self.new.left ≡ self.old.left }
         ensures leaves_now { LeavesNow self.new }
     {

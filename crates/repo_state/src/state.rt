@@ -7,12 +7,13 @@ ghost use Rattle.landing_core.specs.Steps.{Shows};
 ghost use Rattle.node_table.specs.Table.{empty_table};
 ghost use Rattle.repo_journal.specs.Opened.{IsOpened};
 ghost use Rattle.repo_state.specs.Cores.{ShowsLeft, ShowsTable};
-ghost use Rattle.repo_state.specs.State.{IsSound, LeavesNow, opening_of};
+ghost use Rattle.repo_state.specs.State.{IsSound, LeavesNow, opening_of, reach};
 
+use crate::left::Left;
 use blob_disk::Disk;
 use bookmark_lock::Recorded;
 use manifest_store::ManifestStore;
-use repo_journal::{Cut, Journal};
+use repo_journal::Journal;
 use repo_machine::Machine;
 use std::alloc::Global;
 use std::marker::Model;
@@ -26,12 +27,15 @@ pub struct RepoState<D: Disk> {
     pub(crate) sealed: u64,
     pub(crate) manifests: ManifestStore,
     pub(crate) journal: Journal,
+    // How many entries are stored up to the end of the group whose seal was begun last.
+    pub(crate) group_end: u64,
     pub(crate) disk: D,
     // The disk as it was once all was read.
     pub(crate) first: Snapshot<D>,
 }
 
 impl<D: Disk> Model for RepoState<D> {
+    ghost use Rattle.repo_state.specs.Groups.{left_of, reach_of};
     ghost use Rattle.repo_state.specs.State.{State, IsSound, Agrees, HasFaultRoom, opening_of};
     ghost use Rattle.repo_state.specs.Manifests.{HasManifests};
 
@@ -47,15 +51,15 @@ impl<D: Disk> Model for RepoState<D> {
       history = s.machine.history;
       sealed = s.sealed;
       pending = s.journal.pending;
-      left = s.journal.broken;
+      left = left_of s.group_end s.journal.left;
       room = s.machine.room;
       table = s.manifests;
       disk = D.meaning s.disk;
       opening = opening_of s.machine.header s.journal.opening (D.meaning s.first.value);
     } };
 
-    ghost invariant = { λ s. ((IsSound (opening_of s.machine.header s.journal.opening (D.meaning s.first.value)) s.machine.history s.sealed (D.meaning s.disk)
-        × Agrees s.machine.header s.machine.history s.sealed s.journal (D.meaning s.disk))
+    ghost invariant = { λ s. ((IsSound (opening_of s.machine.header s.journal.opening (D.meaning s.first.value)) s.machine.history s.sealed (reach_of s.sealed (left_of s.group_end s.journal.left)) (D.meaning s.disk)
+        × Agrees s.machine.header s.machine.history s.sealed s.group_end s.journal (D.meaning s.disk))
         × HasFaultRoom s.machine.history s.sealed s.machine.room)
         × HasManifests s.machine.header s.machine.history s.manifests };
 }
@@ -71,7 +75,7 @@ impl<D: Disk> RepoState<D> {
         ensures sealed { result.sealed ≡ length (bodies machine.history) }
         ensures disk { result.disk ≡ D.meaning disk }
         ensures opening { result.opening ≡ opening_of machine.header journal.opening (D.meaning disk) }
-        ensures sound { IsSound result.opening result.history result.sealed result.disk }
+        ensures sound { IsSound result.opening result.history result.sealed (reach result) result.disk }
         ensures leaves_now { LeavesNow result }
         ensures table { result.table ≡ empty_table }
 
@@ -89,6 +93,7 @@ impl<D: Disk> RepoState<D> {
             sealed,
             manifests: ManifestStore::new(alloc),
             journal,
+            group_end: sealed,
             disk,
             first,
         }
@@ -97,7 +102,7 @@ impl<D: Disk> RepoState<D> {
     /// Its disk.
     pub fn into_disk(self) -> D
         ensures disk { D.meaning result ≡ self.disk }
-        ensures sound { IsSound self.opening self.history self.sealed self.disk }
+        ensures sound { IsSound self.opening self.history self.sealed (reach self) self.disk }
         ensures leaves_now { LeavesNow self }
     {
         self.disk
@@ -110,18 +115,22 @@ impl<D: Disk> RepoState<D> {
         self.machine.down()
     }
 
-    /// Which call of the disk failed in a seal, if one did.
-    pub fn left(&self) -> Option<Cut>
+    /// The group whose seal was begun and isn't done, or was cut off by a call of the disk that failed.
+    pub fn left(&self) -> Option<Left>
         ensures { result ≡ self.now.left }
     {
-        self.journal.broken()
+        let left = self.journal.left()?;
+        Some(Left {
+            upto: self.group_end,
+            at: left.at,
+        })
     }
 
     /// How many entries the history has, with its faults.
     pub fn history_length(&self) -> u64
         ensures length { result ≡ length self.now.history }
         ensures header { self.now.header ≡ self.now.opening.header }
-        ensures sound { IsSound self.now.opening self.now.history self.now.sealed self.now.disk }
+        ensures sound { IsSound self.now.opening self.now.history self.now.sealed (reach self.now) self.now.disk }
         ensures leaves_now { LeavesNow self.now }
     {
         self.machine.history_length()
@@ -150,7 +159,17 @@ impl<D: Disk> Recorded for RepoState<D> {
 
     ghost sealed = { λ s. s.sealed };
 
+    ghost reach = { reach };
+
+    ghost most = { 1 };
+
+    ghost disk = { λ s. s.disk };
+
     fn length_word(&self) -> u64 {
         self.history_length()
+    }
+
+    fn sealed_count(&self) -> u64 {
+        self.sealed()
     }
 }

@@ -14,7 +14,7 @@ ghost use Rattle.repo_machine.specs.Prepared.{IsPrepared, asked_by};
 ghost use Rattle.repo_state.specs.Asking.{is_join};
 ghost use Rattle.repo_state.specs.Cores.{StoresCall};
 ghost use Rattle.repo_state.specs.Joining.{Holds};
-ghost use Rattle.repo_state.specs.State.{IsSound, LeavesNow, entered_answer};
+ghost use Rattle.repo_state.specs.State.{IsSound, LeavesNow, entered_answer, reach};
 ghost use Rattle.repo_state.specs.Trees.{LandsAs};
 
 use crate::state::RepoState;
@@ -36,7 +36,7 @@ impl<D: Disk> RepoState<D> {
         ensures opening { self.new.opening ≡ self.old.opening }
         ensures table { self.new.table ≡ self.old.table }
         ensures sealed { self.new.sealed ≡ self.old.sealed }
-        ensures sound { IsSound self.new.opening self.new.history self.new.sealed self.new.disk }
+        ensures sound { IsSound self.new.opening self.new.history self.new.sealed (reach self.new) self.new.disk }
         ensures left { self.new.left ≡ self.old.left }
         ensures leaves_now { LeavesNow self.new }
         ensures looked { Looked self.old.disk self.new.disk }
@@ -86,7 +86,7 @@ impl<D: Disk> RepoState<D> {
         ensures opening { self.new.opening ≡ self.old.opening }
         ensures table { self.new.table ≡ self.old.table }
         ensures sealed { self.new.sealed ≡ self.old.sealed }
-        ensures sound { IsSound self.new.opening self.new.history self.new.sealed self.new.disk }
+        ensures sound { IsSound self.new.opening self.new.history self.new.sealed (reach self.new) self.new.disk }
         ensures left { self.new.left ≡ self.old.left }
         ensures leaves_now { LeavesNow self.new }
         ensures looked { Looked self.old.disk self.new.disk }
@@ -143,7 +143,7 @@ impl<D: Disk> RepoState<D> {
         ensures opening { self.new.opening ≡ self.old.opening }
         ensures table { self.new.table ≡ self.old.table }
         ensures sealed { self.new.sealed ≡ self.old.sealed }
-        ensures sound { IsSound self.new.opening self.new.history self.new.sealed self.new.disk }
+        ensures sound { IsSound self.new.opening self.new.history self.new.sealed (reach self.new) self.new.disk }
         ensures left { self.new.left ≡ self.old.left }
         ensures leaves_now { LeavesNow self.new }
         ensures disk { self.new.disk ≡ self.old.disk }
@@ -176,7 +176,7 @@ impl<D: Disk> RepoState<D> {
         ensures opening { self.new.opening ≡ self.old.opening }
         ensures table { self.new.table ≡ self.old.table }
         ensures sealed { self.new.sealed ≡ self.old.sealed }
-        ensures sound { IsSound self.new.opening self.new.history self.new.sealed self.new.disk }
+        ensures sound { IsSound self.new.opening self.new.history self.new.sealed (reach self.new) self.new.disk }
         ensures left { self.new.left ≡ self.old.left }
         ensures leaves_now { LeavesNow self.new }
         ensures disk { self.new.disk ≡ self.old.disk }
@@ -219,7 +219,7 @@ impl<D: Disk> RepoState<D> {
         ensures table { self.new.table ≡ self.old.table }
         ensures sealed { self.new.sealed ≡ self.old.sealed }
         ensures disk { self.new.disk ≡ self.old.disk }
-        ensures sound { IsSound self.new.opening self.new.history self.new.sealed self.new.disk }
+        ensures sound { IsSound self.new.opening self.new.history self.new.sealed (reach self.new) self.new.disk }
         ensures left { self.new.left ≡ self.old.left }
         ensures leaves_now { LeavesNow self.new }
     {

@@ -1,5 +1,5 @@
 -- A seat that shows what a read asks for, or tells why it shows nothing, whatever the history is. It grants no change.
---     IsTold call answer      it may answer the call so;  lawful      a seat may have this relation
+--     IsTold call answer      it may answer the call so;  lawful, widens      a seat may have this relation
 --     IsLanding entry, IsPage page      the log may tell this of some entry, and this page of some entries, of which there are no more than it says
 use Rattle.std.specs.Prelude.{◌≡◌, ◌≤◌, List, length, Some}
 use Rattle.history_model.specs.History.{Entry}
@@ -10,6 +10,7 @@ use Rattle.repo_calls.specs.declared.log.LogEntry.{LogEntry}
 use Rattle.repo_calls.specs.declared.log.LogPage.{LogPage}
 use Rattle.repo_calls.specs.Calls.{line_seen, lines_seen}
 use Rattle.repo_calls.specs.Replying.{Shown, IsReplying}
+use Rattle.repo_calls.specs.Widening.{Widens}
 
 abbrev pub IsShown : Call → Seen → Type 0
 IsShown (Asks ask) seen = ⊥
@@ -35,6 +36,9 @@ lawful = record {
   shown = λ header h who question seen new r. r;
   memory = λ header h who call answer new none r. tt;
 }
+
+pub widens : Widens (λ header h who call answer new. IsTold call answer) (λ header h who call answer new. IsTold call answer)
+widens = record { each = λ header h who call answer new r. r }
 
 abbrev pub IsLanding : LogEntry → Type 0
 IsLanding entry = (e : Entry) × (line_of e.body ≡ Some (line_seen entry))

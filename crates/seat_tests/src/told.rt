@@ -1,7 +1,7 @@
 //! A seat whose answers depend on what is asked for alone.
 ghost use Rattle.std.specs.Prelude.{[], IfOk};
 ghost use Rattle.bookmark_lock.specs.Opening.{unopened};
-ghost use Rattle.seat_tests.specs.Told.{IsTold, IsLanding, IsPage, lawful};
+ghost use Rattle.seat_tests.specs.Told.{IsTold, IsLanding, IsPage, lawful, widens};
 
 use object_id::Id;
 use repo_calls::{
@@ -34,7 +34,13 @@ impl Seat for Told {
 
     ghost home = { λ _. tt };
 
-    ghost replies = { λ _ _ _ _ call answer _. IsTold call answer };
+    ghost sealed = { λ _. 0 };
+
+    ghost replies = { λ _ _ _ _ _ call answer _. IsTold call answer };
+
+    fn sealed(&self) -> u64 {
+        0
+    }
 
     fn change(&mut self, _alloc: Global, ask: &Ask) -> Result<Granted, ChangeFault> {
         self.note(ask);
@@ -69,7 +75,9 @@ impl Seat for Told {
         }
     }
 
-    ghost lawful = { λ _. lawful };
+    ghost lawful = { λ _ _. lawful };
+
+    ghost widens = { λ _ _ _ _. widens };
 }
 
 fn path_of(alloc: Global, text: &str) -> Result<RepoPath, AskFault> {

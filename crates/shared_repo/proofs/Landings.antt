@@ -1,5 +1,5 @@
 -- What an exchange answers.
-use Rattle.std.proofs.Common.{◌≡◌, ℕ, false, List, Option, Some, Result, Ok, Err, refl, sym, subst, inl, inr, ◌∙◌}
+use Rattle.std.proofs.Common.{◌≡◌, ℕ, false, List, Option, None, Some, Result, Ok, Err, refl, sym, subst, inl, inr, ◌∙◌}
 use Rattle.std.proofs.lemmas.List.{append-nil}
 use Rattle.std.specs.Prelude.{IsSome, MatchOption, OnOk}
 use Rattle.std.specs.Result.{is_err, IfErr}
@@ -27,6 +27,12 @@ pub outcome_replies : (header : Header) (h new : List Entry) (who : ℕ) (r : Re
 outcome_replies header h new who r (Landed landed) e = e.1
 outcome_replies header h new who r (HeadMoved found) e = e.3
 outcome_replies header h new who r (Refused refusal) e = e.2
+
+-- where nothing came of it the history is as it was
+pub none_same : (header : Header) (h new : List Entry) (who : ℕ) (r : RebasedLanding) (x : Exchanged) → Exchanges header h who r x new → outcome_of x ≡ None → new ≡ h
+none_same header h new who r (Landed landed) e none = absurd cc
+none_same header h new who r (HeadMoved found) e none = e.3
+none_same header h new who r (Refused refusal) e none = absurd cc
 
 pub counted_replies : (header opened : Header) (h before new : List Entry) (who : ℕ) (r : RebasedLanding) (x : Exchanged) (granted : Result Granted ChangeFault) (answer : Answer) → Exchanges header h who r x new → header ≡ opened → h ≡ before → outcome_of x ≡ Some granted → answer ≡ stored_answer granted
     → Replies opened before who (Asks (LandDraft r.caller r.name r.draft r.asked)) answer new

@@ -9,3 +9,5 @@ pub mod LastTurns
 pub mod Sending
 pub mod Stored
 pub mod Turning
+pub mod Lastings
+pub mod Laters

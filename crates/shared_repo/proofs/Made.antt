@@ -1,13 +1,17 @@
 -- A change or a read makes one entry at most in its turn.
 use Rattle.std.proofs.Common.{◌≡◌, ℕ, ◌+◌, arith, length, length-append, append-nil, List, [], ◌∷◌, ◌++◌, Bool, true, false, Option, None, Some, Result, Ok, Err, refl, sym, subst, ◌∙◌, ap, inl, inr, ⊎_elim}
-use Rattle.std.specs.Prelude.{◌⊎◌, ◌≢◌, MatchBool}
-use Rattle.history_model.specs.History.{Entry, Body, Fault}
+use Rattle.std.specs.Prelude.{◌⊎◌, ◌≢◌, MatchBool, map, option_map, option_to_list}
+use Rattle.std.proofs.lemmas.List.Elements.{filter-append}
+use mathlib.Core.Bool.{true≢false}
+use Rattle.history_model.specs.History.{Entry, Body, Fault, is_down, is_stored}
+use Rattle.bookmark_lock.specs.Lasting.{entered}
+use Rattle.reply_model.proofs.Stored.{granted_is_up}
 use Rattle.history_model.specs.Journal.{Header}
 use Rattle.byte_fields.specs.Bytes.{Id}
 use Rattle.reply_model.specs.Reply as reply
-use Rattle.reply_model.specs.Reply.{LandDraft, Question, HeadOf, ContentOf, ChangesetOf, LogFrom, FsnodeOf, UnodeOf, HistoryOf, CopiesOf, PathLogOf, DeletedOf, PolicyOf}
+use Rattle.reply_model.specs.Reply.{LandDraft, PutWhole, Question, HeadOf, ContentOf, ChangesetOf, LogFrom, FsnodeOf, UnodeOf, HistoryOf, CopiesOf, PathLogOf, DeletedOf, PolicyOf}
 use Rattle.reply_model.specs.After as answers
-use Rattle.reply_model.specs.After.{Asks, Joins, Looks, Derives, Call, Answer, Grants, Refuses, Shows, Lacks, Roots, ReadFault, BadBytes, NodeCollision, Memory, Answers, Made, Replies, nothing, only_fault, entries_of}
+use Rattle.reply_model.specs.After.{Asks, Joins, Looks, Derives, Call, Answer, Grants, Refuses, Shows, Lacks, Roots, ReadFault, BadBytes, NodeCollision, Memory, Answers, Made, Replies, nothing, only_fault, entries_of, entry_by}
 use Rattle.repo_calls.specs.declared.calls.ChangeFault.{ChangeFault}
 use Rattle.repo_calls.specs.declared.calls.ChangeFault.TheVariants as faults
 use Rattle.repo_calls.specs.declared.refusal.Refusal.{Refusal}
@@ -166,6 +170,40 @@ changed : (header : Header) (h : List Entry) (who : ℕ) (call : Call) (entered 
 changed header h who call (Ok placed) made up a = granted_few who made (granted_calm header h call (granted_seen placed.granted) made a)
 changed header h who call (Err fault) made up a = look_few who made (fault_made header h call fault made up a)
 
+-- ---- what is stored once down
+
+nothing_enters : (who : ℕ) (made : Made) → made.entry ≡ None → entered (entries_of who made) ≡ []
+nothing_enters who made none = ap (λ (entry : Option Body). entered (map (entry_by who) (option_to_list entry ++ option_to_list (option_map Fault made.fault)))) none ∙ by made.fault
+  where
+    by : (fault : Option Bool) → entered (map (entry_by who) ([] ++ option_to_list (option_map Fault fault))) ≡ []
+    by None = refl
+    by (Some breaking) = refl
+
+enters_none : (h new : List Entry) (who : ℕ) (made : Made) → new ≡ h ++ entries_of who made → made.entry ≡ None → entered new ≡ entered h
+enters_none h new who made is none =
+    ap entered is ∙ (filter-append (λ (x : Entry). is_stored x.body) h (entries_of who made) ∙ (ap (λ (l : List Entry). entered h ++ l) (nothing_enters who made none) ∙ append-nil (entered h)))
+
+look_none : (made : Made) → IsLook made → made.entry ≡ None
+look_none made (inl none) = ap (λ (m : Made). m.entry) none
+look_none made (inr fault) = ap (λ (m : Made). m.entry) fault
+
+-- what is granted was granted before it was down
+granted_none : (header : Header) (h : List Entry) (call : Call) (granted : reply.Granted) (made : Made) → is_down h ≡ true → Answers header h call (Grants granted) made → made.entry ≡ None
+granted_none header h (Asks ask) granted made down a = absurd (true≢false (sym down ∙ granted_is_up header h ask _ a.1))
+granted_none header h (Joins body) granted made down a = absurd (true≢false (sym down ∙ granted_is_up header h (PutWhole body a.1) _ a.3))
+granted_none header h (Looks question) granted made down a = absurd a
+granted_none header h (Derives id) granted made down a = absurd a
+
+changed_none : (header : Header) (h : List Entry) (call : Call) (result : Result Placed ChangeFault) (made : Made) → is_disk_fault result ≡ false → is_down h ≡ true → Answers header h call (placed_answer result) made → made.entry ≡ None
+changed_none header h call (Ok placed) made up down a = granted_none header h call (granted_seen placed.granted) made down a
+changed_none header h call (Err fault) made up down a = look_none made (fault_made header h call fault made up a)
+
+pub change_ends : (header : Header) (h new : List Entry) (who : ℕ) (call : Call) (result : Result Placed ChangeFault) → is_disk_fault result ≡ false → Replies header h who call (placed_answer result) new → is_down h ≡ true → entered new ≡ entered h
+change_ends header h new who call result up r down = enters_none h new who r.made r.new_is (changed_none header h call result r.made up down r.answers)
+
+pub look_ends : (header : Header) (h new : List Entry) (who : ℕ) (q : Question) (answer : Answer) → Replies header h who (Looks q) answer new → entered new ≡ entered h
+look_ends header h new who q answer r = enters_none h new who r.made r.new_is (look_none r.made (looked header h q answer r.made r.answers))
+
 -- ---- what was added, by the lengths
 
 adds : (who : ℕ) (h new : List Entry) (made : Made) → IsFew who made → new ≡ h ++ entries_of who made → (n m : ℕ) → n ≡ length new → m ≡ length h → (added : Bool) → MatchBool added (n ≢ m) (n ≡ m)
@@ -200,6 +238,14 @@ makes header h new who r (Landed landed) e =
 makes header h new who r (HeadMoved found) e = record { made = nothing; few_is = inl refl; new_is = e.3 ∙ sym (append-nil h) }
 makes header h new who r (Refused refusal) e =
     let told = e.2 in record { made = told.made; few_is = of_nothing who told.made (refused_made header h (Asks (LandDraft r.caller r.name r.draft r.asked)) refusal told.made told.answers); new_is = told.new_is }
+
+pub exchange_ends : (header : Header) (h new : List Entry) (who : ℕ) (r : RebasedLanding) (x : Exchanged) → Exchanges header h who r x new → is_down h ≡ true → entered new ≡ entered h
+exchange_ends header h new who r (Landed landed) e down =
+    let told = e.1 in enters_none h new who told.made told.new_is (granted_none header h (Asks (LandDraft r.caller r.name r.draft r.asked)) _ told.made down told.answers)
+exchange_ends header h new who r (HeadMoved found) e down = ap entered e.3
+exchange_ends header h new who r (Refused refusal) e down =
+    let told = e.2 in
+    enters_none h new who told.made told.new_is (ap (λ (m : Made). m.entry) (refused_made header h (Asks (LandDraft r.caller r.name r.draft r.asked)) refusal told.made told.answers))
 
 pub exchange_adds : (header : Header) (h new : List Entry) (who : ℕ) (r : RebasedLanding) (x : Exchanged) → Exchanges header h who r x new → (n m : ℕ) → n ≡ length new → m ≡ length h → (added : Bool) → MatchBool added (n ≢ m) (n ≡ m)
     → MatchBool added ((e : Entry) × (e.who ≡ who) × (new ≡ h ++ e ∷ [])) (new ≡ h)

@@ -5,6 +5,8 @@ use denote.Param.Send.{IsSend, IsSync, sendable}
 use Rattle.std.proofs.Crossing as own
 use Rattle.std.proofs.MapsCrossing as maps
 use Rattle.blob_disk.specs.declared.disk.Disk as disks
+use Rattle.blob_disk.specs.declared.disk.Flush as flushes
+use Rattle.blob_disk.specs.declared.disk.Peer as peers
 use Rattle.bonsai.specs.contracts.commit.Commit as Commit
 use Rattle.changeset_store.specs.contracts.store.ChangesetStore as Store
 use Rattle.node_parts.specs.contracts.part.Part as Part
@@ -25,6 +27,7 @@ use Rattle.shared_repo.specs.contracts.repo.Repo as Repo
 use Rattle.shared_repo.specs.contracts.seat.RepoSeat as RepoSeat
 use Rattle.atomic_table.proofs.badge.Badge.TheSendSync as badges
 use Rattle.bookmark_lock.specs.contracts.lock.TurnLock as Lock
+use Rattle.bookmark_lock.specs.contracts.seat.Seat as Inner
 use Rattle.bookmark_lock.specs.declared.value.Recorded as recorded
 use Rattle.atomic_table.proofs.shared.Shared.TheSendSync as shares
 use Rattle.atomic_table.proofs.send_lease.SendLease.TheSendSync as leases
@@ -88,15 +91,20 @@ option_send T s = search sendable depth 20
 pub lock_sync : (T : RattleType) (g : recorded.Ghosts T.Denot) → IsSend T → IsSync (Lock.the_row T g)
 lock_sync T g s = let o = option_send T s in search (table_sync, sendable) depth 20
 
-module _ (D : RattleType) (disk : disks.Ghosts D.Denot) (may : IsSend D) where
+-- of a disk, its syncs and its second handles, of which it keeps none
+module _ (D F P : RattleType) (disk : disks.Ghosts D.Denot F.Denot P.Denot) (flush : flushes.Ghosts F.Denot) (peer : peers.Ghosts P.Denot) (may : IsSend D) where
   pub snapshot_send : IsSend (Snapshot.the_row D)
   snapshot_send = search (own.crosses, sendable) depth 60
 
-  pub state_send : IsSend (State.the_row D disk)
-  state_send = let m = machine_send in let j = journal_send in let s = snapshot_send in let t = manifests_send in search sendable depth 20
+  pub state_send : IsSend (State.the_row D F P disk)
+  state_send = let m = machine_send in let j = journal_send in let s = snapshot_send in let t = manifests_send in search (own.crosses, sendable) depth 60
 
-  pub repo_sync : IsSync (Repo.the_row D disk)
+  pub repo_sync : IsSync (Repo.the_row D F P disk flush peer)
   repo_sync = let s = state_send in search (lock_sync, sendable) depth 20
 
+-- a seat of the lock, and one of the repository
+inner_send : IsSend Inner.the_row
+inner_send = search (badges.the_send, sendable) depth 30
+
 pub seat_send : IsSend RepoSeat.the_row
-seat_send = search (badges.the_send, sendable) depth 30
+seat_send = let i = inner_send in search sendable depth 20

@@ -5,7 +5,8 @@ ghost use Rattle.reply_model.specs.Reply.{PutContent, PutChangeset, SetBookmark,
 ghost use Rattle.reply_model.specs.After.{After, Answer, Asks, Joins, Looks, Shows};
 ghost use Rattle.repo_calls.specs.Asking.{IsAnswer, is_bad_bytes, is_disk_fault, is_misread, place_of, stored_answer};
 ghost use Rattle.shared_repo.specs.Front.{IsFront};
-ghost use Rattle.shared_repo.specs.Sealed.{IsLastTurn, IsSealedAfter, UnlessRefused};
+ghost use Rattle.shared_repo.specs.Sealed.{IsLastTurn, UnlessRefused};
+ghost use Rattle.repo_calls.specs.Sealing.{SealedAfter};
 
 use crate::repo::Repo;
 use crate::seat::RepoSeat;
@@ -29,7 +30,7 @@ impl<D: Disk> Repo<D> {
         requires place { seat.old.lock ≡ self.now }
         ensures seat { seat.new ≡ moved seat.old seat.new }
         ensures after { After self.now.opening.header seat.old.front seat.old.number (Asks (PutContent bytes.now)) (stored_answer result) seat.new.front }
-        ensures sealed { IsSealedAfter self.now.opening.header seat.old.front seat.old.number (Asks (PutContent bytes.now)) (stored_answer result) seat.new.front seat.new.sealed }
+        ensures sealed { SealedAfter seat.new.sealed self.now.opening.header seat.old.front seat.old.number (Asks (PutContent bytes.now)) (stored_answer result) seat.new.front }
         ensures seals { seat.old.sealed ≤ seat.new.sealed }
         ensures stands { UnlessRefused result (IsLastTurn self.now.opening seat.old (is_disk_fault result) seat.new) }
         ensures front { IsFront self.now.opening seat.new.front }
@@ -48,7 +49,7 @@ impl<D: Disk> Repo<D> {
         requires place { seat.old.lock ≡ self.now }
         ensures seat { seat.new ≡ moved seat.old seat.new }
         ensures after { After self.now.opening.header seat.old.front seat.old.number (Joins body.now) (stored_answer result) seat.new.front }
-        ensures sealed { IsSealedAfter self.now.opening.header seat.old.front seat.old.number (Joins body.now) (stored_answer result) seat.new.front seat.new.sealed }
+        ensures sealed { SealedAfter seat.new.sealed self.now.opening.header seat.old.front seat.old.number (Joins body.now) (stored_answer result) seat.new.front }
         ensures seals { seat.old.sealed ≤ seat.new.sealed }
         ensures stands { UnlessRefused result (IsLastTurn self.now.opening seat.old (is_disk_fault result) seat.new) }
         ensures honest { IsTrue self.now.opening.honest → is_misread result ≡ false }
@@ -68,7 +69,7 @@ impl<D: Disk> Repo<D> {
         requires place { seat.old.lock ≡ self.now }
         ensures seat { seat.new ≡ moved seat.old seat.new }
         ensures after { After self.now.opening.header seat.old.front seat.old.number (Asks (PutChangeset bytes.now)) (stored_answer result) seat.new.front }
-        ensures sealed { IsSealedAfter self.now.opening.header seat.old.front seat.old.number (Asks (PutChangeset bytes.now)) (stored_answer result) seat.new.front seat.new.sealed }
+        ensures sealed { SealedAfter seat.new.sealed self.now.opening.header seat.old.front seat.old.number (Asks (PutChangeset bytes.now)) (stored_answer result) seat.new.front }
         ensures seals { seat.old.sealed ≤ seat.new.sealed }
         ensures stands { UnlessRefused result (IsLastTurn self.now.opening seat.old (is_disk_fault result) seat.new) }
         ensures front { IsFront self.now.opening seat.new.front }
@@ -90,7 +91,7 @@ impl<D: Disk> Repo<D> {
         requires place { seat.old.lock ≡ self.now }
         ensures seat { seat.new ≡ moved seat.old seat.new }
         ensures after { After self.now.opening.header seat.old.front seat.old.number (Asks (SetBookmark caller.now name.now from to)) (stored_answer result) seat.new.front }
-        ensures sealed { IsSealedAfter self.now.opening.header seat.old.front seat.old.number (Asks (SetBookmark caller.now name.now from to)) (stored_answer result) seat.new.front seat.new.sealed }
+        ensures sealed { SealedAfter seat.new.sealed self.now.opening.header seat.old.front seat.old.number (Asks (SetBookmark caller.now name.now from to)) (stored_answer result) seat.new.front }
         ensures seals { seat.old.sealed ≤ seat.new.sealed }
         ensures stands { UnlessRefused result (IsLastTurn self.now.opening seat.old (is_disk_fault result) seat.new) }
         ensures front { IsFront self.now.opening seat.new.front }
@@ -116,7 +117,7 @@ impl<D: Disk> Repo<D> {
         requires place { seat.old.lock ≡ self.now }
         ensures seat { seat.new ≡ moved seat.old seat.new }
         ensures after { After self.now.opening.header seat.old.front seat.old.number (Asks (SetPolicy caller.now text.now)) (stored_answer result) seat.new.front }
-        ensures sealed { IsSealedAfter self.now.opening.header seat.old.front seat.old.number (Asks (SetPolicy caller.now text.now)) (stored_answer result) seat.new.front seat.new.sealed }
+        ensures sealed { SealedAfter seat.new.sealed self.now.opening.header seat.old.front seat.old.number (Asks (SetPolicy caller.now text.now)) (stored_answer result) seat.new.front }
         ensures seals { seat.old.sealed ≤ seat.new.sealed }
         ensures stands { UnlessRefused result (IsLastTurn self.now.opening seat.old (is_disk_fault result) seat.new) }
         ensures front { IsFront self.now.opening seat.new.front }
@@ -140,7 +141,7 @@ impl<D: Disk> Repo<D> {
         requires place { seat.old.lock ≡ self.now }
         ensures seat { seat.new ≡ moved seat.old seat.new }
         ensures after { After self.now.opening.header seat.old.front seat.old.number (Asks (LandDraft caller.now name.now draft moment)) (stored_answer result) seat.new.front }
-        ensures sealed { IsSealedAfter self.now.opening.header seat.old.front seat.old.number (Asks (LandDraft caller.now name.now draft moment)) (stored_answer result) seat.new.front seat.new.sealed }
+        ensures sealed { SealedAfter seat.new.sealed self.now.opening.header seat.old.front seat.old.number (Asks (LandDraft caller.now name.now draft moment)) (stored_answer result) seat.new.front }
         ensures seals { seat.old.sealed ≤ seat.new.sealed }
         ensures stands { UnlessRefused result (IsLastTurn self.now.opening seat.old (is_disk_fault result) seat.new) }
         ensures front { IsFront self.now.opening seat.new.front }

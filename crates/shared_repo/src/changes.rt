@@ -11,8 +11,10 @@ ghost use Rattle.repo_calls.specs.Calls.{call_seen};
 ghost use Rattle.repo_machine.specs.Prepared.{asked_by};
 ghost use Rattle.repo_calls.specs.Asking.{is_disk_fault, is_misread, is_unread, stored_answer};
 ghost use Rattle.repo_state.specs.Asking.{is_join};
-ghost use Rattle.shared_repo.specs.Front.{IsFront, history_of, opening_of, sealed_of};
-ghost use Rattle.shared_repo.specs.Sealed.{IsEntered, IsLastTurn, IsSealedAfter, IsState, IsTold, Tells, placed_answer, UnlessRefused};
+ghost use Rattle.repo_state.specs.State.{IsSound, reach};
+ghost use Rattle.shared_repo.specs.Front.{IsFront, history_of, opening_of, sealed_of, disk_of, most_waiting};
+ghost use Rattle.shared_repo.specs.Sealed.{IsEntered, IsLastTurn, IsLater, IsState, IsTold, Tells, placed_answer, UnlessRefused};
+ghost use Rattle.repo_calls.specs.Sealing.{SealedAfter};
 
 use crate::repo::Repo;
 use crate::seat::RepoSeat;
@@ -42,10 +44,11 @@ impl<D: Disk> Repo<D> {
         ensures after { After self.now.opening.header seat.old.front seat.old.number (call_seen ask.now) (stored_answer result) seat.new.front }
 
         // Where it is granted, all up to its place is sealed.
-        ensures sealed { IsSealedAfter self.now.opening.header seat.old.front seat.old.number (call_seen ask.now) (stored_answer result) seat.new.front seat.new.sealed }
+        ensures sealed { SealedAfter seat.new.sealed self.now.opening.header seat.old.front seat.old.number (call_seen ask.now) (stored_answer result) seat.new.front }
         ensures seals { seat.old.sealed ≤ seat.new.sealed }
 
-        // A crash in its last turn left what was sealed before, or the whole history.
+        // A crash at any moment of the call left what was sealed by then, or this with a group whose gate may stand open, and so
+        // it is of its last turn with what was sealed before that.
         ensures stands { UnlessRefused result (IsLastTurn self.now.opening seat.old (is_disk_fault result) seat.new) }
         ensures read { is_join (call_seen ask.now) ≡ false → (is_unread result ≡ false) × (is_misread result ≡ false) }
         ensures honest { IsTrue self.now.opening.honest → is_misread result ≡ false }
@@ -77,7 +80,7 @@ impl<D: Disk> Repo<D> {
     ) -> Result<Granted, ChangeFault>
         requires place { seat.old.lock ≡ self.now }
         ensures seat { seat.new ≡ moved seat.old seat.new }
-        ensures sealed { IsSealedAfter self.now.opening.header seat.old.front seat.old.number (call_seen ask.now) (stored_answer result) seat.new.front seat.new.sealed }
+        ensures sealed { SealedAfter seat.new.sealed self.now.opening.header seat.old.front seat.old.number (call_seen ask.now) (stored_answer result) seat.new.front }
         ensures seals { seat.old.sealed ≤ seat.new.sealed }
         ensures stands { UnlessRefused result (IsLastTurn self.now.opening seat.old (is_disk_fault result) seat.new) }
         ensures honest { IsTrue self.now.opening.honest → is_misread result ≡ false }
@@ -104,7 +107,7 @@ impl<D: Disk> Repo<D> {
         requires place { seat.old.lock ≡ self.now }
         ensures seat { seat.new ≡ moved seat.old seat.new }
         ensures after { After self.now.opening.header seat.old.front seat.old.number (Asks (PutContent bytes.items)) (stored_answer result) seat.new.front }
-        ensures sealed { IsSealedAfter self.now.opening.header seat.old.front seat.old.number (Asks (PutContent bytes.items)) (stored_answer result) seat.new.front seat.new.sealed }
+        ensures sealed { SealedAfter seat.new.sealed self.now.opening.header seat.old.front seat.old.number (Asks (PutContent bytes.items)) (stored_answer result) seat.new.front }
         ensures seals { seat.old.sealed ≤ seat.new.sealed }
         ensures stands { UnlessRefused result (IsLastTurn self.now.opening seat.old (is_disk_fault result) seat.new) }
         ensures honest { IsTrue self.now.opening.honest → is_misread result ≡ false }
@@ -133,7 +136,7 @@ impl<D: Disk> Repo<D> {
         requires place { seat.old.lock ≡ self.now }
         requires ready { C.ready change }
         ensures seat { seat.new ≡ moved seat.old seat.new }
-        ensures sealed { IsSealedAfter self.now.opening.header seat.old.front seat.old.number (C.asked change) (stored_answer result) seat.new.front seat.new.sealed }
+        ensures sealed { SealedAfter seat.new.sealed self.now.opening.header seat.old.front seat.old.number (C.asked change) (stored_answer result) seat.new.front }
         ensures seals { seat.old.sealed ≤ seat.new.sealed }
         ensures stands { UnlessRefused result (IsLastTurn self.now.opening seat.old (is_disk_fault result) seat.new) }
         ensures honest { IsTrue self.now.opening.honest → is_misread result ≡ false }
@@ -146,7 +149,7 @@ impl<D: Disk> Repo<D> {
     }
 
     // The turn of a change that is ready.
-    #[tactic(auto, using(crate::proofs::Turning::entered_in))]
+    #[tactic(auto, using(crate::proofs::Turning::entered_in, crate::proofs::Turning::later_in, crate::proofs::Turning::state_in))]
     fn enter_change<R: Wait, C: TurnChange<D>>(
         &self,
         rt: &R,
@@ -161,8 +164,9 @@ impl<D: Disk> Repo<D> {
         ensures entered { IsEntered self.now.opening.header seat.old (C.asked change) result seat.new.front }
         ensures told { IsTold result seat.new }
         ensures seals { seat.old.sealed ≤ seat.new.sealed }
+        ensures later { IsLater seat.old seat.new }
         ensures honest { IsTrue self.now.opening.honest → is_misread result ≡ false }
-        ensures stands { IsState self.now.opening seat.new.front seat.new.sealed }
+        ensures stands { IsState self.now.opening seat.new }
     {
         let who = seat.number();
         self.lock.enter(
@@ -173,8 +177,8 @@ impl<D: Disk> Repo<D> {
                 ensures reply { Replies state.old.opening.header state.old.history who (C.asked change) (placed_answer result.1) state.new.history }
                 ensures told { Tells result.1 state.new }
                 ensures honest { IsTrue state.old.opening.honest → is_misread result.1 ≡ false }
-                ensures turn { IsTurn history_of opening_of sealed_of who None state.old state.new result.0 }
-                ensures stands { IsState state.new.opening state.new.history state.new.sealed }
+                ensures turn { IsTurn history_of opening_of sealed_of reach disk_of most_waiting who None state.old state.new result.0 }
+                ensures stands { IsSound state.new.opening state.new.history state.new.sealed (reach state.new) state.new.disk }
             { change.store_in(state, alloc, who) },
         )
     }

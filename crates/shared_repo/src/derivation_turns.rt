@@ -5,6 +5,7 @@ ghost use Rattle.manifest_store.specs.Jobs.{settled_by};
 ghost use Rattle.manifest_store.specs.Settling.{IsCollision};
 ghost use Rattle.reply_model.specs.After.{Answers, Derives, nothing};
 ghost use Rattle.repo_calls.specs.Asking.{fault_answer};
+ghost use Rattle.repo_state.specs.State.{reach};
 ghost use Rattle.shared_repo.specs.Derivation.{IsNextAt, WasDerived};
 ghost use Rattle.shared_repo.specs.Front.{IsFront};
 
@@ -36,6 +37,8 @@ pub(crate) fn next_in<D: Disk>(
     ensures same { state.new.history ≡ state.old.history }
     ensures opening { state.new.opening ≡ state.old.opening }
     ensures sealed { state.new.sealed ≡ state.old.sealed }
+    ensures disk { state.new.disk ≡ state.old.disk }
+    ensures reaches { reach state.new ≡ reach state.old }
     ensures ok { IfOk result (IsNextAt state.old.opening.header state.old.history state.old.table id) }
     ensures err { IfErr result (λ fault. Answers state.old.opening.header state.old.history (Derives id) (fault_answer fault) nothing) }
     ensures front { IsFront state.new.opening state.new.history }
@@ -62,6 +65,8 @@ pub(crate) fn settle_in<D: Disk>(
     ensures same { state.new.history ≡ state.old.history }
     ensures opening { state.new.opening ≡ state.old.opening }
     ensures sealed { state.new.sealed ≡ state.old.sealed }
+    ensures disk { state.new.disk ≡ state.old.disk }
+    ensures reaches { reach state.new ≡ reach state.old }
     ensures ok { OnOk result (state.new.table ≡ settled_by (known state.old.history) state.old.table done) }
     ensures err { IfErr result (λ fault. IsCollision (known state.new.history) fault) }
     ensures front { IsFront state.new.opening state.new.history }

@@ -5,9 +5,10 @@ ghost use Rattle.reply_model.specs.After.{Asks, Replies};
 ghost use Rattle.reply_model.specs.Reply.{LandDraft};
 ghost use Rattle.repo_machine.specs.Again.{WasPlan};
 ghost use Rattle.repo_machine.specs.Plans.{IsPlan};
-ghost use Rattle.shared_repo.specs.Front.{IsFront, history_of, opening_of, sealed_of};
+ghost use Rattle.repo_state.specs.State.{IsSound, reach};
+ghost use Rattle.shared_repo.specs.Front.{IsFront, history_of, opening_of, sealed_of, disk_of, most_waiting};
 ghost use Rattle.shared_repo.specs.Landing.{IsEarlier, RefusesLanding};
-ghost use Rattle.shared_repo.specs.Sealed.{IsState, Tells, placed_answer};
+ghost use Rattle.shared_repo.specs.Sealed.{Tells, placed_answer};
 
 use crate::turns::{Placed, exchange_in, plan_in};
 use ancestry::Steps;
@@ -35,10 +36,12 @@ pub(crate) fn plan_from<D: Disk>(
     ensures same { state.new.history ≡ state.old.history }
     ensures opening { state.new.opening ≡ state.old.opening }
     ensures sealed { state.new.sealed ≡ state.old.sealed }
+    ensures disk { state.new.disk ≡ state.old.disk }
+    ensures reaches { reach state.new ≡ reach state.old }
     ensures ok { IfOk result (IsPlan state.old.history caller.now name.now draft) }
     ensures err { IfErr result (RefusesLanding state.old.opening.header state.old.history caller.now name.now draft) }
     ensures front { IsFront state.new.opening state.new.history }
-    ensures stands { IsState state.new.opening state.new.history state.new.sealed }
+    ensures stands { IsSound state.new.opening state.new.history state.new.sealed (reach state.new) state.new.disk }
 {
     match earlier {
         Some(plan) => plan_again_in::<D, Brand>(state, alloc, plan, Blank::new(1)),
@@ -61,10 +64,12 @@ fn plan_again_in<D: Disk, L: Ledger>(
     ensures same { state.new.history ≡ state.old.history }
     ensures opening { state.new.opening ≡ state.old.opening }
     ensures sealed { state.new.sealed ≡ state.old.sealed }
+    ensures disk { state.new.disk ≡ state.old.disk }
+    ensures reaches { reach state.new ≡ reach state.old }
     ensures ok { IfOk result (IsPlan state.old.history plan.caller plan.name plan.draft) }
     ensures err { IfErr result (RefusesLanding state.old.opening.header state.old.history plan.caller plan.name plan.draft) }
     ensures front { IsFront state.new.opening state.new.history }
-    ensures stands { IsState state.new.opening state.new.history state.new.sealed }
+    ensures stands { IsSound state.new.opening state.new.history state.new.sealed (reach state.new) state.new.disk }
 {
     // It keeps its rules.
     let _ = state.history_length();
@@ -73,7 +78,7 @@ fn plan_again_in<D: Disk, L: Ledger>(
 }
 
 // A whole landing, during which the bookmark can't move.
-#[tactic(auto, using(crate::proofs::Fronts::planned_here, crate::proofs::Fronts::asked_for, repo_machine::proofs::Judging::replies_memory))]
+#[tactic(auto, using(crate::proofs::Fronts::planned_here, crate::proofs::Fronts::asked_for, crate::proofs::Turning::turn_from, repo_machine::proofs::Judging::replies_memory))]
 pub(crate) fn land_in<D: Disk>(
     state: &mut RepoState<D>,
     alloc: Global,
@@ -87,8 +92,8 @@ pub(crate) fn land_in<D: Disk>(
     requires earlier { IsEarlier state.old.history caller.now name.now draft earlier }
     ensures reply { Replies state.old.opening.header state.old.history who (Asks (LandDraft caller.now name.now draft moment)) (placed_answer result.1) state.new.history }
     ensures told { Tells result.1 state.new }
-    ensures turn { IsTurn history_of opening_of sealed_of who None state.old state.new result.0 }
-    ensures stands { IsState state.new.opening state.new.history state.new.sealed }
+    ensures turn { IsTurn history_of opening_of sealed_of reach disk_of most_waiting who None state.old state.new result.0 }
+    ensures stands { IsSound state.new.opening state.new.history state.new.sealed (reach state.new) state.new.disk }
 {
     let plan = match plan_from(state, alloc, caller, name, draft, earlier) {
         Ok(plan) => plan,

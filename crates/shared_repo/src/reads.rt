@@ -1,6 +1,6 @@
 //! Reads of a repository that many seats share. A content's bytes are hashed, a changeset is encoded and its copies
 //! are told outside of the turn, and what a read of manifests lacks is derived before its turn.
-ghost use Rattle.std.specs.Prelude.{◌≡◌, false, Some, IfOk, IfErr, IsTrue, None};
+ghost use Rattle.std.specs.Prelude.{◌≡◌, ◌≤◌, false, Some, IfOk, IfErr, IsTrue, None};
 ghost use Rattle.std.specs.Arc.{arc_value};
 ghost use Rattle.sha2.specs.Sha256.{sha256};
 ghost use Rattle.bookmark_lock.specs.Place.{moved};
@@ -10,8 +10,9 @@ ghost use Rattle.history_model.specs.Bookmark.{head};
 ghost use Rattle.history_model.specs.History.{changeset_of, known};
 ghost use Rattle.reply_model.specs.After.{After, Answer, Answers, Looks, Replies, Shows, nothing, SeesMore};
 ghost use Rattle.repo_calls.specs.Asking.{IsAnswer, bytes_answer, fault_answer, is_bad_bytes, question_seen};
+ghost use Rattle.repo_state.specs.State.{reach};
 ghost use Rattle.shared_repo.specs.Derivation.{AsksManifestOf};
-ghost use Rattle.shared_repo.specs.Front.{IsFront, history_of, opening_of, sealed_of};
+ghost use Rattle.shared_repo.specs.Front.{IsFront, history_of, opening_of, sealed_of, disk_of, most_waiting};
 ghost use Rattle.shared_repo.specs.Reading.{IsReadOf};
 
 use crate::repo::Repo;
@@ -38,6 +39,7 @@ impl<D: Disk> Repo<D> {
     ) -> Result<Seen, AskFault>
         requires place { seat.old.lock ≡ self.now }
         ensures seat { seat.new ≡ moved seat.old seat.new }
+        ensures seals { seat.old.sealed ≤ seat.new.sealed }
         ensures after { (answer : Answer) × IsAnswer result answer × After self.now.opening.header seat.old.front seat.old.number (Looks (question_seen question.now)) answer seat.new.front }
         ensures honest { IsTrue self.now.opening.honest → is_bad_bytes result ≡ false }
         ensures front { IsFront self.now.opening seat.new.front }
@@ -67,6 +69,7 @@ impl<D: Disk> Repo<D> {
     ) -> Result<Seen, AskFault>
         requires place { seat.old.lock ≡ self.now }
         ensures seat { seat.new ≡ moved seat.old seat.new }
+        ensures seals { seat.old.sealed ≤ seat.new.sealed }
         ensures after { (answer : Answer) × IsAnswer result answer × After self.now.opening.header seat.old.front seat.old.number (Looks (Q.asked question.now)) answer seat.new.front }
         ensures honest { IsTrue self.now.opening.honest → is_bad_bytes result ≡ false }
         ensures front { IsFront self.now.opening seat.new.front }
@@ -78,7 +81,7 @@ impl<D: Disk> Repo<D> {
             |state: &mut RepoState<D>| -> (bool, Result<Seen, AskFault>)
                 ensures reply { (answer : Answer) × IsAnswer result.1 answer × Replies state.old.opening.header state.old.history who (Looks (Q.asked question.entry.now)) answer state.new.history }
                 ensures honest { IsTrue state.old.opening.honest → is_bad_bytes result.1 ≡ false }
-                ensures turn { IsTurn history_of opening_of sealed_of who None state.old state.new result.0 }
+                ensures turn { IsTurn history_of opening_of sealed_of reach disk_of most_waiting who None state.old state.new result.0 }
                 ensures front { IsFront state.new.opening state.new.history }
             { question.look_in(state, alloc, who) },
         )
@@ -94,6 +97,7 @@ impl<D: Disk> Repo<D> {
     ) -> Option<Id>
         requires place { seat.old.lock ≡ self.now }
         ensures seat { seat.new ≡ moved seat.old seat.new }
+        ensures seals { seat.old.sealed ≤ seat.new.sealed }
         ensures after { After self.now.opening.header seat.old.front seat.old.number (Looks (HeadOf name.now)) (Shows (SeenHead result)) seat.new.front }
         ensures front { IsFront self.now.opening seat.new.front }
     {
@@ -104,6 +108,8 @@ impl<D: Disk> Repo<D> {
                 ensures same { state.new.history ≡ state.old.history }
                 ensures opening { state.new.opening ≡ state.old.opening }
                 ensures sealed { state.new.sealed ≡ state.old.sealed }
+                ensures disk { state.new.disk ≡ state.old.disk }
+                ensures reaches { reach state.new ≡ reach state.old }
                 ensures none { result.0 ≡ false }
                 ensures head { result.1 ≡ head state.old.history name.entry.now }
                 ensures front { IsFront state.new.opening state.new.history }
@@ -124,6 +130,7 @@ impl<D: Disk> Repo<D> {
         requires place { seat.old.lock ≡ self.now }
         requires manifest { AsksManifestOf id (question_seen question.now) }
         ensures seat { seat.new ≡ moved seat.old seat.new }
+        ensures seals { seat.old.sealed ≤ seat.new.sealed }
         ensures after { (answer : Answer) × IsAnswer result answer × After self.now.opening.header seat.old.front seat.old.number (Looks (question_seen question.now)) answer seat.new.front }
         ensures honest { IsTrue self.now.opening.honest → is_bad_bytes result ≡ false }
         ensures front { IsFront self.now.opening seat.new.front }
@@ -144,6 +151,7 @@ impl<D: Disk> Repo<D> {
     ) -> Result<Seen, AskFault>
         requires place { seat.old.lock ≡ self.now }
         ensures seat { seat.new ≡ moved seat.old seat.new }
+        ensures seals { seat.old.sealed ≤ seat.new.sealed }
         ensures after { (answer : Answer) × IsAnswer result answer × After self.now.opening.header seat.old.front seat.old.number (Looks (ContentOf id)) answer seat.new.front }
         ensures honest { IsTrue self.now.opening.honest → is_bad_bytes result ≡ false }
         ensures front { IsFront self.now.opening seat.new.front }
@@ -165,6 +173,7 @@ impl<D: Disk> Repo<D> {
     ) -> Result<ReadContent, AskFault>
         requires place { seat.old.lock ≡ self.now }
         ensures seat { seat.new ≡ moved seat.old seat.new }
+        ensures seals { seat.old.sealed ≤ seat.new.sealed }
         ensures ok { IfOk result (λ read. SeesMore seat.old.front seat.old.number seat.new.front × IsReadOf seat.new.front id read) }
         ensures err { IfErr result (λ fault. After self.now.opening.header seat.old.front seat.old.number (Looks (ContentOf id)) (fault_answer fault) seat.new.front) }
         ensures honest { IsTrue self.now.opening.honest → IfOk result (λ read. sha256 read.bytes.items ≡ id) }
@@ -180,7 +189,7 @@ impl<D: Disk> Repo<D> {
                 ensures err { IfErr result.1 (λ fault. Replies state.old.opening.header state.old.history who (Looks (ContentOf id)) (fault_answer fault) state.new.history) }
                 ensures honest { IsTrue state.old.opening.honest → IfOk result.1 (λ read. sha256 read.bytes.items ≡ id) }
                 ensures unchecked { is_bad_bytes result.1 ≡ false }
-                ensures turn { IsTurn history_of opening_of sealed_of who None state.old state.new result.0 }
+                ensures turn { IsTurn history_of opening_of sealed_of reach disk_of most_waiting who None state.old state.new result.0 }
                 ensures front { IsFront state.new.opening state.new.history }
             { content_in(state, alloc, who, id) },
         )
@@ -197,6 +206,7 @@ impl<D: Disk> Repo<D> {
     ) -> Result<Seen, AskFault>
         requires place { seat.old.lock ≡ self.now }
         ensures seat { seat.new ≡ moved seat.old seat.new }
+        ensures seals { seat.old.sealed ≤ seat.new.sealed }
         ensures after { (answer : Answer) × IsAnswer result answer × After self.now.opening.header seat.old.front seat.old.number (Looks (ChangesetOf id)) answer seat.new.front }
         ensures honest { IsTrue self.now.opening.honest → is_bad_bytes result ≡ false }
         ensures front { IsFront self.now.opening seat.new.front }
@@ -222,6 +232,7 @@ impl<D: Disk> Repo<D> {
     ) -> Result<Seen, AskFault>
         requires place { seat.old.lock ≡ self.now }
         ensures seat { seat.new ≡ moved seat.old seat.new }
+        ensures seals { seat.old.sealed ≤ seat.new.sealed }
         ensures after { (answer : Answer) × IsAnswer result answer × After self.now.opening.header seat.old.front seat.old.number (Looks (CopiesOf id)) answer seat.new.front }
         ensures honest { IsTrue self.now.opening.honest → is_bad_bytes result ≡ false }
         ensures front { IsFront self.now.opening seat.new.front }
@@ -246,6 +257,7 @@ impl<D: Disk> Repo<D> {
     ) -> Result<Arc<Commit>, AskFault>
         requires place { seat.old.lock ≡ self.now }
         ensures seat { seat.new ≡ moved seat.old seat.new }
+        ensures seals { seat.old.sealed ≤ seat.new.sealed }
         ensures more { SeesMore seat.old.front seat.old.number seat.new.front }
         ensures ok { IfOk result (λ commit. changeset_of (known seat.new.front) id ≡ Some (arc_value commit)) }
         ensures err { IfErr result (λ fault. Answers self.now.opening.header seat.new.front (Looks (ChangesetOf id)) (fault_answer fault) nothing) }
@@ -259,6 +271,8 @@ impl<D: Disk> Repo<D> {
                 ensures same { state.new.history ≡ state.old.history }
                 ensures opening { state.new.opening ≡ state.old.opening }
                 ensures sealed { state.new.sealed ≡ state.old.sealed }
+                ensures disk { state.new.disk ≡ state.old.disk }
+                ensures reaches { reach state.new ≡ reach state.old }
                 ensures none { result.0 ≡ false }
                 ensures ok { IfOk result.1 (λ commit. changeset_of (known state.old.history) id ≡ Some (arc_value commit)) }
                 ensures err { IfErr result.1 (λ fault. Answers state.old.opening.header state.old.history (Looks (ChangesetOf id)) (fault_answer fault) nothing) }

@@ -1,17 +1,21 @@
 //! A repository that many seats share: its seats, from the first to the last.
-ghost use Rattle.std.specs.Prelude.{◌≡◌, ◌+◌, ◌<◌, ◌≤◌, ◌^◌, [], All, IfOk};
+ghost use Rattle.std.specs.Prelude.{◌≡◌, ◌+◌, ◌<◌, ◌≤◌, ◌^◌, [], All, IfOk, IfErr};
+ghost use Rattle.disk_model.specs.Calls.{Kept};
 ghost use Rattle.history_model.specs.History.{Entry, entries_by};
-ghost use Rattle.bookmark_lock.specs.Place.{lead_place, new_place, joined_place};
+ghost use Rattle.bookmark_lock.specs.Place.{lead_place, new_place, joined_place, told_at};
 ghost use Rattle.bookmark_lock.specs.Fronts.{IsJoined};
+ghost use Rattle.bookmark_lock.specs.Lasting.{AreLast};
+ghost use Rattle.bookmark_lock.specs.Leaving.{Lasts};
+ghost use Rattle.bookmark_lock.specs.Turns.{turn_of};
 ghost use Rattle.repo_machine.specs.Seats.{cleared};
-ghost use Rattle.repo_state.specs.State.{IsAllSealed};
-ghost use Rattle.shared_repo.specs.Front.{IsFront};
+ghost use Rattle.repo_state.specs.State.{IsAllSealed, reach};
+ghost use Rattle.shared_repo.specs.Front.{IsFront, IsGivenBack, history_of, sealed_of, disk_of};
 
 use crate::seat::RepoSeat;
 use blob_disk::Disk;
 use bookmark_lock::TurnLock;
 use repo_state::RepoState;
-use std::alloc::{AllocError, Global};
+use std::alloc::Global;
 use std::marker::Model;
 
 /// A repository in a file, which seats take turns with. Contracts see which it is, and what it was
@@ -31,18 +35,21 @@ impl<D: Disk> Model for Repo<D> {
 
 impl<D: Disk> Repo<D> {
     /// The repository, every entry's number now 0, and its first seat, which leads the others. All is
-    /// sealed, unless the disk failed. Where memory is refused the state is given up.
+    /// sealed, unless the disk failed. Where memory is refused the state is given back, with the numbers 0.
     #[tactic(auto, using(crate::proofs::Cleared::cleared_zero))]
-    pub fn new(alloc: Global, state: RepoState<D>) -> Result<(Repo<D>, RepoSeat), AllocError>
+    pub fn new(alloc: Global, state: RepoState<D>) -> Result<(Repo<D>, RepoSeat), RepoState<D>>
         requires sealed { IsAllSealed state.history state.sealed }
         ensures opening { IfOk result (λ made. made.0.opening ≡ state.opening) }
-        ensures lead { IfOk result (λ made. made.1 ≡ lead_place made.0 (cleared state.history) state.sealed) }
+        ensures lead { IfOk result (λ made. made.1 ≡ lead_place made.0 (cleared state.history) state.sealed (reach state) state.disk) }
         ensures front { IfOk result (λ made. IsFront made.0.opening made.1.front) }
+        ensures back { IfErr result (IsGivenBack state) }
     {
         let mut state = state;
         state.clear_seats();
-        let (lock, inner) = TurnLock::new(alloc, state)?;
-        Ok((Repo { lock }, RepoSeat { inner }))
+        match TurnLock::new(alloc, state) {
+            Ok((lock, inner)) => Ok((Repo { lock }, RepoSeat { inner })),
+            Err(state) => Err(state),
+        }
     }
 
     /// A new seat, which has seen what the lead has. It takes no memory.
@@ -74,6 +81,7 @@ impl<D: Disk> Repo<D> {
     }
 
     /// The state, once the lead has joined every seat that it split off. Nothing waits to be sealed, unless the disk failed.
+    #[tactic(auto, using(bookmark_lock::proofs::Lasts::few_last))]
     pub fn close(self, lead: RepoSeat) -> RepoState<D>
         requires place { lead.lock ≡ self }
         requires leads { lead.number ≡ 0 }
@@ -82,6 +90,14 @@ impl<D: Disk> Repo<D> {
         ensures opening { result.opening ≡ self.opening }
         ensures recorded { All (λ (e : Entry). e.who ≤ lead.split) result.history }
         ensures sealed { IsAllSealed result.history result.sealed }
+
+        // What a seat was told is so still: what it has seen sealed, and what it was told of the disk.
+        ensures told { lead.sealed ≤ result.sealed }
+        ensures lasts { Kept lead.disk result.disk }
+        // And a crash since left no image but such as are told.
+        ensures leaves { Lasts self.opening.header (told_at lead) (turn_of history_of sealed_of reach disk_of result) }
+        // Also once it is down, what waits to be sealed is of each seat the last.
+        ensures last { AreLast result.history result.sealed }
         ensures front { IsFront result.opening result.history }
     {
         let Repo { lock } = self;

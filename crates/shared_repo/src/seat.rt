@@ -29,6 +29,13 @@ impl RepoSeat {
         self.inner.number()
     }
 
+    /// How many stored entries it has seen sealed.
+    pub fn sealed(&self) -> u64
+        ensures { result ≡ self.now.sealed }
+    {
+        self.inner.sealed()
+    }
+
     /// How many of the seats that it split off are not joined.
     pub fn out(&self) -> u64
         ensures { result ≡ self.now.out }

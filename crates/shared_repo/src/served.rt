@@ -1,10 +1,9 @@
 //! A seat with the repository that it is for.
 ghost use Rattle.std.specs.Prelude.{◌≡◌};
 ghost use Rattle.bookmark_lock.specs.Place.{Place, home_of};
-ghost use Rattle.reply_model.specs.After.{After};
-ghost use Rattle.repo_calls.proofs.Honest.{honestly};
-ghost use Rattle.repo_calls.proofs.Lawful.{shared};
+ghost use Rattle.repo_calls.proofs.Sealing.{lawful, widens};
 ghost use Rattle.repo_calls.specs.Replying.{Honestly};
+ghost use Rattle.repo_calls.specs.Sealing.{SealedAfter};
 
 use crate::repo::Repo;
 use crate::seat::RepoSeat;
@@ -65,27 +64,35 @@ impl<'a, R: Wait, D: Disk, G: Gate> Seat for Served<'a, R, D, G> {
 
     ghost number = { λ s. s.number };
 
+    ghost sealed = { λ s. s.sealed };
+
     ghost Home = { Place };
 
     ghost home = { λ s. home_of s };
 
-    ghost replies = { λ place. Honestly place.lock.opening.honest After };
+    ghost replies = { λ place n. Honestly place.lock.opening.honest (SealedAfter n) };
 
-    #[tactic(auto, using(repo_calls::proofs::Honest::honest_change))]
+    fn sealed(&self) -> u64 {
+        self.seat.sealed()
+    }
+
+    #[tactic(auto, using(repo_calls::proofs::Sealing::change_sealed))]
     fn change(&mut self, alloc: Global, ask: &Ask) -> Result<Granted, ChangeFault> {
         self.repo
             .change(self.rt, alloc, &mut self.seat, ask, self.gate)
     }
 
-    #[tactic(auto, using(repo_calls::proofs::Honest::honest_change))]
+    #[tactic(auto, using(repo_calls::proofs::Sealing::change_sealed))]
     fn put_content(&mut self, alloc: Global, bytes: Vec<u8>) -> Result<Granted, ChangeFault> {
         self.repo.put_owned(self.rt, alloc, &mut self.seat, bytes)
     }
 
-    #[tactic(auto, using(repo_calls::proofs::Honest::honest_look))]
+    #[tactic(auto, using(repo_calls::proofs::Sealing::look_sealed))]
     fn look(&mut self, alloc: Global, question: &Question) -> Result<Seen, AskFault> {
         self.repo.look(self.rt, alloc, &mut self.seat, question)
     }
 
-    ghost lawful = { λ place. honestly place.lock.opening.honest After shared };
+    ghost lawful = { λ place n. lawful place.lock.opening.honest n };
+
+    ghost widens = { λ place m n. widens place.lock.opening.honest m n };
 }

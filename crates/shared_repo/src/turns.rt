@@ -11,10 +11,11 @@ ghost use Rattle.reply_model.specs.Reply.{ChangesetOf, ContentOf, LandDraft, Put
 ghost use Rattle.repo_machine.specs.Plans.{IsPlan, WasPlanned};
 ghost use Rattle.repo_machine.specs.Prepared.{IsPrepared, asked_by};
 ghost use Rattle.repo_calls.specs.Asking.{IsAnswer, fault_answer, is_bad_bytes, is_disk_fault, is_misread, question_seen, stored_answer};
-ghost use Rattle.shared_repo.specs.Front.{IsFront, history_of, opening_of, sealed_of};
+ghost use Rattle.repo_state.specs.State.{IsSound, reach};
+ghost use Rattle.shared_repo.specs.Front.{IsFront, history_of, opening_of, sealed_of, disk_of, most_waiting};
 ghost use Rattle.shared_repo.specs.Landing.{RefusesLanding, outcome_of};
 ghost use Rattle.shared_repo.specs.Reading.{IsReadOf};
-ghost use Rattle.shared_repo.specs.Sealed.{IsState, Tells, placed_answer};
+ghost use Rattle.shared_repo.specs.Sealed.{Tells, placed_answer};
 
 use blob_disk::Disk;
 use bonsai::Commit;
@@ -81,8 +82,8 @@ pub(crate) trait TurnChange<D: Disk>: Drop {
         ensures reply { Replies state.old.opening.header state.old.history who (asked self) (placed_answer result.1) state.new.history }
         ensures told { Tells result.1 state.new }
         ensures honest { IsTrue state.old.opening.honest → is_misread result.1 ≡ false }
-        ensures turn { IsTurn history_of opening_of sealed_of who None state.old state.new result.0 }
-        ensures stands { IsState state.new.opening state.new.history state.new.sealed };
+        ensures turn { IsTurn history_of opening_of sealed_of reach disk_of most_waiting who None state.old state.new result.0 }
+        ensures stands { IsSound state.new.opening state.new.history state.new.sealed (reach state.new) state.new.disk };
 }
 
 impl<D: Disk> TurnChange<D> for Prepared<'_> {
@@ -90,7 +91,7 @@ impl<D: Disk> TurnChange<D> for Prepared<'_> {
 
     ghost ready = { IsPrepared };
 
-    #[tactic(auto, using(crate::proofs::Made::change_adds))]
+    #[tactic(auto, using(crate::proofs::Made::change_adds, crate::proofs::Made::change_ends))]
     fn store_in(
         self,
         state: &mut RepoState<D>,
@@ -109,7 +110,7 @@ impl<D: Disk> TurnChange<D> for FramedContent {
 
     ghost ready = { λ _. Unit {0} };
 
-    #[tactic(auto, using(crate::proofs::Made::change_adds))]
+    #[tactic(auto, using(crate::proofs::Made::change_adds, crate::proofs::Made::change_ends))]
     fn store_in(
         self,
         state: &mut RepoState<D>,
@@ -136,14 +137,13 @@ pub(crate) trait TurnRead<D: Disk> {
     ) -> (bool, Result<Seen, AskFault>)
         ensures reply { (answer : Answer) × IsAnswer result.1 answer × Replies state.old.opening.header state.old.history who (Looks (asked self.now)) answer state.new.history }
         ensures honest { IsTrue state.old.opening.honest → is_bad_bytes result.1 ≡ false }
-        ensures turn { IsTurn history_of opening_of sealed_of who None state.old state.new result.0 }
+        ensures turn { IsTurn history_of opening_of sealed_of reach disk_of most_waiting who None state.old state.new result.0 }
         ensures front { IsFront state.new.opening state.new.history };
 }
 
 impl<D: Disk> TurnRead<D> for Question<'_> {
     ghost asked = { question_seen };
 
-    #[tactic(auto, using(crate::proofs::Made::look_adds))]
     fn look_in(
         &self,
         state: &mut RepoState<D>,
@@ -157,7 +157,7 @@ impl<D: Disk> TurnRead<D> for Question<'_> {
 }
 
 // What is read for a content, before digests are compared.
-#[tactic(auto, using(crate::proofs::Made::look_adds))]
+#[tactic(auto, using(crate::proofs::Made::look_adds, crate::proofs::Made::look_ends, crate::proofs::Lastings::state_looked, crate::proofs::Turning::looked_turn))]
 pub(crate) fn content_in<D: Disk>(
     state: &mut RepoState<D>,
     alloc: Global,
@@ -168,7 +168,7 @@ pub(crate) fn content_in<D: Disk>(
     ensures err { IfErr result.1 (λ fault. Replies state.old.opening.header state.old.history who (Looks (ContentOf id)) (fault_answer fault) state.new.history) }
     ensures honest { IsTrue state.old.opening.honest → IfOk result.1 (λ read. sha256 read.bytes.items ≡ id) }
     ensures unchecked { is_bad_bytes result.1 ≡ false }
-    ensures turn { IsTurn history_of opening_of sealed_of who None state.old state.new result.0 }
+    ensures turn { IsTurn history_of opening_of sealed_of reach disk_of most_waiting who None state.old state.new result.0 }
     ensures front { IsFront state.new.opening state.new.history }
 {
     let before = state.history_length();
@@ -180,6 +180,8 @@ pub(crate) fn head_in<D: Disk>(state: &mut RepoState<D>, name: &BookName) -> Opt
     ensures same { state.new.history ≡ state.old.history }
     ensures opening { state.new.opening ≡ state.old.opening }
     ensures sealed { state.new.sealed ≡ state.old.sealed }
+    ensures disk { state.new.disk ≡ state.old.disk }
+    ensures reaches { reach state.new ≡ reach state.old }
     ensures head { result ≡ head state.old.history name.now }
     ensures front { IsFront state.new.opening state.new.history }
 {
@@ -195,6 +197,8 @@ pub(crate) fn changeset_in<D: Disk>(
     ensures same { state.new.history ≡ state.old.history }
     ensures opening { state.new.opening ≡ state.old.opening }
     ensures sealed { state.new.sealed ≡ state.old.sealed }
+    ensures disk { state.new.disk ≡ state.old.disk }
+    ensures reaches { reach state.new ≡ reach state.old }
     ensures ok { IfOk result (λ commit. changeset_of (known state.old.history) id ≡ Some (arc_value commit)) }
     ensures err { IfErr result (λ fault. Answers state.old.opening.header state.old.history (Looks (ChangesetOf id)) (fault_answer fault) nothing) }
     ensures unchecked { is_bad_bytes result ≡ false }
@@ -216,10 +220,12 @@ pub(crate) fn plan_in<D: Disk>(
     ensures same { state.new.history ≡ state.old.history }
     ensures opening { state.new.opening ≡ state.old.opening }
     ensures sealed { state.new.sealed ≡ state.old.sealed }
+    ensures disk { state.new.disk ≡ state.old.disk }
+    ensures reaches { reach state.new ≡ reach state.old }
     ensures ok { IfOk result (IsPlan state.old.history caller.now name.now draft) }
     ensures err { IfErr result (RefusesLanding state.old.opening.header state.old.history caller.now name.now draft) }
     ensures front { IsFront state.new.opening state.new.history }
-    ensures stands { IsState state.new.opening state.new.history state.new.sealed }
+    ensures stands { IsSound state.new.opening state.new.history state.new.sealed (reach state.new) state.new.disk }
 {
     // It keeps its rules.
     let _ = state.history_length();
@@ -249,8 +255,8 @@ pub(crate) fn exchange_in<D: Disk>(
     ensures reply { MatchOption result.1 (state.new.history ≡ state.old.history) (λ entered. Replies state.old.opening.header state.old.history who (Asks (LandDraft rebased.caller rebased.name rebased.draft rebased.asked)) (placed_answer entered) state.new.history) }
     ensures told { IfSome result.1 (λ entered. Tells entered state.new) }
     ensures there { head state.old.history rebased.name ≡ Some rebased.old → IsSome result.1 }
-    ensures turn { IsTurn history_of opening_of sealed_of who None state.old state.new result.0 }
-    ensures stands { IsState state.new.opening state.new.history state.new.sealed }
+    ensures turn { IsTurn history_of opening_of sealed_of reach disk_of most_waiting who None state.old state.new result.0 }
+    ensures stands { IsSound state.new.opening state.new.history state.new.sealed (reach state.new) state.new.disk }
 {
     let before = state.history_length();
     if state.reserve(alloc, &rebased).is_err() {

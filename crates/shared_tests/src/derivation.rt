@@ -194,7 +194,9 @@ fn run_derived<R: Abort + Wait, D: Disk>(
 ) -> Result<(), Fail>
     requires sealed { IsAllSealed state.history state.sealed }
 {
-    let (repo, mut lead) = Repo::new(alloc, state)?;
+    let Ok((repo, mut lead)) = Repo::new(alloc, state) else {
+        return Err(Fail::from(AllocError));
+    };
     let mut other = repo.split(&mut lead);
     run_at(rt, alloc, &repo, lead, STORED)?;
     check_rows(rt, alloc, &repo, &mut other)
@@ -247,7 +249,9 @@ fn closed<R: Wait, D: Disk>(
 ) -> Result<RepoState<D>, AllocError>
     requires sealed { IsAllSealed state.history state.sealed }
 {
-    let (repo, mut lead) = Repo::new(alloc, state)?;
+    let Ok((repo, mut lead)) = Repo::new(alloc, state) else {
+        return Err(AllocError);
+    };
     put(rt, alloc, &repo, &mut lead, bytes);
     ask(rt, alloc, &repo, &mut lead, id, asks);
     Ok(repo.close(lead))

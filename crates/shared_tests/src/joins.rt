@@ -7,7 +7,7 @@ use crate::swapping::Swapping;
 use blob_disk::{CallKind, Disk};
 use repo_state::RepoState;
 use shared_repo::Repo;
-use std::alloc::Global;
+use std::alloc::{AllocError, Global};
 use std::process::Abort;
 use std::sync::Wait;
 use std::test::Fail;
@@ -37,7 +37,9 @@ fn run_first<R: Abort + Wait, D: Disk>(
 ) -> Result<(), Fail>
     requires sealed { IsAllSealed state.history state.sealed }
 {
-    let (repo, lead) = Repo::new(alloc, state)?;
+    let Ok((repo, lead)) = Repo::new(alloc, state) else {
+        return Err(Fail::from(AllocError));
+    };
     run_at(rt, alloc, &repo, lead, script)
 }
 

@@ -10,7 +10,7 @@ use ports::{Gate, NoGate};
 use repo_calls::Seat;
 use repo_state::RepoState;
 use shared_repo::{Repo, RepoSeat, Served};
-use std::alloc::Global;
+use std::alloc::{AllocError, Global};
 use std::process::Abort;
 use std::sync::Wait;
 use std::test::Fail;
@@ -90,7 +90,9 @@ fn came_in<R: Abort + Wait, D: Disk>(
 ) -> Result<u64, Fail>
     requires sealed { IsAllSealed state.history state.sealed }
 {
-    let (repo, mut lead) = Repo::new(alloc, state)?;
+    let Ok((repo, mut lead)) = Repo::new(alloc, state) else {
+        return Err(Fail::from(AllocError));
+    };
     let other = repo.split(&mut lead);
     came_between(rt, alloc, &repo, (lead, other), moves, script)
 }
@@ -147,7 +149,9 @@ fn denied_in<R: Abort + Wait, D: Disk>(
 ) -> Result<(), Fail>
     requires sealed { IsAllSealed state.history state.sealed }
 {
-    let (repo, mut lead) = Repo::new(alloc, state)?;
+    let Ok((repo, mut lead)) = Repo::new(alloc, state) else {
+        return Err(Fail::from(AllocError));
+    };
     let other = repo.split(&mut lead);
     denied_between(rt, alloc, &repo, (lead, other))
 }

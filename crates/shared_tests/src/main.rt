@@ -14,6 +14,8 @@ mod landings;
 #[cfg(test)]
 mod looks;
 #[cfg(test)]
+mod meanwhile;
+#[cfg(test)]
 mod moments;
 #[cfg(test)]
 mod repository;
@@ -29,5 +31,7 @@ mod swapping;
 mod threads;
 #[cfg(test)]
 mod ticking;
+#[cfg(test)]
+mod waiting;
 
 fn main() {}

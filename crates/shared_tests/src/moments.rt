@@ -105,7 +105,9 @@ fn served_in<R: Abort + Wait, D: Disk>(
 ) -> Result<u64, Fail>
     requires sealed { IsAllSealed state.history state.sealed }
 {
-    let (repo, mut lead) = Repo::new(alloc, state)?;
+    let Ok((repo, mut lead)) = Repo::new(alloc, state) else {
+        return Err(Fail::from(AllocError));
+    };
     let other = repo.split(&mut lead);
     served_between(rt, alloc, &repo, (lead, other), clock)
 }

@@ -20,8 +20,8 @@ fn syncs(alloc: Global, numbers: &[u64]) -> Result<Vec<(CallKind, u64)>, AllocEr
     Ok(calls)
 }
 
-// An empty disk with room for 65,536 bytes, of whose syncs these fail.
-fn new_disk(alloc: Global, failing: &[u64]) -> Result<MemDisk, AllocError> {
+/// An empty disk with room for 65,536 bytes, of whose syncs these fail.
+pub(crate) fn new_disk(alloc: Global, failing: &[u64]) -> Result<MemDisk, AllocError> {
     MemDisk::new(alloc, 65_536, syncs(alloc, failing)?)
 }
 

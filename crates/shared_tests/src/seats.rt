@@ -11,7 +11,7 @@ use object_id::Id;
 use repo_calls::{AskFault, Question, Seen};
 use repo_state::RepoState;
 use shared_repo::{Repo, RepoSeat};
-use std::alloc::Global;
+use std::alloc::{AllocError, Global};
 use std::process::Abort;
 use std::sync::Wait;
 use std::test::Fail;
@@ -26,7 +26,9 @@ fn run_both<R: Abort + Wait, D: Disk>(
 ) -> Result<(), Fail>
     requires sealed { IsAllSealed state.history state.sealed }
 {
-    let (repo, mut lead) = Repo::new(alloc, state)?;
+    let Ok((repo, mut lead)) = Repo::new(alloc, state) else {
+        return Err(Fail::from(AllocError));
+    };
     let one = repo.split(&mut lead);
     run_at(rt, alloc, &repo, one, first)?;
     run_at(rt, alloc, &repo, lead, second)
@@ -96,7 +98,9 @@ fn run_split<R: Wait, D: Disk>(
 ) -> Result<([u64; 4], RepoState<D>), Fail>
     requires sealed { IsAllSealed state.history state.sealed }
 {
-    let (repo, mut lead) = Repo::new(alloc, state)?;
+    let Ok((repo, mut lead)) = Repo::new(alloc, state) else {
+        return Err(Fail::from(AllocError));
+    };
     let first = put_and_count(rt, alloc, &repo, &mut lead, b"abc")?;
     let mut other = repo.split(&mut lead);
     let read = read_and_count(rt, alloc, &repo, &mut other, b"abc")?;

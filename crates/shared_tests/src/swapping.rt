@@ -1,7 +1,7 @@
 //! A disk that gives other bytes than were written.
 ghost use Rattle.file_disk.specs.Untold.{untold, untold_sound};
 
-use blob_disk::{Disk, Failed};
+use blob_disk::{Disk, Failed, NoFlush, NoPeer};
 
 const ROOM: usize = 512;
 
@@ -25,6 +25,10 @@ impl Swapping {
 }
 
 impl Disk for Swapping {
+    type Flush = NoFlush;
+
+    type Peer = NoPeer;
+
     ghost meaning = { λ _. untold 0 };
 
     fn size(&mut self) -> Result<u64, Failed> {
@@ -57,6 +61,19 @@ impl Disk for Swapping {
 
     fn sync(&mut self) -> Result<(), Failed> {
         Ok(())
+    }
+
+    fn flush(&mut self) -> NoFlush {
+        NoFlush
+    }
+
+    fn flushed(&mut self, flush: NoFlush) -> Result<(), Failed> {
+        drop(flush);
+        self.sync()
+    }
+
+    fn peer(&self) -> Option<NoPeer> {
+        None
     }
 
     fn faults(&self) -> u64 {

@@ -108,6 +108,9 @@ fn store_at_once<R: Threads + Wait + Sync, D: Disk + Send>(
     lead: &mut RepoSeat,
     count: u8,
 ) -> Result<u64, AllocError>
+where
+    D::Flush: Send,
+    D::Peer: Send,
     requires place { lead.old.lock ≡ repo.now }
     requires leads { lead.old.number ≡ 0 }
     requires room { lead.old.split + count ≤ 2 ^ 63 }
@@ -125,12 +128,29 @@ fn at_once<R: Threads + Wait + Sync, D: Disk + Send>(
     state: RepoState<D>,
     count: u8,
 ) -> Result<(u64, u64), Fail>
+where
+    D::Flush: Send,
+    D::Peer: Send,
     requires sealed { IsAllSealed state.history state.sealed }
 {
-    let (repo, mut lead) = Repo::new(alloc, state)?;
+    let Ok((repo, mut lead)) = Repo::new(alloc, state) else {
+        return Err(Fail::from(AllocError));
+    };
     let stored = store_at_once(rt, alloc, &repo, &mut lead, count)?;
-    let mut seat = Served::new(rt, &repo, lead, &NoGate);
-    Ok((stored, total(alloc, &mut seat)?))
+    Ok((stored, total_at(rt, alloc, &repo, lead)?))
+}
+
+// How many entries this seat sees.
+fn total_at<R: Wait, D: Disk>(
+    rt: &R,
+    alloc: Global,
+    repo: &Repo<D>,
+    seat: RepoSeat,
+) -> Result<u64, Fail>
+    requires place { seat.lock ≡ repo.now }
+{
+    let mut seat = Served::new(rt, repo, seat, &NoGate);
+    total(alloc, &mut seat)
 }
 
 #[test]

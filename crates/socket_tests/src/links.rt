@@ -1,6 +1,8 @@
 //! Links over connections at 127.0.0.1, each between two ends of one test.
 use crate::still::Still;
-use net_ports::{READ_PATIENCE, REQUEST_PATIENCE, TcpAccept, TcpLink, WRITE_PATIENCE};
+use net_ports::{
+    IDLE_PATIENCE, READ_PATIENCE, REQUEST_PATIENCE, TcpAccept, TcpLink, WRITE_PATIENCE,
+};
 use ports::{Accept, Link};
 use std::alloc::{AllocError, Global};
 use std::io;
@@ -96,6 +98,26 @@ fn a_link_sends_at_once_and_waits_for_some_seconds(rt: HostRuntime) -> Result<()
     assert!(rt; client.read(&mut buf).is_err());
     drop(ends.server);
     assert_eq!(rt; client.read(&mut buf).ok(), Some(0));
+    Ok(())
+}
+
+#[test]
+fn a_kept_connection_may_be_silent_for_a_minute(rt: HostRuntime) -> Result<(), Fail> {
+    let mut accept = TcpAccept::bind(&rt, rt.alloc(), HERE)?;
+    let mut ends = connected(&rt, &mut accept)?;
+    let shown = ends.client.try_clone()?;
+    let mut kept = TcpLink::accepted(&rt, ends.client)?;
+    let mut buf = [0];
+    assert_eq!(rt; IDLE_PATIENCE, 60);
+    // the first byte of a request, the next, and the first after an answer
+    assert!(rt; ends.server.write(b"ab").is_ok());
+    for seconds in [60, 10] {
+        assert_eq!(rt; kept.read(&mut buf).ok(), Some(1));
+        assert_eq!(rt; shown.read_timeout()?, Some(Duration::from_secs(seconds)));
+    }
+    assert!(rt; kept.write(b"c").is_ok() && ends.server.write(b"d").is_ok());
+    assert_eq!(rt; kept.read(&mut buf).ok(), Some(1));
+    assert_eq!(rt; shown.read_timeout()?, Some(Duration::from_secs(60)));
     Ok(())
 }
 

@@ -19,8 +19,8 @@ returns-in-Ok-Change-PutContent-clause-answers g c =
     let before = c.args.seat.now in
     let tells = g.C.Clock.tells c.args.clock.now in
     let call = after_call.Asks (PutContent c.args.request.body.items) in
-    content_answers (Dated tells (seat.replies (seat.home before))) _ _ _ (seen c.args.request) c.in-Ok-Change-PutContent.field-0-0-0.now _ _ (rw (c.in-Ok-Change-PutContent.field-0-is, c.in-Ok-Change-PutContent.field-0-0-is) at c.in-Ok-Change-PutContent.ensures.asks)
-    (subst (λ b. Replied (Dated tells (seat.replies (seat.home before))) (seat.header before) (seat.number before) (seat.front before) call (change_response call) c.args.request.close b c.store.new.buffer (seat.front c.store.new.seat)) c.requires (dated_change tells (seat.replies (seat.home before)) _ _ _ _ _ _ _ call call refl c.store.ensures.answers))
+    content_answers (Dated tells (seat.replies (seat.home before) (seat.sealed c.store.new.seat))) _ _ _ (seen c.args.request) c.in-Ok-Change-PutContent.field-0-0-0.now _ _ (rw (c.in-Ok-Change-PutContent.field-0-is, c.in-Ok-Change-PutContent.field-0-0-is) at c.in-Ok-Change-PutContent.ensures.asks)
+    (subst (λ b. Replied (Dated tells (seat.replies (seat.home before) (seat.sealed c.store.new.seat))) (seat.header before) (seat.number before) (seat.front before) call (change_response call) c.args.request.close b c.store.new.buffer (seat.front c.store.new.seat)) c.requires (dated_change tells (seat.replies (seat.home before) (seat.sealed c.store.new.seat)) _ _ _ _ _ _ _ call call refl c.store.ensures.answers))
 
 pub returns-in-Ok-Change-clause-answers : goal.returns-in-Ok-Change-clause-answers
 returns-in-Ok-Change-clause-answers g c =
@@ -28,8 +28,8 @@ returns-in-Ok-Change-clause-answers g c =
     let before = c.args.seat.now in
     let tells = g.C.Clock.tells c.args.clock.now in
     let ask = c.in-Ok-Change.ask in
-    change_answers (Dated tells (seat.replies (seat.home before))) _ _ _ (seen c.args.request) ask _ _ (rw c.in-Ok-Change.field-0-is at c.in-Ok-Change.ensures.asks)
-    (subst (λ b. Replied (Dated tells (seat.replies (seat.home before))) (seat.header before) (seat.number before) (seat.front before) (call_seen ask) (change_response (call_seen ask)) c.args.request.close b c.change.new.buffer (seat.front c.change.new.seat)) c.requires c.change.ensures.answers)
+    change_answers (Dated tells (seat.replies (seat.home before) (seat.sealed c.change.new.seat))) _ _ _ (seen c.args.request) ask _ _ (rw c.in-Ok-Change.field-0-is at c.in-Ok-Change.ensures.asks)
+    (subst (λ b. Replied (Dated tells (seat.replies (seat.home before) (seat.sealed c.change.new.seat))) (seat.header before) (seat.number before) (seat.front before) (call_seen ask) (change_response (call_seen ask)) c.args.request.close b c.change.new.buffer (seat.front c.change.new.seat)) c.requires c.change.ensures.answers)
 
 pub returns-in-Ok-Read-clause-answers : goal.returns-in-Ok-Read-clause-answers
 returns-in-Ok-Read-clause-answers g c =
@@ -37,10 +37,10 @@ returns-in-Ok-Read-clause-answers g c =
     let before = c.args.seat.now in
     let tells = g.C.Clock.tells c.args.clock.now in
     let question = question_seen c.in-Ok-Read.question in
-    read_answers (Dated tells (seat.replies (seat.home before))) _ _ _ (seen c.args.request) question _ _ (rw c.in-Ok-Read.field-0-is at c.in-Ok-Read.ensures.asks)
-    (subst (λ b. Replied (Dated tells (seat.replies (seat.home before))) (seat.header before) (seat.number before) (seat.front before) (after_call.Looks question) (read_response question) c.args.request.close b c.look.new.buffer (seat.front c.look.new.seat)) c.requires (dated_read tells (seat.replies (seat.home before)) _ _ _ _ _ _ _ question c.look.ensures.answers))
+    read_answers (Dated tells (seat.replies (seat.home before) (seat.sealed c.look.new.seat))) _ _ _ (seen c.args.request) question _ _ (rw c.in-Ok-Read.field-0-is at c.in-Ok-Read.ensures.asks)
+    (subst (λ b. Replied (Dated tells (seat.replies (seat.home before) (seat.sealed c.look.new.seat))) (seat.header before) (seat.number before) (seat.front before) (after_call.Looks question) (read_response question) c.args.request.close b c.look.new.buffer (seat.front c.look.new.seat)) c.requires (dated_read tells (seat.replies (seat.home before) (seat.sealed c.look.new.seat)) _ _ _ _ _ _ _ question c.look.ensures.answers))
 
 pub returns-in-Err-clause-answers : goal.returns-in-Err-clause-answers
 returns-in-Err-clause-answers g c =
-    route_refusal_answers (Dated (g.C.Clock.tells c.args.clock.now) (g.T.Seat.replies (g.T.Seat.home c.args.seat.now))) _ _ _ (seen c.args.request) c.in-Err.refusal _ c.in-Err.ensures.asks
+    route_refusal_answers (Dated (g.C.Clock.tells c.args.clock.now) (g.T.Seat.replies (g.T.Seat.home c.args.seat.now) (g.T.Seat.sealed c.args.seat.now))) _ _ _ (seen c.args.request) c.in-Err.refusal _ c.in-Err.ensures.asks
     (subst (λ b. c.put_route_refusal.new.buffer ≡ text_of (failed c.in-Err.refusal) c.args.request.close b) c.requires c.put_route_refusal.ensures)

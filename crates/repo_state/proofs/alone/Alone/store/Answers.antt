@@ -1,4 +1,5 @@
 use Rattle.std.proofs.Common.{◌≤◌, ◌||◌, List, sym, ap, subst, ◌∙◌}
+use Rattle.std.specs.Prelude.{Option}
 use Rattle.std.proofs.lemmas.Result.{IfOk-at_ok, IfOk-weaker}
 use Rattle.ports.specs.Faults.{Counts}
 use Rattle.blob_disk.proofs.Clients.{kept_then}
@@ -9,10 +10,13 @@ use Rattle.history_model.specs.History.{Entry}
 use Rattle.repo_calls.specs.Calls.{call_seen, granted_seen}
 use Rattle.repo_calls.specs.Asking.{is_disk_fault, is_unread}
 use Rattle.repo_state.specs.AloneSteps.{IsStored, IsSealedFor}
+use Rattle.repo_state.specs.Groups.{reach_of}
 use Rattle.repo_state.specs.Images.{StandsNow}
 use Rattle.repo_state.specs.Trees.{LandsAs}
+use Rattle.repo_state.specs.declared.left.Left.{Left}
 use Rattle.repo_state.proofs.AloneSteps.{either_counts, stored_leaves}
 use Rattle.repo_state.proofs.Chains.{leaves_then}
+use Rattle.repo_state.proofs.LeftOver.{idle_alone}
 use Rattle.repo_state.proofs.alone.Alone.store.Given.{Over}
 use Rattle.repo_state.proofs.alone.Alone.store.Goals as goal
 
@@ -27,6 +31,8 @@ stored g c =
       header = e.header;
       sealed = e.sealed;
       left = e.left;
+      idle = idle_alone _ s.history s.sealed _ s.left _ c.history_length-length.ensures.leaves_now c.self.invariant;
+      broken = c.history_length-length.ensures.leaves_now.cut_is;
       replies = e.reply;
       core = e.core;
     }
@@ -60,7 +66,9 @@ returns-clause-leaves g c =
     let still = e.kept.honest ∙ honest in
     leaves_then s.disk mid.disk new.disk e.kept
     (stored_leaves s (call_seen c.args.ask.now) c.store-stored.result mid new.history (stored g c) e.down
-    (λ image is. subst (λ x. StandsNow x mid.history s.sealed image) header (subst (λ n. StandsNow mid.opening.header mid.history n image) e.sealed ((e.sound.leaves still).now image is)))
+    (λ image is. subst (λ x. StandsNow x mid.history s.sealed (reach_of s.sealed s.left) image) header
+    (subst (λ n. StandsNow mid.opening.header mid.history n (reach_of n s.left) image) e.sealed
+    (subst (λ (o : Option Left). StandsNow mid.opening.header mid.history mid.sealed (reach_of mid.sealed o) image) e.left ((e.sound.leaves still).now image is))))
     (e.leaves honest))
     ((change g c).leaves still))
 

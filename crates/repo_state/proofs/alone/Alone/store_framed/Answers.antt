@@ -7,6 +7,7 @@ use Rattle.reply_model.specs.Reply.{PutContent}
 use Rattle.repo_calls.specs.Asking.{is_disk_fault}
 use Rattle.repo_state.specs.AloneSteps.{IsStored, IsSealedFor}
 use Rattle.repo_state.specs.Images.{LeavesChange}
+use Rattle.repo_state.proofs.LeftOver.{idle_alone}
 use Rattle.repo_state.proofs.alone.Alone.store_framed.Given.{Over}
 use Rattle.repo_state.proofs.alone.Alone.store_framed.Goals as goal
 
@@ -21,6 +22,8 @@ stored g c =
       header = e.header;
       sealed = e.sealed;
       left = e.left;
+      idle = idle_alone _ s.history s.sealed _ s.left _ c.history_length-length.ensures.leaves_now c.self.invariant;
+      broken = c.history_length-length.ensures.leaves_now.cut_is;
       replies = e.reply;
       core = e.core;
     }

@@ -11,7 +11,7 @@ invariant_of-self g c =
     let e = c.clear_seats.ensures in
     let h = c.self.inside.machine.history in (
       (
-        holds_cleared c.self.inside.machine.header c.clear_seats.new.self.header h c.clear_seats.new.self.history c.self.inside.sealed c.self.inside.journal _ _ e.header e.history e.legal c.self.invariant.0.0,
+        holds_cleared c.self.inside.machine.header c.clear_seats.new.self.header h c.clear_seats.new.self.history c.self.inside.sealed c.self.inside.group_end c.self.inside.journal _ _ e.header e.history e.legal c.self.invariant.0.0,
         room_cleared h c.clear_seats.new.self.history c.self.inside.sealed c.self.inside.machine.room c.clear_seats.new.self.room e.history e.room c.self.invariant.0.1,
       ),
       manifests_same _ _ _ _ _ e.header (ap known e.history ∙ known-cleared h) c.self.invariant.1,

@@ -19,7 +19,7 @@ returns-then-is_err-clause-reply g c = rw (← c.self.view_is) (λ ask judges. u
 
 pub invariant_of-self-then-is_err : goal.invariant_of-self-then-is_err
 invariant_of-self-then-is_err g c =
-    ((holds_reserved (g.D.Disk.meaning c.self.inside.first.value) (g.D.Disk.meaning c.self.inside.disk) c.self.inside.machine.header c.self.inside.machine.history c.self.inside.sealed c.self.inside.journal c.reserve_behind.new.self c.reserve_behind.ensures.same c.reserve_behind.ensures.bytes c.self.invariant.0.0, c.self.invariant.0.1), c.self.invariant.1)
+    ((holds_reserved (g.D.Disk.meaning c.self.inside.first.value) (g.D.Disk.meaning c.self.inside.disk) c.self.inside.machine.header c.self.inside.machine.history c.self.inside.sealed c.self.inside.group_end c.self.inside.journal c.reserve_behind.new.self c.reserve_behind.ensures.same c.reserve_behind.ensures.bytes c.self.invariant.0.0, c.self.invariant.0.1), c.self.invariant.1)
 
 -- ---- it makes no entry
 
@@ -28,7 +28,7 @@ invariant_of-self g c =
     let none = none_made c.args.judged.frame c.args.judged.made c.in_default.ensures.frame in
     let same = still c.self.inside.machine.history c.admit.new.self.history c.args.judged.who c.args.judged.made none c.admit.ensures.history in (
       (
-        holds_at _ _ c.self.inside.machine.header c.admit.new.self.header c.self.inside.machine.history c.admit.new.self.history c.self.inside.sealed c.self.inside.journal c.admit.ensures.header same c.self.invariant.0.0,
+        holds_at _ _ c.self.inside.machine.header c.admit.new.self.header c.self.inside.machine.history c.admit.new.self.history c.self.inside.sealed c.self.inside.group_end c.self.inside.journal c.admit.ensures.header same c.self.invariant.0.0,
         room_kept c.self.inside.machine.history c.admit.new.self.history c.self.inside.sealed c.self.inside.machine.room c.admit.new.self.room same (c.admit.ensures.keeps none) c.self.invariant.0.1,
       ),
       manifests_same _ _ _ _ _ c.admit.ensures.header (ap known same) c.self.invariant.1,
@@ -57,7 +57,7 @@ invariant_of-self-2 g c =
     let bytes = c.take.ensures.bytes ∙ (λ i. grown (c.reserve_behind.ensures.bytes i) (frame_out i)) in (
       (
         holds_entered c.self.inside.machine.header c.self.inside.machine.header c.admit_framed-granted.new.self.header c.self.inside.machine.history c.self.inside.machine.history c.admit_framed-granted.new.self.history
-            c.self.inside.sealed judged.0 c.args.judged c.in-Some.frame.now c.self.inside.journal c.take.new.self (g.D.Disk.meaning c.self.inside.first.value) (g.D.Disk.meaning c.self.inside.disk)
+            c.self.inside.sealed judged.0 c.args.judged c.in-Some.frame.now c.self.inside.group_end c.self.inside.journal c.take.new.self (g.D.Disk.meaning c.self.inside.first.value) (g.D.Disk.meaning c.self.inside.disk)
             refl admitted.header refl admitted.history made (g.met.D.Disk.sound c.self.inside.disk) same bytes
             (holds_made c.self.view_is c.self.inside.journal c.args.judged.made made.body made.made_is c.self.invariant.0.0.1.size_is refl c.requires.holds) c.self.invariant.0.0,
         room_entered c.self.inside.machine.header c.self.inside.machine.history c.admit_framed-granted.new.self.history c.self.inside.sealed judged.0 c.args.judged c.in-Some.frame.now c.admit_framed-granted.new.self.room made admitted.room,

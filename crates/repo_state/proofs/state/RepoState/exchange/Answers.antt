@@ -36,7 +36,7 @@ invariant_of-self g c =
     let admitted = c.admit.ensures in (
       (
         holds_entered c.self.inside.machine.header c.self.inside.machine.header c.admit.new.self.header c.self.inside.machine.history c.self.inside.machine.history c.admit.new.self.history
-            c.self.inside.sealed (LandDraft c.args.rebased.caller c.args.rebased.name c.args.rebased.draft c.args.rebased.asked) judged c.in-Some.frame.now c.self.inside.journal c.hold.new.self (g.D.Disk.meaning c.self.inside.first.value) (g.D.Disk.meaning c.self.inside.disk)
+            c.self.inside.sealed (LandDraft c.args.rebased.caller c.args.rebased.name c.args.rebased.draft c.args.rebased.asked) judged c.in-Some.frame.now c.self.inside.group_end c.self.inside.journal c.hold.new.self (g.D.Disk.meaning c.self.inside.first.value) (g.D.Disk.meaning c.self.inside.disk)
             refl admitted.header refl admitted.history made (g.met.D.Disk.sound c.self.inside.disk) c.hold.ensures.same c.hold.ensures.bytes
             (λ honest. asks_nothing c.self.inside.machine.header c.self.inside.machine.history (LandDraft c.args.rebased.caller c.args.rebased.name c.args.rebased.draft c.args.rebased.asked) judged.granted made.body tt made.granted
             (with_group c.self.inside.journal.size c.self.inside.journal.pending.bytes (g.D.Disk.meaning c.self.inside.disk).state.reads) (bodies c.self.inside.machine.history)) c.self.invariant.0.0,

@@ -21,7 +21,7 @@ invariant_of-self-in-Ok g c =
     let e = c.in-Ok.ensures in
     let r = c.room.ensures in (
       (
-        holds_read s.machine.header c.room.new.self.header s.machine.history c.room.new.self.history s.sealed s.journal _ _ _ r.header r.history (read_as _ _ _ _ refl e.kept e.faults e.quiet e.looked e.leaves) c.self.invariant.0.0,
+        holds_read s.machine.header c.room.new.self.header s.machine.history c.room.new.self.history s.sealed s.group_end s.journal _ _ _ r.header r.history (read_as _ _ _ _ refl e.kept e.faults e.quiet e.looked e.leaves) c.self.invariant.0.0,
         room_kept s.machine.history c.room.new.self.history s.sealed s.machine.room c.room.new.self.room r.history r.keeps c.self.invariant.0.1,
       ),
       manifests_same _ _ _ _ _ r.header (ap known r.history) c.self.invariant.1,
@@ -48,7 +48,7 @@ invariant_of-self-then-not-is_of_disk g c =
     let r = c.room.ensures in
     let read = unread_by c.in-Err.fault ∙ sym c.is_of_disk.ensures ∙ c.if-not-is_of_disk.true in (
       (
-        holds_read s.machine.header c.room.new.self.header s.machine.history c.room.new.self.history s.sealed s.journal _ _ _ r.header r.history (read_as _ _ _ _ read e.kept e.faults e.quiet e.looked e.leaves) c.self.invariant.0.0,
+        holds_read s.machine.header c.room.new.self.header s.machine.history c.room.new.self.history s.sealed s.group_end s.journal _ _ _ r.header r.history (read_as _ _ _ _ read e.kept e.faults e.quiet e.looked e.leaves) c.self.invariant.0.0,
         room_kept s.machine.history c.room.new.self.history s.sealed s.machine.room c.room.new.self.room r.history r.keeps c.self.invariant.0.1,
       ),
       manifests_same _ _ _ _ _ r.header (ap known r.history) c.self.invariant.1,
@@ -83,7 +83,7 @@ invariant_of-self-in-Err g c =
     let f = c.fault.ensures in
     let failed = unread_by c.in-Err.fault ∙ sym c.is_of_disk.ensures ∙ c.if-not-is_of_disk.false in (
       (
-        holds_read_failed s.machine.header c.room.new.self.header c.fault.new.self.header s.machine.history c.room.new.self.history c.fault.new.self.history s.sealed c.args.who s.journal _ _ _ r.header f.header r.history f.history
+        holds_read_failed s.machine.header c.room.new.self.header c.fault.new.self.header s.machine.history c.room.new.self.history c.fault.new.self.history s.sealed c.args.who s.group_end s.journal _ _ _ r.header f.header r.history f.history
             (read_as _ _ _ _ failed e.kept e.faults e.quiet e.looked e.leaves) c.self.invariant.0.0,
         (λ up some. (let keeps = f.keeps in let room = ok_told c.room.result (sym c.is_err.ensures.value ∙ c.if-is_err.false) r.room in omega arith)),
       ),

@@ -1,3 +1,7 @@
+use Rattle.std.proofs.Common.{ap}
+use Rattle.std.specs.Prelude.{Option}
+use Rattle.repo_journal.specs.declared.left.Left.{Left}
+use Rattle.repo_state.specs.Groups.{left_of}
 use Rattle.repo_state.proofs.Known.{manifests_begin}
 use Rattle.repo_state.proofs.Opening.{sound_opened, agrees_opened, all_are_sealed}
 use Rattle.repo_state.proofs.Settling.{opened_table}
@@ -24,7 +28,7 @@ returns-clause-leaves_now g c =
     (agrees_opened _ _ _ c.args.journal _ c.stored_length-sealed.ensures (g.met.D.Disk.sound c.args.disk) c.changesets-changesets.ensures.limits c.requires.legal c.requires.opened c.requires.unseated).left
 
 pub returns-clause-core_left : goal.returns-clause-core_left
-returns-clause-core_left g c = opened_left c.args.machine.history c.args.journal.broken c.requires.opened.whole
+returns-clause-core_left g c = opened_left c.args.machine.history (left_of c.stored_length-sealed.result c.args.journal.left) (ap (λ (o : Option Left). left_of c.stored_length-sealed.result o) c.requires.opened.whole)
 
 pub returns-clause-core : goal.returns-clause-core
 returns-clause-core g c = opened_as c.args.machine.history c.stored_length-sealed.result c.stored_length-sealed.ensures c.requires.unseated

@@ -23,7 +23,7 @@ pub invariant_of-self-in-Ok-fill_parts : goal.invariant_of-self-in-Ok-fill_parts
 invariant_of-self-in-Ok-fill_parts g c =
     let e = c.in-Ok-fill_parts.ensures in (
       (
-        holds_read c.self.inside.machine.header c.room.new.self.header c.self.inside.machine.history c.room.new.self.history c.self.inside.sealed c.self.inside.journal _ _ _ c.room.ensures.header c.room.ensures.history
+        holds_read c.self.inside.machine.header c.room.new.self.header c.self.inside.machine.history c.room.new.self.history c.self.inside.sealed c.self.inside.group_end c.self.inside.journal _ _ _ c.room.ensures.header c.room.ensures.history
             (read_as _ _ _ _ refl e.kept e.faults e.quiet e.looked e.leaves) c.self.invariant.0.0,
         room_kept c.self.inside.machine.history c.room.new.self.history c.self.inside.sealed c.self.inside.machine.room c.room.new.self.room c.room.ensures.history c.room.ensures.keeps c.self.invariant.0.1,
       ),
@@ -34,7 +34,7 @@ pub invariant_of-self-in-Err-fill_parts : goal.invariant_of-self-in-Err-fill_par
 invariant_of-self-in-Err-fill_parts g c =
     let e = c.in-Err.ensures in (
       (
-        holds_read_failed c.self.inside.machine.header c.room.new.self.header c.fault.new.self.header c.self.inside.machine.history c.room.new.self.history c.fault.new.self.history c.self.inside.sealed c.args.who c.self.inside.journal _ _ _
+        holds_read_failed c.self.inside.machine.header c.room.new.self.header c.fault.new.self.header c.self.inside.machine.history c.room.new.self.history c.fault.new.self.history c.self.inside.sealed c.args.who c.self.inside.group_end c.self.inside.journal _ _ _
             c.room.ensures.header c.fault.ensures.header c.room.ensures.history c.fault.ensures.history (read_as _ _ _ _ refl e.kept e.faults e.quiet e.looked e.leaves) c.self.invariant.0.0,
         (λ up some. (let keeps = c.fault.ensures.keeps in let room = ok_told c.room.result (sym c.is_err.ensures.value ∙ c.if-is_err.false) c.room.ensures.room in omega arith)),
       ),

@@ -20,7 +20,7 @@ pub invariant_of-self-in-Ok-fill : goal.invariant_of-self-in-Ok-fill
 invariant_of-self-in-Ok-fill g c =
     let e = c.in-Ok-fill.ensures in (
       (
-        holds_read c.self.inside.machine.header c.room.new.self.header c.self.inside.machine.history c.room.new.self.history c.self.inside.sealed c.self.inside.journal _ _ _ c.room.ensures.header c.room.ensures.history
+        holds_read c.self.inside.machine.header c.room.new.self.header c.self.inside.machine.history c.room.new.self.history c.self.inside.sealed c.self.inside.group_end c.self.inside.journal _ _ _ c.room.ensures.header c.room.ensures.history
             (read_as _ _ _ _ refl e.kept e.faults e.quiet e.looked (λ honest. e.leaves)) c.self.invariant.0.0,
         room_kept c.self.inside.machine.history c.room.new.self.history c.self.inside.sealed c.self.inside.machine.room c.room.new.self.room c.room.ensures.history c.room.ensures.keeps c.self.invariant.0.1,
       ),
@@ -31,7 +31,7 @@ pub invariant_of-self-in-Err : goal.invariant_of-self-in-Err
 invariant_of-self-in-Err g c =
     let e = c.in-Err.ensures in (
       (
-        holds_read_failed c.self.inside.machine.header c.room.new.self.header c.fault.new.self.header c.self.inside.machine.history c.room.new.self.history c.fault.new.self.history c.self.inside.sealed c.args.who c.self.inside.journal _ _ _
+        holds_read_failed c.self.inside.machine.header c.room.new.self.header c.fault.new.self.header c.self.inside.machine.history c.room.new.self.history c.fault.new.self.history c.self.inside.sealed c.args.who c.self.inside.group_end c.self.inside.journal _ _ _
             c.room.ensures.header c.fault.ensures.header c.room.ensures.history c.fault.ensures.history (read_as _ _ _ _ refl e.kept e.faults e.quiet e.looked (λ honest. e.leaves)) c.self.invariant.0.0,
         (λ up some. (let keeps = c.fault.ensures.keeps in let room = ok_told c.room.result (sym c.is_err.ensures.value ∙ c.if-is_err.false) c.room.ensures.room in omega arith)),
       ),
@@ -48,13 +48,13 @@ returns-in-Ok-fill-clause-ok g c =
 pub returns-in-Ok-fill-clause-sound : goal.returns-in-Ok-fill-clause-sound
 returns-in-Ok-fill-clause-sound g c =
     let e = c.in-Ok-fill.ensures in
-    (holds_read c.self.inside.machine.header c.room.new.self.header c.self.inside.machine.history c.room.new.self.history c.self.inside.sealed c.self.inside.journal _ _ _ c.room.ensures.header c.room.ensures.history
+    (holds_read c.self.inside.machine.header c.room.new.self.header c.self.inside.machine.history c.room.new.self.history c.self.inside.sealed c.self.inside.group_end c.self.inside.journal _ _ _ c.room.ensures.header c.room.ensures.history
     (read_as _ _ _ _ refl e.kept e.faults e.quiet e.looked (λ honest. e.leaves)) c.self.invariant.0.0).0
 
 pub returns-in-Ok-fill-clause-leaves_now : goal.returns-in-Ok-fill-clause-leaves_now
 returns-in-Ok-fill-clause-leaves_now g c =
     let e = c.in-Ok-fill.ensures in
-    (holds_read c.self.inside.machine.header c.room.new.self.header c.self.inside.machine.history c.room.new.self.history c.self.inside.sealed c.self.inside.journal _ _ _ c.room.ensures.header c.room.ensures.history
+    (holds_read c.self.inside.machine.header c.room.new.self.header c.self.inside.machine.history c.room.new.self.history c.self.inside.sealed c.self.inside.group_end c.self.inside.journal _ _ _ c.room.ensures.header c.room.ensures.history
     (read_as _ _ _ _ refl e.kept e.faults e.quiet e.looked (λ honest. e.leaves)) c.self.invariant.0.0).1.left
 
 pub returns-in-Ok-fill-clause-honest : goal.returns-in-Ok-fill-clause-honest
@@ -84,13 +84,13 @@ returns-in-Err-clause-waits g c =
 pub returns-in-Err-clause-sound : goal.returns-in-Err-clause-sound
 returns-in-Err-clause-sound g c =
     let e = c.in-Err.ensures in
-    (holds_read_failed c.self.inside.machine.header c.room.new.self.header c.fault.new.self.header c.self.inside.machine.history c.room.new.self.history c.fault.new.self.history c.self.inside.sealed c.args.who c.self.inside.journal _ _ _
+    (holds_read_failed c.self.inside.machine.header c.room.new.self.header c.fault.new.self.header c.self.inside.machine.history c.room.new.self.history c.fault.new.self.history c.self.inside.sealed c.args.who c.self.inside.group_end c.self.inside.journal _ _ _
     c.room.ensures.header c.fault.ensures.header c.room.ensures.history c.fault.ensures.history (read_as _ _ _ _ refl e.kept e.faults e.quiet e.looked (λ honest. e.leaves)) c.self.invariant.0.0).0
 
 pub returns-in-Err-clause-leaves_now : goal.returns-in-Err-clause-leaves_now
 returns-in-Err-clause-leaves_now g c =
     let e = c.in-Err.ensures in
-    (holds_read_failed c.self.inside.machine.header c.room.new.self.header c.fault.new.self.header c.self.inside.machine.history c.room.new.self.history c.fault.new.self.history c.self.inside.sealed c.args.who c.self.inside.journal _ _ _
+    (holds_read_failed c.self.inside.machine.header c.room.new.self.header c.fault.new.self.header c.self.inside.machine.history c.room.new.self.history c.fault.new.self.history c.self.inside.sealed c.args.who c.self.inside.group_end c.self.inside.journal _ _ _
     c.room.ensures.header c.fault.ensures.header c.room.ensures.history c.fault.ensures.history (read_as _ _ _ _ refl e.kept e.faults e.quiet e.looked (λ honest. e.leaves)) c.self.invariant.0.0).1.left
 
 pub returns-in-Err-clause-core : goal.returns-in-Err-clause-core

@@ -19,7 +19,7 @@ returns-in-Ok-clause-change g c = λ before call is.
     let all = c.stored_length-upto.ensures.length in
     let done = e.done in
     sealed_ok before call c.in_ok-granted.granted c.args.self.now c.seal.new.self (subst (λ r. IsStored before call r c.args.self.now) c.in_ok-granted.was is)
-    (record { history = e.history; most = e.most; grows = e.grows; still = λ few. e.still (omega arith); leaves = e.leaves; faults = e.faults; broken = e.leaves_now.broken_is })
+    (record { history = e.history; most = e.most; grows = e.grows; still = λ few. e.still (omega arith); leaves = e.leaves; faults = e.faults; broken = e.leaves_now.cut_is; ends = e.leaves_now.ends; idle = λ some. e.idle (omega arith); reaches = e.sound.reaches; within = e.sound.within })
     (omega arith)
 
 pub returns-in-Err-clause-change : goal.returns-in-Err-clause-change
@@ -28,5 +28,5 @@ returns-in-Err-clause-change g c = λ before call is.
     let all = c.stored_length-upto.ensures.length in
     let less = (e.failed.0 refl).1 in
     sealed_failed before call c.in_ok-granted.granted c.args.self.now c.seal.new.self (subst (λ r. IsStored before call r c.args.self.now) c.in_ok-granted.was is)
-    (record { history = e.history; most = e.most; grows = e.grows; still = λ few. e.still (omega arith); leaves = e.leaves; faults = e.faults; broken = e.leaves_now.broken_is })
+    (record { history = e.history; most = e.most; grows = e.grows; still = λ few. e.still (omega arith); leaves = e.leaves; faults = e.faults; broken = e.leaves_now.cut_is; ends = e.leaves_now.ends; idle = λ some. e.idle (omega arith); reaches = e.sound.reaches; within = e.sound.within })
     e.fails (omega arith)

@@ -1,6 +1,7 @@
 use Rattle.std.proofs.Common.{ap, ◌∙◌}
 use Rattle.repo_machine.specs.Prepared.{asked_by}
 use Rattle.bookmark_lock.specs.Opening.{Opening}
+use Rattle.repo_state.specs.Groups.{left_of}
 use Rattle.repo_state.specs.State.{State, opening_of}
 use Rattle.repo_state.proofs.Asked.{for_call}
 use Rattle.repo_state.proofs.Landed.{lands_as}
@@ -31,7 +32,7 @@ enter-requires-clause-holds g c =
       history = machine.history;
       sealed = c.self.inside.sealed;
       pending = c.self.inside.journal.pending;
-      left = c.self.inside.journal.broken;
+      left = left_of c.self.inside.group_end c.self.inside.journal.left;
       room = machine.room;
       table = c.self.inside.manifests;
       disk = g.D.Disk.meaning c.self.inside.disk;

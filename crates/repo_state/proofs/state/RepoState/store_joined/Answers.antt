@@ -3,6 +3,7 @@ use Rattle.reply_model.specs.After.{Joins, MayRead}
 use Rattle.disk_model.specs.Meaning.{Meaning}
 use Rattle.disk_model.specs.Calls.{Kept, Looked}
 use Rattle.repo_state.specs.Joining.{ids_of}
+use Rattle.repo_state.specs.Groups.{left_of}
 use Rattle.repo_state.specs.State.{State, opening_of}
 use Rattle.repo_state.proofs.Asked.{for_call}
 use Rattle.repo_state.proofs.JoinAnswers.{entered_whole, holds_moved, join_core, join_replies, may_enter, may_read, whole_holds, whole_refused}
@@ -87,7 +88,7 @@ enter-requires-clause-holds g c =
       history = machine.history;
       sealed = inside.sealed;
       pending = inside.journal.pending;
-      left = inside.journal.broken;
+      left = left_of inside.group_end inside.journal.left;
       room = machine.room;
       table = inside.manifests;
       disk = g.D.Disk.meaning inside.disk;

@@ -1,9 +1,10 @@
-use Rattle.std.proofs.Common.{sym, ap, subst}
-use Rattle.bookmark_lock.specs.Place.{Place}
+use Rattle.std.proofs.Common.{sym, ap, subst, ◌∙◌}
+use Rattle.bookmark_lock.specs.Place.{Place, Site}
 use Rattle.reply_model.specs.Reply.{LandDraft}
 use Rattle.reply_model.specs.After.{Asks, Call}
 use Rattle.repo_calls.specs.Asking.{is_disk_fault, stored_answer}
-use Rattle.shared_repo.specs.Sealed.{IsLastTurn, IsSealedAfter}
+use Rattle.shared_repo.specs.Sealed.{IsLastTurn}
+use Rattle.repo_calls.specs.Sealing.{SealedAfter}
 use Rattle.shared_repo.proofs.Fronts.{asked_for}
 use Rattle.shared_repo.proofs.LastTurns.{turn_front, turn_later, turn_unless}
 use Rattle.shared_repo.proofs.repo.Repo.attempt.Goals as goal
@@ -18,8 +19,8 @@ returns-clause-sealed g c =
     let inner = c.seat.inside.inner in
     let asked = Asks (LandDraft c.in-Ok.rebased.caller c.in-Ok.rebased.name c.in-Ok.rebased.draft c.in-Ok.rebased.asked) in
     let sealed = c.answer_sealed.ensures.sealed header inner asked (sym (ap (λ (p : Place). p.number) c.exchange.ensures.seat)) c.in_ok-entered.ensures.entered in
-    subst (λ (call : Call). IsSealedAfter header seat.front seat.number call answer new.front new.sealed) (asked_for seat.front plan.caller plan.name plan.draft plan c.in-Ok.rebased c.args.moment c.requires.planned c.in-Ok.ensures)
-    (subst (λ (p : Place). IsSealedAfter header p.front p.number asked answer new.front new.sealed) c.seat.view_is sealed)
+    subst (λ (call : Call). SealedAfter new.sealed header seat.front seat.number call answer new.front) (asked_for seat.front plan.caller plan.name plan.draft plan c.in-Ok.rebased c.args.moment c.requires.planned c.in-Ok.ensures)
+    (subst (λ (p : Place). SealedAfter new.sealed header p.front p.number asked answer new.front) c.seat.view_is sealed)
 
 pub returns-clause-front : goal.returns-clause-front
 returns-clause-front g c = turn_front _ _ _ _ c.answer_sealed.ensures.stands
@@ -31,5 +32,6 @@ returns-clause-stands g c =
     let mid = c.exchange.new.seat in
     let new = c.answer_sealed.new.seat in
     let failed = is_disk_fault c.answer_sealed.result in
-    let turn = turn_later opening inner mid new failed (ap (λ (p : Place). p.number) c.exchange.ensures.seat) c.exchange.ensures.seals c.answer_sealed.ensures.stands in
+    let opened = ap (λ (p : Place). p.lock.opening) c.seat.view_is ∙ ap (λ (s : Site). s.opening) c.requires.place in
+    let turn = turn_later opening inner mid new failed opened c.exchange.ensures.later c.answer_sealed.ensures.stands in
     turn_unless opening c.args.seat.now new failed c.answer_sealed.result (subst (λ (p : Place). IsLastTurn opening p failed new) c.seat.view_is turn)

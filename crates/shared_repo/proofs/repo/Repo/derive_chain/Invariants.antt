@@ -1,7 +1,8 @@
 use Rattle.std.proofs.Common.{◌≡◌, ◌≤◌}
 use Rattle.bookmark_lock.specs.Place.{moved}
 use Rattle.reply_model.specs.After.{SeesMore}
+use Rattle.shared_repo.specs.Sealed.{IsLater}
 use Rattle.shared_repo.proofs.repo.Repo.derive_chain.Given as goal
 
 abbrev pub invariant-loop : goal.invariant-loop
-invariant-loop g l = (l.seat ≡ moved l.initial.seat l.seat) × (l.initial.seat.sealed ≤ l.seat.sealed) × SeesMore l.initial.seat.front l.initial.seat.number l.seat.front
+invariant-loop g l = (l.seat ≡ moved l.initial.seat l.seat) × (l.initial.seat.sealed ≤ l.seat.sealed) × IsLater l.initial.seat l.seat × SeesMore l.initial.seat.front l.initial.seat.number l.seat.front

@@ -1,9 +1,10 @@
 use Rattle.std.proofs.Common.{◌≡◌, ◌≤◌}
 use Rattle.bookmark_lock.specs.Place.{moved}
 use Rattle.reply_model.specs.After.{SeesMore}
+use Rattle.shared_repo.specs.Sealed.{IsLater}
 use Rattle.shared_repo.specs.Landing.{IsEarlier}
 use Rattle.shared_repo.proofs.repo.Repo.land_in_turns.Given as goal
 
 abbrev pub invariant-loop-attempt : goal.invariant-loop-attempt
 invariant-loop-attempt g l =
-    (l.seat ≡ moved l.initial.seat l.seat) × (l.initial.seat.sealed ≤ l.seat.sealed) × SeesMore l.initial.seat.front l.initial.seat.number l.seat.front × IsEarlier l.seat.front l.caller l.name l.draft l.earlier
+    (l.seat ≡ moved l.initial.seat l.seat) × (l.initial.seat.sealed ≤ l.seat.sealed) × IsLater l.initial.seat l.seat × SeesMore l.initial.seat.front l.initial.seat.number l.seat.front × IsEarlier l.seat.front l.caller l.name l.draft l.earlier

@@ -9,4 +9,4 @@ use Rattle.shared_repo.proofs.repo.Repo.settle.Goals as goal
 pub returns-clause-err : goal.returns-clause-err
 returns-clause-err g c =
     let t = c.enter.ensures.turn in
-    subst (λ (h : List Entry). IfErr c.enter.result (λ fault. IsCollision (known h) fault)) (ap (λ (s : State). s.history) t.ran.leaves ∙ sym (ap (λ (p : Place). p.front) t.moved)) t.ran.met.1.1.1.1.0
+    subst (λ (h : List Entry). IfErr c.enter.result (λ fault. IsCollision (known h) fault)) (ap (λ (s : State). s.history) t.ran.leaves ∙ sym (ap (λ (p : Place). p.front) t.moved)) t.ran.met.1.1.1.1.1.1.0

@@ -1,5 +1,5 @@
 use Rattle.std.proofs.Common.{ap, refl}
-use Rattle.bookmark_lock.specs.Place.{Place}
+use Rattle.bookmark_lock.specs.Place.{Place, Site}
 use Rattle.repo_calls.specs.Asking.{is_disk_fault, stored_answer}
 use Rattle.repo_calls.specs.Calls.{call_seen}
 use Rattle.repo_machine.specs.Prepared.{asked_by}
@@ -18,5 +18,5 @@ returns-clause-sealed g c =
 
 pub returns-clause-stands : goal.returns-clause-stands
 returns-clause-stands g c =
-    unless_later c.args.self.now.opening c.args.seat.now c.derive_parents.new.seat c.store_ready.new.seat (is_disk_fault c.store_ready.result) c.store_ready.result (ap (λ (p : Place). p.number) c.derive_parents.ensures.seat)
-    c.derive_parents.ensures.seals c.store_ready.ensures.stands
+    unless_later c.args.self.now.opening c.args.seat.now c.derive_parents.new.seat c.store_ready.new.seat (is_disk_fault c.store_ready.result) c.store_ready.result
+    (ap (λ (s : Site). s.opening) c.requires.place) c.derive_parents.ensures.later c.store_ready.ensures.stands

@@ -1,7 +1,8 @@
-use Rattle.std.proofs.Common.{ap, sym, subst}
-use Rattle.bookmark_lock.specs.Place.{Place}
+use Rattle.std.proofs.Common.{ap, sym, subst, ◌∙◌}
+use Rattle.bookmark_lock.specs.Place.{Place, Site}
 use Rattle.repo_calls.specs.Asking.{is_disk_fault, stored_answer}
-use Rattle.shared_repo.specs.Sealed.{IsLastTurn, IsSealedAfter}
+use Rattle.shared_repo.specs.Sealed.{IsLastTurn}
+use Rattle.repo_calls.specs.Sealing.{SealedAfter}
 use Rattle.shared_repo.proofs.LastTurns.{turn_front, turn_later, turn_unless}
 use Rattle.shared_repo.proofs.repo.Repo.store_ready.Goals as goal
 
@@ -13,7 +14,7 @@ returns-clause-sealed g c =
     let answer = stored_answer c.answer_sealed.result in
     let call = g.C.TurnChange.asked c.args.change in
     let sealed = c.answer_sealed.ensures.sealed header inner call (sym (ap (λ (p : Place). p.number) c.enter_change-entered.ensures.seat)) c.enter_change-entered.ensures.entered in
-    subst (λ (p : Place). IsSealedAfter header p.front p.number call answer new.front new.sealed) c.seat.view_is sealed
+    subst (λ (p : Place). SealedAfter new.sealed header p.front p.number call answer new.front) c.seat.view_is sealed
 
 pub returns-clause-front : goal.returns-clause-front
 returns-clause-front g c = turn_front _ _ _ _ c.answer_sealed.ensures.stands
@@ -25,5 +26,6 @@ returns-clause-stands g c =
     let mid = c.enter_change-entered.new.seat in
     let new = c.answer_sealed.new.seat in
     let failed = is_disk_fault c.answer_sealed.result in
-    let turn = turn_later opening inner mid new failed (ap (λ (p : Place). p.number) c.enter_change-entered.ensures.seat) c.enter_change-entered.ensures.seals c.answer_sealed.ensures.stands in
+    let opened = ap (λ (p : Place). p.lock.opening) c.seat.view_is ∙ ap (λ (s : Site). s.opening) c.requires.place in
+    let turn = turn_later opening inner mid new failed opened c.enter_change-entered.ensures.later c.answer_sealed.ensures.stands in
     turn_unless opening c.args.seat.now new failed c.answer_sealed.result (subst (λ (p : Place). IsLastTurn opening p failed new) c.seat.view_is turn)
