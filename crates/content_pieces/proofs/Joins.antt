@@ -11,11 +11,7 @@ use Rattle.sha2.specs.Sha256.{sha256}
 use Rattle.disk_model.specs.Meaning.{Meaning}
 use Rattle.repo_journal.specs.View.{JournalView}
 use Rattle.content_pieces.specs.declared.piece.Piece.{Piece}
-use Rattle.content_pieces.specs.declared.fault.AssembleFault.{AssembleFault}
-use Rattle.content_pieces.specs.declared.fault.AssembleFault.TheVariants.{ReadFault as NotRead, BadBytes as OtherBytes, Memory}
-use Rattle.content_pieces.specs.Joining.{IsRead, AreJoined, TellsOwn, TellsPart}
-use Rattle.content_pieces.proofs.Blocks.{read_since}
-use Rattle.repo_journal.proofs.Walks.{Walked}
+use Rattle.content_pieces.specs.Joining.{IsRead, AreJoined}
 
 pub joined_then : (j : JournalView) (m : Meaning) (pieces : List Piece) (p : Piece) (joined bytes : List ℕ) → AreJoined j m pieces joined → IsRead j m p bytes → sha256 bytes ≡ p.id
     → AreJoined j m (pieces ++ p ∷ []) (joined ++ bytes)
@@ -37,22 +33,3 @@ told_apart a b t e differ same = true≢false (sym differ ∙ e ∙ ap not ((byt
 
 pub told_same : (a b : List ℕ) (t : Bool) → t ≡ not (bytes_eq a b) → t ≡ false → a ≡ b
 told_same a b t e same = (bytes_eq-Decides a b).0 (same_by (bytes_eq a b) (sym e ∙ same))
-
--- a fault of a piece that pieces whose bytes are theirs go before
-pub part_of_own : (j : JournalView) (m now : Meaning) (pieces : List Piece) (i : ℕ) (p : Piece) (joined : List ℕ) (fault : AssembleFault) → Walked m now → i < length pieces → p ≡ get_or pieces i p
-    → AreJoined j m (take i pieces) joined → TellsOwn j now p fault → TellsPart j m pieces fault
-part_of_own j m now pieces i p joined NotRead walked less is theirs tells = tt
-part_of_own j m now pieces i p joined Memory walked less is theirs tells = tt
-part_of_own j m now pieces i p joined (OtherBytes wanted found) walked less is theirs (bytes, read, wanted_is, found_is, differ) = record {
-  before = take i pieces;
-  other = p;
-  after = drop (i + 1) pieces;
-  parts = split_here pieces i p less is;
-  joined = joined;
-  are_theirs = theirs;
-  bytes = bytes;
-  is_read = read_since j m now p bytes walked read;
-  wanted_is = wanted_is;
-  found_is = found_is;
-  differ = differ;
-}

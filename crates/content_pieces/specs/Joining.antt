@@ -2,7 +2,6 @@
 --     IsWithin j p      the piece lies in the file, or in what waits behind it
 --     IsRead j m p bytes      these bytes may have been read for the piece: an honest disk gives those that stand there
 --     AreJoined j m pieces joined      bytes that may have been read for each piece, of its id, one behind another
---     TellsOwn j m p fault      the same of one piece
 --     TellsPiece j m pieces fault      the fault is of the disk, or of the first piece whose bytes have another id
 use Rattle.std.specs.Prelude.{◌≡◌, ◌≢◌, ◌+◌, ◌-◌, ◌≤◌, ◌<◌, ◌^◌, ℕ, Bool, true, false, List, [], ◌∷◌, ◌++◌, length, take, drop, Result, Ok, Err, IsTrue, ⊤}
 use Rattle.sha2.specs.Sha256.{sha256}
@@ -12,8 +11,6 @@ use Rattle.repo_journal.specs.View.{JournalView}
 use Rattle.content_pieces.specs.declared.piece.Piece.{Piece}
 use Rattle.content_pieces.specs.declared.fault.PieceFault.{PieceFault}
 use Rattle.content_pieces.specs.declared.fault.PieceFault.TheVariants.{ReadFault, BadBytes}
-use Rattle.content_pieces.specs.declared.fault.AssembleFault.{AssembleFault}
-use Rattle.content_pieces.specs.declared.fault.AssembleFault.TheVariants.{ReadFault as NotRead, BadBytes as OtherBytes, Memory}
 
 pub record IsWithin (j : JournalView) (p : Piece) : Type 0 where
   pub inside : p.at + p.length ≤ j.size + length j.pending.bytes
@@ -56,20 +53,3 @@ is_read_fault (Err (BadBytes wanted found)) = false
 abbrev pub TellsPiece : JournalView → Meaning → List Piece → PieceFault → Type 0
 TellsPiece j m pieces ReadFault = ⊤
 TellsPiece j m pieces (BadBytes wanted found) = HasOther j m pieces wanted found
-
-abbrev pub is_not_read : {T : Type 0} → Result T AssembleFault → Bool
-is_not_read (Ok x) = false
-is_not_read (Err NotRead) = true
-is_not_read (Err (OtherBytes wanted found)) = false
-is_not_read (Err Memory) = false
-
-abbrev pub TellsPart : JournalView → Meaning → List Piece → AssembleFault → Type 0
-TellsPart j m pieces NotRead = ⊤
-TellsPart j m pieces (OtherBytes wanted found) = HasOther j m pieces wanted found
-TellsPart j m pieces Memory = ⊤
-
--- the fault is of the disk, of memory, or of these bytes, which aren't the piece's
-abbrev pub TellsOwn : JournalView → Meaning → Piece → AssembleFault → Type 0
-TellsOwn j m p NotRead = ⊤
-TellsOwn j m p (OtherBytes wanted found) = (bytes : List ℕ) × IsRead j m p bytes × (wanted ≡ p.id) × (found ≡ sha256 bytes) × (found ≢ wanted)
-TellsOwn j m p Memory = ⊤

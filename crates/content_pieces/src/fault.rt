@@ -12,17 +12,3 @@ pub enum PieceFault {
     #[error("the content {wanted:?} has the bytes of {found:?}")]
     BadBytes { wanted: Id, found: Id },
 }
-
-/// Why there are no joined bytes.
-#[derive(Clone, Copy, Debug, PartialEq, Eq, Drop, Error)]
-pub enum AssembleFault {
-    /// The disk failed to read.
-    #[error("the disk failed to read")]
-    ReadFault,
-    /// The bytes in the file are those of another content.
-    #[error("the content {wanted:?} has the bytes of {found:?}")]
-    BadBytes { wanted: Id, found: Id },
-    /// Memory ran out.
-    #[error("out of memory")]
-    Memory,
-}

@@ -1,13 +1,11 @@
-//! Stored contents that are joined to one: the id of the joined bytes, without memory, and the bytes themselves.
+//! Stored contents that are joined to one: the id of the joined bytes, without memory.
 #![tactic(auto)]
 
-mod assembled;
 pub mod fault;
 mod feeding;
 mod joined;
 pub mod piece;
 
-pub use assembled::assemble;
-pub use fault::{AssembleFault, PieceFault};
+pub use fault::PieceFault;
 pub use joined::joined_id;
 pub use piece::Piece;

@@ -8,8 +8,6 @@ mod faults;
 #[cfg(test)]
 mod fsnodes;
 #[cfg(test)]
-mod histories;
-#[cfg(test)]
 mod nodes;
 #[cfg(test)]
 mod tables;

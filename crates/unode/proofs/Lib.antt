@@ -1,4 +1,3 @@
 pub mod FileMarks
-pub mod Lines
 pub mod Pasts
 pub mod Named

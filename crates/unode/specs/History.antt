@@ -1,9 +1,8 @@
 -- The past of a file.
 --     parents_of n      the ids of a unode's parents
 --     IsLine at xs line      file unodes of which at tells by their ids: the first is that of xs, each later one the parent of the one before, and the last has no parent. None of them is reached from itself, since the line ends
---     HasLine at x      such a line from the id x, of fewer than 2^64 unodes
 --     file_unodes ks p      of a changeset and its ancestors, each the child of the next: the unodes of the file p, newest first, back to the last whose parent lacks it as a file
-use Rattle.std.specs.Prelude.{◌≡◌, ◌^◌, ◌<◌, if◌then◌else◌, List, [], ◌∷◌, length, reverse, Option, Some, is_some}
+use Rattle.std.specs.Prelude.{◌≡◌, if◌then◌else◌, List, [], ◌∷◌, reverse, Option, Some, is_some}
 use Rattle.byte_fields.specs.Bytes.{Id}
 use Rattle.changeset_model.specs.Path.{Path}
 use Rattle.changeset_model.specs.Changeset.{set_at}
@@ -22,9 +21,6 @@ IsLine at [] (n ∷ line) = ⊥
 IsLine at (x ∷ xs) [] = ⊥
 IsLine at (x ∷ []) (n ∷ line) = (at x ≡ Some n) × IsLine at (parents_of n) line
 IsLine at (x ∷ y ∷ xs) (n ∷ line) = ⊥
-
-abbrev pub HasLine : (Id → Option Unode) → Id → Type 0
-HasLine at x = (line : List Unode) × IsLine at (x ∷ []) line × (length line < 2 ^ 64)
 
 abbrev pub file_unodes : List Known → Path → List Unode
 file_unodes [] p = []

@@ -4,7 +4,6 @@
 
 pub mod entry;
 pub mod file;
-pub mod history;
 pub mod laws;
 mod lookup;
 pub mod manifest;
@@ -15,7 +14,6 @@ mod writing;
 
 pub use entry::{UnodeChild, UnodeEntry};
 pub use file::FileUnode;
-pub use history::{Nodes, file_history};
 pub use lookup::entry_in;
 pub use manifest::UnodeManifest;
 pub use node::Unode;
