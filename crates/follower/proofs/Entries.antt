@@ -22,5 +22,5 @@ pub bodies-push : (h : List Entry) (body : Body) → is_stored body ≡ true →
 bodies-push h body stored = bodies-append h (entry_by 0 body ∷ []) ∙ ap (λ b. bodies h ++ cond b (body ∷ []) []) stored
 
 -- nothing more was done
-pub still : (more : ℕ) (h after : List Entry) (sealed : ℕ) → bodies after ≡ bodies h → sealed ≤ count h → Remains more h [] after sealed
-still more h after sealed same most = record { extra = []; entries = same ∙ sym (append-nil (bodies h)); few = omega arith; apart = omega arith; whole = λ down. refl }
+pub still : (h after : List Entry) (sealed : ℕ) → bodies after ≡ bodies h → sealed ≤ count h → Remains [] h [] after sealed
+still h after sealed same most = record { entries = same ∙ sym (append-nil (bodies h)); apart = omega arith; whole = λ down. refl }

@@ -13,9 +13,8 @@ use Rattle.reply_model.specs.Reply.{Granted, page_len}
 use Rattle.reply_model.specs.After.{Made, Answers, Grants, entries_of, entry_by}
 use Rattle.reply_model.proofs.Opened.{then_some}
 use Rattle.reply_model.proofs.Stored.{stored-push}
-use Rattle.bookmark_lock.specs.Opening.{Opening}
 use Rattle.landing_core.proofs.Down.{down-stored}
-use Rattle.follower.specs.Making.{call_of, count, made_line, Makes, IsOther, Remains}
+use Rattle.follower.specs.Making.{call_of, count, made_line, Makes, Remains}
 use Rattle.follower.proofs.Refused.{GrantedSo, without_entry}
 use Rattle.follower.proofs.Entries.{bodies-push}
 
@@ -80,34 +79,24 @@ same_line header h after line fetched granted made so answers is told =
       after_is = is ∙ ap (λ m. h ++ entries_of 0 m) made_is;
     }
 
-pub other_line : (opening : Opening) (h after : List Entry) (line : LogLine) (fetched : List ℕ) (granted : Granted) (made : Made) → GrantedSo h made → Answers opening.header h (call_of line fetched) (Grants granted) made
-    → after ≡ h ++ entries_of 0 made → log_lines after (count h) ≢ line ∷ [] → IsOther opening h line fetched
-other_line opening h after line fetched granted made so answers is other = record {
-  answer = Grants granted;
-  made = made;
-  answers = answers;
-  another = λ told. other (lines_made h after made so is ∙ ap option_to_list told);
-}
+pub other_line : (h after : List Entry) (line : LogLine) (made : Made) → GrantedSo h made → after ≡ h ++ entries_of 0 made → log_lines after (count h) ≢ line ∷ [] → made_line made ≢ Some line
+other_line h after line made so is other = λ told. other (lines_made h after made so is ∙ ap option_to_list told)
 
 -- ---- what remains of it
 
-remains_only : (h : List Entry) (entry : Option Body) (sealed : ℕ) → is_down h ≡ false → ((body : Body) → entry ≡ Some body → is_stored body ≡ true) → sealed ≤ count h → Remains 1 h [] (h ++ entries_of 0 (only entry)) sealed
+remains_only : (h : List Entry) (entry : Option Body) (sealed : ℕ) → is_down h ≡ false → ((body : Body) → entry ≡ Some body → is_stored body ≡ true) → sealed ≤ count h → Remains (option_to_list entry) h [] (h ++ entries_of 0 (only entry)) sealed
 remains_only h None sealed up is most = record {
-  extra = [];
   entries = without_entry h None ∙ sym (append-nil (bodies h));
-  few = omega arith;
   apart = omega arith;
   whole = λ down. refl;
 }
 remains_only h (Some body) sealed up is most = record {
-  extra = body ∷ [];
   entries = bodies-push h body (is body refl);
-  few = omega arith;
   apart = omega arith;
   whole = λ down. absurd (true≢false (sym down ∙ down-stored h (entry_by 0 body) (is body refl) ∙ up));
 }
 
 -- nothing of it stands on the disk
-pub remains_made : (h after : List Entry) (made : Made) (sealed : ℕ) → GrantedSo h made → after ≡ h ++ entries_of 0 made → sealed ≤ count h → Remains 1 h [] after sealed
+pub remains_made : (h after : List Entry) (made : Made) (sealed : ℕ) → GrantedSo h made → after ≡ h ++ entries_of 0 made → sealed ≤ count h → Remains (option_to_list made.entry) h [] after sealed
 remains_made h after made sealed so is most =
-    subst (λ g. Remains 1 h [] g sealed) (sym (is ∙ ap (λ m. h ++ entries_of 0 m) (calm_is made so.calm))) (remains_only h made.entry sealed so.up so.stored most)
+    subst (λ g. Remains (option_to_list made.entry) h [] g sealed) (sym (is ∙ ap (λ m. h ++ entries_of 0 m) (calm_is made so.calm))) (remains_only h made.entry sealed so.up so.stored most)

@@ -1,6 +1,7 @@
 -- What one step of following does.
 use Rattle.std.proofs.Common.{◌≡◌, ◌≢◌, ℕ, ◌+◌, ◌<◌, ◌≤◌, Bool, true, false, List, [], ◌∷◌, ◌++◌, length, get_or, drop, suc, refl, sym, ap, ◌∙◌, subst, inl, inr, arith}
 use Rattle.std.specs.Prelude.{Option, None, Some, Err, ◌==◌, if◌then◌else◌}
+use Rattle.std.specs.Option.{option_to_list}
 use mathlib.Core.Bool.{true≢false}
 use Rattle.std.proofs.lemmas.Bool.{eq-eqb, eqb-true}
 use Rattle.std.proofs.Math.Numerals.{lt_of_le_of_ne}
@@ -8,7 +9,7 @@ use Rattle.history_model.specs.History.{Body, Entry}
 use Rattle.std.proofs.Math.Seq.{drop-cons}
 use Rattle.std.proofs.Math.ListN.{drop_of_length-le}
 use Rattle.std.proofs.lemmas.List.{length-map}
-use Rattle.history_model.specs.Journal.{size}
+use Rattle.history_model.specs.Journal.{Header, size}
 use Rattle.bookmark_lock.specs.Opening.{Opening}
 use Rattle.reply_model.specs.Log.{LogLine}
 use Rattle.reply_model.specs.After.{entry_by}
@@ -23,21 +24,21 @@ use Rattle.follower.specs.declared.replayed.Replayed.TheVariants as replays
 use Rattle.follower.specs.Wanting.{wanted_of}
 use Rattle.follower.specs.Receiving.{IsAhead}
 use Rattle.follower.specs.Hearing.{HearsFetched, HearsPage, IsPageHeard, IsPageReply}
-use Rattle.follower.specs.Making.{count, Remains, HasGrown}
+use Rattle.follower.specs.Making.{count, MadeFor, Remains, HasGrown}
 use Rattle.follower.specs.Following.{Ends, Enters, EndsAt, IsFollowed}
 use Rattle.follower.specs.Replaying.{IsReplayed, IsAtMost}
 use Rattle.follower.specs.Walking.{Reached, ComesFrom, Entered, GoesOver, GoesInside, Further, GoesOn, heard_end, replayed_end, page_end}
 use Rattle.follower.proofs.Entries.{still}
 use Rattle.follower.proofs.Room.{grows_on, has_grown, less_room}
-use Rattle.follower.proofs.Walked.{ends_after, ends_here, enters, goes_on, turns}
+use Rattle.follower.proofs.Walked.{ends_after, ends_here, ends_waiting, enters, goes_on, turns}
 
 -- ---- at an entry
 
 at_entry : (opening : Opening) (h : List Entry) (line : LogLine) (held held' : List ℕ) (rest rest' : Option (List ℕ)) (sealed : ℕ) (fault : HearFault)
     → ((bytes : List ℕ) → IsAhead held rest bytes → HearsFetched (wanted_of (count h) line) bytes held' rest' (Err fault)) → sealed ≤ count h → (lines : List LogLine) → IsFollowed opening h sealed (line ∷ lines) held rest h sealed (heard_end (count h) fault)
-at_entry opening h line held held' rest rest' sealed LinkFault told most lines = ends_here opening h sealed (line ∷ lines) held rest h sealed ends.LinkFault (still 0 h h sealed refl most) refl (λ bytes ahead. tt)
-at_entry opening h line held held' rest rest' sealed BadReply told most lines = ends_here opening h sealed (line ∷ lines) held rest h sealed (ends.BadReply (count h)) (still 0 h h sealed refl most) refl (λ bytes ahead. (refl, told bytes ahead))
-at_entry opening h line held held' rest rest' sealed Memory told most lines = ends_here opening h sealed (line ∷ lines) held rest h sealed ends.Memory (still 1 h h sealed refl most) refl (λ bytes ahead. tt)
+at_entry opening h line held held' rest rest' sealed LinkFault told most lines = ends_here opening h sealed (line ∷ lines) held rest h sealed ends.LinkFault (still h h sealed refl most) refl (λ bytes ahead. refl)
+at_entry opening h line held held' rest rest' sealed BadReply told most lines = ends_here opening h sealed (line ∷ lines) held rest h sealed (ends.BadReply (count h)) (still h h sealed refl most) refl (λ bytes ahead. (refl, refl, told bytes ahead))
+at_entry opening h line held held' rest rest' sealed Memory told most lines = ends_here opening h sealed (line ∷ lines) held rest h sealed ends.Memory (still h h sealed refl most) refl (λ bytes ahead. inl refl)
 
 -- nothing was heard for it
 pub unheard_entry : (opening : Opening) (h : List Entry) (line : LogLine) (held held' : List ℕ) (rest rest' : Option (List ℕ)) (sealed number : ℕ) (fault : HearFault) → number ≡ count h
@@ -46,36 +47,47 @@ unheard_entry opening h line held held' rest rest' sealed number fault is told m
     subst (λ n. IsFollowed opening h sealed (line ∷ lines) held rest h sealed (heard_end n fault)) (sym is)
     (at_entry opening h line held held' rest rest' sealed fault (subst (λ n. (bytes : List ℕ) → IsAhead held rest bytes → HearsFetched (wanted_of n line) bytes held' rest' (Err fault)) is told) most lines)
 
-disk_anywhere : (opening : Opening) (h : List Entry) (bytes : List ℕ) (lines : List LogLine) → EndsAt opening h bytes lines ends.DiskFault
-disk_anywhere opening h bytes [] = tt
-disk_anywhere opening h bytes (line ∷ lines) = tt
+disk_anywhere : (opening : Opening) (h : List Entry) (bytes : List ℕ) (lines : List LogLine) → EndsAt opening h bytes lines ends.DiskFault []
+disk_anywhere opening h bytes [] = (refl, tt)
+disk_anywhere opening h bytes (line ∷ lines) = refl
+
+few_made : (entry : Option Body) → length (option_to_list entry) ≤ 1
+few_made None = omega arith
+few_made (Some body) = omega arith
+
+few_for : (header : Header) (h : List Entry) (line : LogLine) (fetched : List ℕ) (extra : List Body) → MadeFor header h line fetched extra → length extra ≤ 1
+few_for header h line fetched extra m = subst (λ es. length es ≤ 1) (sym m.extra_is) (few_made m.made.entry)
 
 module _ (opening : Opening) (h : List Entry) (before : ℕ) (line : LogLine) (held held' : List ℕ) (rest rest' : Option (List ℕ)) (after : List Entry) (sealed : ℕ) (fetched : List ℕ)
     (came : (bytes : List ℕ) → IsAhead held rest bytes → ComesFrom (count h) line bytes fetched held' rest') where
-  at_disk : (lines : List LogLine) (done : List Body) → IsAtMost opening h line fetched done → Remains 0 h done after sealed → IsFollowed opening h before (line ∷ lines) held rest after sealed ends.DiskFault
-  at_disk lines [] is remains = record { done = []; remains = remains; seals = λ all calm. absurd (calm refl); told = λ bytes ahead. Ends h bytes (line ∷ lines) ends.DiskFault tt }
+  at_disk : (lines : List LogLine) (done : List Body) → IsAtMost opening h line fetched done → Remains [] h done after sealed → IsFollowed opening h before (line ∷ lines) held rest after sealed ends.DiskFault
+  at_disk lines [] is remains = record { done = []; extra = []; remains = remains; few = omega arith; made = inl refl; seals = λ all calm. absurd (calm refl); told = λ bytes ahead. Ends h bytes (line ∷ lines) ends.DiskFault [] refl }
   at_disk lines (body ∷ []) makes remains = record {
     done = body ∷ [];
+    extra = [];
     remains = remains;
+    few = omega arith;
+    made = inl refl;
     seals = λ all calm. absurd (calm refl);
     told = λ bytes ahead.
         let from = came bytes ahead in
-        Enters h bytes from.0 fetched line lines body ends.DiskFault [] from.2 makes (Ends (h ++ entry_by 0 body ∷ []) from.0 lines ends.DiskFault (disk_anywhere opening (h ++ entry_by 0 body ∷ []) from.0 lines));
+        Enters h bytes from.0 fetched line lines body ends.DiskFault [] [] from.2 makes (Ends (h ++ entry_by 0 body ∷ []) from.0 lines ends.DiskFault [] (disk_anywhere opening (h ++ entry_by 0 body ∷ []) from.0 lines));
   }
   at_disk lines (body ∷ next ∷ later) is remains = absurd is
 
-  pub went_over : (replayed : Replayed) → IsReplayed opening h line fetched after sealed replayed → (replayed ≢ replays.Same → sealed ≡ before) → GoesOver opening h before line held rest after sealed held' rest' (replayed_end (count h) replayed)
+  pub went_over : (replayed : Replayed) → IsReplayed opening h line fetched after sealed replayed → (replayed ≢ replays.Same → replayed ≢ replays.DiskFault → sealed ≡ before) → GoesOver opening h before line held rest after sealed held' rest' (replayed_end (count h) replayed)
   went_over replays.Same r kept = record { body = r.0; fetched = fetched; makes = r.1; after_is = r.2; sealed_is = r.3; told = came }
-  went_over replays.Differs r kept = λ lines. ends_here opening h before (line ∷ lines) held rest after sealed (ends.Differs (count h)) r.1 (kept (λ is. absurd cc))
-      (λ bytes ahead. (refl, fetched, (came bytes ahead).0, (came bytes ahead).2, r.0))
-  went_over replays.Full r kept = λ lines. ends_here opening h before (line ∷ lines) held rest after sealed (ends.Full (count h)) r.1 (kept (λ is. absurd cc))
-      (λ bytes ahead. (refl, fetched, (came bytes ahead).0, (came bytes ahead).2, r.0))
+  went_over replays.Differs r kept = λ lines. ends_waiting opening h before (line ∷ lines) held rest after sealed (ends.Differs (count h)) r.0 r.2 (few_for opening.header h line fetched r.0 r.1.answered) (inr (line, fetched, r.1.answered)) (kept (λ is. absurd cc) (λ is. absurd cc))
+      (λ bytes ahead. (refl, fetched, (came bytes ahead).0, (came bytes ahead).2, r.1))
+  went_over replays.Full r kept = λ lines. ends_here opening h before (line ∷ lines) held rest after sealed (ends.Full (count h)) r.1 (kept (λ is. absurd cc) (λ is. absurd cc))
+      (λ bytes ahead. (refl, refl, fetched, (came bytes ahead).0, (came bytes ahead).2, r.0))
   went_over replays.DiskFault r kept = λ lines. at_disk lines r.0 r.1 r.2
-  went_over replays.Memory r kept = λ lines. ends_here opening h before (line ∷ lines) held rest after sealed ends.Memory r (kept (λ is. absurd cc)) (λ bytes ahead. tt)
+  went_over replays.Memory r kept = λ lines. ends_waiting opening h before (line ∷ lines) held rest after sealed ends.Memory r.0 r.2 (few_for opening.header h line fetched r.0 r.1) (inr (line, fetched, r.1)) (kept (λ is. absurd cc) (λ is. absurd cc))
+      (λ bytes ahead. inr (fetched, (came bytes ahead).0, (came bytes ahead).2, r.1))
 
 -- it was fetched, and replayed
 pub replayed_entry : (opening : Opening) (h : List Entry) (before : ℕ) (line : LogLine) (held held' : List ℕ) (rest rest' : Option (List ℕ)) (after : List Entry) (sealed number : ℕ) (fetched : List ℕ) (replayed : Replayed) → number ≡ count h
-    → ((bytes : List ℕ) → IsAhead held rest bytes → ComesFrom number line bytes fetched held' rest') → IsReplayed opening h line fetched after sealed replayed → (replayed ≢ replays.Same → sealed ≡ before) → GoesOver opening h before line held rest after sealed held' rest' (replayed_end number replayed)
+    → ((bytes : List ℕ) → IsAhead held rest bytes → ComesFrom number line bytes fetched held' rest') → IsReplayed opening h line fetched after sealed replayed → (replayed ≢ replays.Same → replayed ≢ replays.DiskFault → sealed ≡ before) → GoesOver opening h before line held rest after sealed held' rest' (replayed_end number replayed)
 replayed_entry opening h before line held held' rest rest' after sealed number fetched replayed is came so kept =
     subst (λ n. GoesOver opening h before line held rest after sealed held' rest' (replayed_end n replayed)) (sym is)
     (went_over opening h before line held held' rest rest' after sealed fetched (subst (λ n. (bytes : List ℕ) → IsAhead held rest bytes → ComesFrom n line bytes fetched held' rest') is came) replayed so kept)
@@ -84,9 +96,9 @@ replayed_entry opening h before line held held' rest rest' after sealed number f
 
 between : (opening : Opening) (h : List Entry) (held held' : List ℕ) (rest rest' : Option (List ℕ)) (sealed : ℕ) (fault : HearFault)
     → ((bytes : List ℕ) → IsAhead held rest bytes → HearsPage (count h) bytes held' rest' (Err fault)) → sealed ≤ count h → IsFollowed opening h sealed [] held rest h sealed (heard_end (count h) fault)
-between opening h held held' rest rest' sealed LinkFault told most = ends_here opening h sealed [] held rest h sealed ends.LinkFault (still 0 h h sealed refl most) refl (λ bytes ahead. tt)
-between opening h held held' rest rest' sealed BadReply told most = ends_here opening h sealed [] held rest h sealed (ends.BadReply (count h)) (still 0 h h sealed refl most) refl (λ bytes ahead. (refl, told bytes ahead))
-between opening h held held' rest rest' sealed Memory told most = ends_here opening h sealed [] held rest h sealed ends.Memory (still 1 h h sealed refl most) refl (λ bytes ahead. tt)
+between opening h held held' rest rest' sealed LinkFault told most = ends_here opening h sealed [] held rest h sealed ends.LinkFault (still h h sealed refl most) refl (λ bytes ahead. (refl, tt))
+between opening h held held' rest rest' sealed BadReply told most = ends_here opening h sealed [] held rest h sealed (ends.BadReply (count h)) (still h h sealed refl most) refl (λ bytes ahead. (refl, (refl, told bytes ahead)))
+between opening h held held' rest rest' sealed Memory told most = ends_here opening h sealed [] held rest h sealed ends.Memory (still h h sealed refl most) refl (λ bytes ahead. (refl, tt))
 
 -- no page was heard
 pub unheard_page : (opening : Opening) (h : List Entry) (held held' : List ℕ) (rest rest' : Option (List ℕ)) (sealed number : ℕ) (fault : HearFault) → number ≡ count h
@@ -110,10 +122,10 @@ empty_page opening h held held' rest rest' sealed number total is heard most = b
     differ other e = true≢false (sym (eq-eqb total number (e ∙ sym is)) ∙ other)
 
     by : (b : Bool) → (total == number) ≡ b → IsFollowed opening h sealed [] held rest h sealed (if b then ends.Same else ends.Differs total)
-    by true same = ends_here opening h sealed [] held rest h sealed ends.Same (still 0 h h sealed refl most) refl
-        (λ bytes ahead. ((here bytes ahead).0, subst (λ n. IsPageReply (count h) bytes [] n (here bytes ahead).0) (eqb-true total number same ∙ is) (here bytes ahead).2))
-    by false other = ends_here opening h sealed [] held rest h sealed (ends.Differs total) (still 1 h h sealed refl most) refl
-        (λ bytes ahead. (lt_of_le_of_ne (below bytes ahead) (differ other), (here bytes ahead).0, (here bytes ahead).2))
+    by true same = ends_here opening h sealed [] held rest h sealed ends.Same (still h h sealed refl most) refl
+        (λ bytes ahead. (refl, ((here bytes ahead).0, subst (λ n. IsPageReply (count h) bytes [] n (here bytes ahead).0) (eqb-true total number same ∙ is) (here bytes ahead).2)))
+    by false other = ends_here opening h sealed [] held rest h sealed (ends.Differs total) (still h h sealed refl most) refl
+        (λ bytes ahead. (refl, (lt_of_le_of_ne (below bytes ahead) (differ other), (here bytes ahead).0, (here bytes ahead).2)))
 
 -- ---- over the entries of a page
 

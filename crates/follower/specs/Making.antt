@@ -1,14 +1,16 @@
 -- What an entry of a server's log makes here.
 --     caller_in line, parts_in line      who asks for the entry of which a page tells this, and of what it is joined
 --     call_of line fetched      the call that makes it, with the bytes that were fetched for it
---     count h      how many entries are stored
+--     count h      how many entries are stored;  with_done h done      the history once these are entered, by no seat
 --     Makes header h line fetched body      the call makes this entry, of which the log tells the same
---     IsOther opening h line fetched      it makes another one, or none, or is refused, but not for want of room;  IsFull header h line fetched      it is refused for want of room
---     Remains most h done after sealed      the entries after the history are these, and at most so many more, which aren't sealed and of which nothing stands on the disk
+--     MadeFor header h line fetched extra      the call is answered by the rules, and makes these entries, one at most
+--     IsOther opening h line fetched extra      so it makes another one, or none, or is refused, but not for want of room;  IsFull header h line fetched      it is refused for want of room
+--     IsMadeFor header h extra      there are none, or the call for an entry of a log made them
+--     Remains extra h done after sealed      the entries after the history are these that were done and then the extra ones, which aren't sealed and of which nothing stands on the disk
 --     HasGrown header h after n      so many entries later there is less room, if there are some
-use Rattle.std.specs.Prelude.{◌≡◌, ◌≢◌, ℕ, ◌+◌, ◌<◌, ◌≤◌, ◌⊎◌, Bool, true, false, List, [], ◌++◌, length, unwrap_or, Option, None, Some}
+use Rattle.std.specs.Prelude.{◌≡◌, ◌≢◌, ℕ, ◌+◌, ◌<◌, ◌≤◌, ◌⊎◌, Bool, true, false, List, [], ◌++◌, length, map, unwrap_or, Option, None, Some}
 use Rattle.std.specs.List.{concat}
-use Rattle.std.specs.Option.{option_and_then}
+use Rattle.std.specs.Option.{option_and_then, option_to_list}
 use Rattle.byte_fields.specs.Bytes.{Id}
 use Rattle.history_model.specs.History.{Body, Entry, bodies, is_down}
 use Rattle.history_model.specs.Journal.{Header, size}
@@ -17,7 +19,7 @@ use Rattle.reply_model.specs.Opening.{nobody}
 use Rattle.reply_model.specs.Reply.{PutContent, PutChangeset, SetBookmark, LandDraft, SetPolicy, Granted}
 use Rattle.reply_model.specs.Reply as reply
 use Rattle.bookmark_lock.specs.Opening.{Opening}
-use Rattle.reply_model.specs.After.{Call, Asks, Joins, Answer, Grants, Refuses, Shows, Lacks, Roots, DiskFault, ReadFault, BadBytes, NodeCollision, Memory, Made, Answers, nothing}
+use Rattle.reply_model.specs.After.{Call, Asks, Joins, Answer, Grants, Refuses, Shows, Lacks, Roots, DiskFault, ReadFault, BadBytes, NodeCollision, Memory, Made, Answers, entry_by, nothing}
 
 abbrev pub call_of : LogLine → List ℕ → Call
 call_of (ContentLine x size) fetched = Asks (PutContent fetched)
@@ -69,11 +71,15 @@ IsAnother honest line made ReadFault = ⊥
 IsAnother honest line made (NodeCollision x) = ⊥
 IsAnother honest line made Memory = ⊥
 
-pub record IsOther (opening : Opening) (h : List Entry) (line : LogLine) (fetched : List ℕ) : Type 0 where
+pub record MadeFor (header : Header) (h : List Entry) (line : LogLine) (fetched : List ℕ) (extra : List Body) : Type 0 where
   pub answer : Answer
   pub made : Made
-  pub answers : Answers opening.header h (call_of line fetched) answer made
-  pub another : IsAnother opening.honest line made answer
+  pub answers : Answers header h (call_of line fetched) answer made
+  pub extra_is : extra ≡ option_to_list made.entry
+
+pub record IsOther (opening : Opening) (h : List Entry) (line : LogLine) (fetched : List ℕ) (extra : List Body) : Type 0 where
+  pub answered : MadeFor opening.header h line fetched extra
+  pub another : IsAnother opening.honest line answered.made answered.answer
 
 pub record IsFull (header : Header) (h : List Entry) (line : LogLine) (fetched : List ℕ) : Type 0 where
   pub refusal : reply.Refusal
@@ -85,10 +91,14 @@ pub record IsFull (header : Header) (h : List Entry) (line : LogLine) (fetched :
 abbrev pub count : List Entry → ℕ
 count h = length (bodies h)
 
-pub record Remains (most : ℕ) (h : List Entry) (done : List Body) (after : List Entry) (sealed : ℕ) : Type 0 where
-  pub extra : List Body
+abbrev pub with_done : List Entry → List Body → List Entry
+with_done h done = h ++ map (entry_by 0) done
+
+abbrev pub IsMadeFor : Header → List Entry → List Body → Type 0
+IsMadeFor header h extra = (extra ≡ []) ⊎ ((line : LogLine) × (fetched : List ℕ) × MadeFor header h line fetched extra)
+
+pub record Remains (extra : List Body) (h : List Entry) (done : List Body) (after : List Entry) (sealed : ℕ) : Type 0 where
   pub entries : bodies after ≡ bodies h ++ (done ++ extra)
-  pub few : length extra ≤ most
   pub apart : sealed ≤ count h + length done
   -- where a breaking fault is held, the disk may hold the whole history
   pub whole : is_down after ≡ true → extra ≡ []

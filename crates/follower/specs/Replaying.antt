@@ -11,7 +11,7 @@ use Rattle.repo_calls.specs.declared.calls.ChangeFault.TheVariants as faults
 use Rattle.repo_calls.specs.declared.refusal.Refusal.TheVariants as refusals
 use Rattle.follower.specs.declared.replayed.Replayed.{Replayed}
 use Rattle.follower.specs.declared.replayed.Replayed.TheVariants.{Same, Differs, Full, DiskFault, Memory}
-use Rattle.follower.specs.Making.{Makes, IsOther, IsFull, Remains, count}
+use Rattle.follower.specs.Making.{Makes, MadeFor, IsOther, IsFull, Remains, count}
 
 -- the disk failed to seal the entry, or before it was made
 abbrev pub IsAtMost : Opening → List Entry → LogLine → List ℕ → List Body → Type 0
@@ -30,7 +30,7 @@ replayed_of (faults.BadBytes wanted found) = Differs
 
 abbrev pub IsReplayed : Opening → List Entry → LogLine → List ℕ → List Entry → ℕ → Replayed → Type 0
 IsReplayed opening h line fetched after sealed Same = (body : Body) × Makes opening.header h line fetched body × (after ≡ h ++ entry_by 0 body ∷ []) × (sealed ≡ count h + 1)
-IsReplayed opening h line fetched after sealed Differs = IsOther opening h line fetched × Remains 1 h [] after sealed
-IsReplayed opening h line fetched after sealed Full = IsFull opening.header h line fetched × Remains 0 h [] after sealed
-IsReplayed opening h line fetched after sealed DiskFault = (done : List Body) × IsAtMost opening h line fetched done × Remains 0 h done after sealed
-IsReplayed opening h line fetched after sealed Memory = Remains 1 h [] after sealed
+IsReplayed opening h line fetched after sealed Differs = (extra : List Body) × IsOther opening h line fetched extra × Remains extra h [] after sealed
+IsReplayed opening h line fetched after sealed Full = IsFull opening.header h line fetched × Remains [] h [] after sealed
+IsReplayed opening h line fetched after sealed DiskFault = (done : List Body) × IsAtMost opening h line fetched done × Remains [] h done after sealed
+IsReplayed opening h line fetched after sealed Memory = (extra : List Body) × MadeFor opening.header h line fetched extra × Remains extra h [] after sealed

@@ -20,11 +20,11 @@ use Rattle.follower.specs.declared.replayed.Replayed.{Replayed}
 use Rattle.follower.specs.declared.replayed.Replayed.TheVariants as replays
 use Rattle.follower.specs.Wanting.{wanted_of, IsFetched}
 use Rattle.follower.specs.Receiving.{IsAhead}
-use Rattle.follower.specs.Making.{Makes, HasGrown, count}
+use Rattle.follower.specs.Making.{Makes, HasGrown, count, with_done}
 use Rattle.follower.specs.Following.{Follows, IsFollowed}
 
 abbrev pub Continues : Opening → List Entry → List ℕ → List LogLine → List Body → List Entry → List ℕ → List LogLine → Type 0
-Continues opening h0 bytes0 lines0 sofar h bytes lines = (end : FollowEnd) (done : List Body) → Follows opening h bytes lines end done → Follows opening h0 bytes0 lines0 end (sofar ++ done)
+Continues opening h0 bytes0 lines0 sofar h bytes lines = (end : FollowEnd) (done extra : List Body) → Follows opening h bytes lines end done extra → Follows opening h0 bytes0 lines0 end (sofar ++ done) extra
 
 -- where the link tells its bytes
 abbrev pub GoesOnFrom : Opening → List Entry → List ℕ → List LogLine → List Body → List Entry → List LogLine → List ℕ → Option (List ℕ) → Type 0
@@ -32,6 +32,7 @@ GoesOnFrom opening h0 bytes0 lines0 sofar h lines held rest = (bytes : List ℕ)
 
 pub record Reached (opening : Opening) (h0 : List Entry) (n0 : ℕ) (lines0 : List LogLine) (held0 : List ℕ) (rest0 : Option (List ℕ)) (h : List Entry) (n : ℕ) (lines : List LogLine) (held : List ℕ) (rest : Option (List ℕ)) : Type 0 where
   pub sofar : List Body
+  pub history_is : h ≡ with_done h0 sofar
   pub entries : bodies h ≡ bodies h0 ++ sofar
   -- where all was sealed, all is
   pub seals : n0 ≡ count h0 → n ≡ count h

@@ -63,6 +63,7 @@ fn follow_entry<R: OwnRepository, L: Link>(
     requires ready { IsReady inbox.old }
     ensures goes { GoesOver (R.opening own.old) (R.history own.old) (R.sealed own.old) (line_seen entry.now) inbox.old.held.items (L.rest link.old) (R.history own.new) (R.sealed own.new) inbox.new.held.items (L.rest link.new) result }
     ensures ready { IsReady inbox.new }
+    ensures opens { R.open_to own.new ≤ R.open_to own.old }
     ensures opening { R.opening own.new ≡ R.opening own.old }
     ensures link_faults { L.faults link.old ≤ L.faults link.new }
     ensures link_cause { result ≡ Some ends.LinkFault → Rose (L.faults link.old) (L.faults link.new) }
@@ -91,6 +92,7 @@ fn follow_page<R: OwnRepository, L: Link>(
     requires ready { IsReady inbox.old }
     ensures goes { GoesInside (R.opening own.old) (R.history own.old) (R.sealed own.old) (lines_seen entries.now) inbox.old.held.items (L.rest link.old) (R.history own.new) (R.sealed own.new) inbox.new.held.items (L.rest link.new) result }
     ensures ready { IsReady inbox.new }
+    ensures opens { R.open_to own.new ≤ R.open_to own.old }
     ensures opening { R.opening own.new ≡ R.opening own.old }
     ensures link_faults { L.faults link.old ≤ L.faults link.new }
     ensures link_cause { result ≡ Some ends.LinkFault → Rose (L.faults link.old) (L.faults link.new) }
@@ -117,6 +119,7 @@ fn turn<R: OwnRepository, L: Link>(
     requires ready { IsReady inbox.old }
     ensures goes { GoesOn (R.opening own.old) (R.history own.old) (R.sealed own.old) inbox.old.held.items (L.rest link.old) (R.history own.new) (R.sealed own.new) inbox.new.held.items (L.rest link.new) result }
     ensures ready { IsReady inbox.new }
+    ensures opens { R.open_to own.new ≤ R.open_to own.old }
     ensures opening { R.opening own.new ≡ R.opening own.old }
     ensures link_faults { L.faults link.old ≤ L.faults link.new }
     ensures link_cause { result ≡ Some ends.LinkFault → Rose (L.faults link.old) (L.faults link.new) }
@@ -142,6 +145,7 @@ fn follow_pages<R: OwnRepository, L: Link>(
     requires empty { inbox.held.items ≡ [] }
     requires ready { IsReady inbox }
     ensures followed { IsFollowed (R.opening own.old) (R.history own.old) (R.sealed own.old) [] [] (L.rest link.old) (R.history own.new) (R.sealed own.new) result }
+    ensures opens { R.open_to own.new ≤ R.open_to own.old }
     ensures opening { R.opening own.new ≡ R.opening own.old }
     ensures link_faults { L.faults link.old ≤ L.faults link.new }
     ensures link_cause { result ≡ ends.LinkFault → Rose (L.faults link.old) (L.faults link.new) }
@@ -165,6 +169,7 @@ pub(crate) fn follow_own<R: OwnRepository, L: Link>(
     link: &mut L,
 ) -> FollowEnd
     ensures followed { IsFollowed (R.opening own.old) (R.history own.old) (R.sealed own.old) [] [] (L.rest link.old) (R.history own.new) (R.sealed own.new) result }
+    ensures opens { R.open_to own.new ≤ R.open_to own.old }
     ensures opening { R.opening own.new ≡ R.opening own.old }
     ensures link_faults { L.faults link.old ≤ L.faults link.new }
     ensures link_cause { result ≡ ends.LinkFault → Rose (L.faults link.old) (L.faults link.new) }

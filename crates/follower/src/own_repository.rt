@@ -1,5 +1,5 @@
 //! The repository that follows a server.
-ghost use Rattle.std.specs.Prelude.{◌≡◌, ◌≤◌, ℕ, List, false, is_err, IfOk, IsTrue, OnErr, OnOk};
+ghost use Rattle.std.specs.Prelude.{◌≡◌, ◌≤◌, ℕ, List, false, is_err, IfOk, IsTrue, OnOk};
 ghost use Rattle.ports.specs.Faults.{Counts};
 ghost use Rattle.history_model.specs.History.{Entry};
 ghost use Rattle.bookmark_lock.specs.Opening.{Opening};
@@ -24,6 +24,9 @@ pub(crate) trait OwnRepository {
     /// How many of the stored entries are sealed.
     ghost sealed: { Self → ℕ };
 
+    /// Up to which of the stored entries the group under way goes, if its gate was opened. 0 where there is none.
+    ghost open_to: { Self → ℕ };
+
     /// How often its disk failed.
     ghost faults: { Self → ℕ };
 
@@ -38,6 +41,7 @@ pub(crate) trait OwnRepository {
         ensures other { is_disk_fault result ≡ false }
         ensures honest { IsTrue (opening self.old).honest → is_misread result ≡ false }
         ensures sealed { sealed self.new ≡ sealed self.old }
+        ensures opens { open_to self.new ≡ open_to self.old }
         ensures opening { opening self.new ≡ opening self.old }
         ensures faults { Counts (faults self.old) (faults self.new) (is_unread result) };
 
@@ -46,16 +50,17 @@ pub(crate) trait OwnRepository {
         ensures page { IfOk result (λ page. lines_seen page.entries.items ≡ log_lines (history self.old) from) }
         ensures history { history self.new ≡ history self.old }
         ensures sealed { sealed self.new ≡ sealed self.old }
+        ensures opens { open_to self.new ≡ open_to self.old }
         ensures opening { opening self.new ≡ opening self.old }
         ensures faults { faults self.old ≤ faults self.new };
 
-    /// Seals all that waits, so that the first `upto` entries are sealed.
+    /// Seals all that waits, so that the first `upto` entries are sealed. A group under way is ended first.
     fn seal_first(&mut self, upto: u64) -> Result<(), Failed>
         requires { upto ≤ count (history self.old) }
         ensures history { history self.new ≡ after_seal 0 (is_err result) (history self.old) }
         ensures most { sealed self.new ≤ count (history self.old) }
         ensures done { OnOk result (upto ≤ sealed self.new) }
-        ensures fails { OnErr result (sealed self.new ≡ sealed self.old) }
+        ensures opens { open_to self.new ≤ open_to self.old }
         ensures opening { opening self.new ≡ opening self.old }
         ensures faults { Counts (faults self.old) (faults self.new) (breaks (is_err result) (history self.old)) };
 }

@@ -28,6 +28,7 @@ fn make_entry<R: OwnRepository>(
     ensures other { is_disk_fault result ≡ false }
     ensures honest { IsTrue (R.opening own.old).honest → is_misread result ≡ false }
     ensures sealed { R.sealed own.new ≡ R.sealed own.old }
+    ensures opens { R.open_to own.new ≡ R.open_to own.old }
     ensures opening { R.opening own.new ≡ R.opening own.old }
     ensures faults { Counts (R.faults own.old) (R.faults own.new) (is_unread result) }
 {
@@ -55,6 +56,7 @@ fn is_told<R: OwnRepository>(
     ensures told { IfOk result (λ told. IsTrue told ↔ (log_lines (R.history own.old) from ≡ line_seen entry.now ∷ [])) }
     ensures history { R.history own.new ≡ R.history own.old }
     ensures sealed { R.sealed own.new ≡ R.sealed own.old }
+    ensures opens { R.open_to own.new ≡ R.open_to own.old }
     ensures opening { R.opening own.new ≡ R.opening own.old }
     ensures faults { R.faults own.old ≤ R.faults own.new }
 {
@@ -71,7 +73,8 @@ pub(crate) fn replay<R: OwnRepository>(
     fetched: &[u8],
 ) -> Replayed
     ensures replayed { IsReplayed (R.opening own.old) (R.history own.old) (line_seen entry.now) fetched.now (R.history own.new) (R.sealed own.new) result }
-    ensures sealed { result ≢ Same → R.sealed own.new ≡ R.sealed own.old }
+    ensures sealed { result ≢ Same → result ≢ DiskFault → R.sealed own.new ≡ R.sealed own.old }
+    ensures opens { R.open_to own.new ≤ R.open_to own.old }
     ensures opening { R.opening own.new ≡ R.opening own.old }
     ensures faults { R.faults own.old ≤ R.faults own.new }
     ensures cause { result ≡ DiskFault → Rose (R.faults own.old) (R.faults own.new) }

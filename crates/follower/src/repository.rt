@@ -5,9 +5,9 @@ ghost use Rattle.repo_calls.specs.Calls.{lines_seen};
 ghost use Rattle.ports.specs.Faults.{Rose};
 ghost use Rattle.bookmark_lock.specs.Opening.{Opening};
 ghost use Rattle.changeset_model.specs.Version.{First};
-ghost use Rattle.repo_state.specs.State.{IsSound};
+ghost use Rattle.repo_state.specs.State.{IsSound, reach};
 ghost use Rattle.follower.specs.Following.{IsFollowed};
-ghost use Rattle.follower.specs.Left.{HasFollowed};
+ghost use Rattle.follower.specs.Left.{HasFollowed, open_to};
 ghost use Rattle.follower.specs.declared.followed.FollowEnd.TheVariants as ends;
 
 use crate::followed::{FollowEnd, Followed};
@@ -32,6 +32,7 @@ fn log_from<D: Disk>(
     ensures page { IfOk result (λ page. lines_seen page.entries.items ≡ log_lines state.old.history from) }
     ensures history { state.new.history ≡ state.old.history }
     ensures sealed { state.new.sealed ≡ state.old.sealed }
+    ensures left { state.new.left ≡ state.old.left }
     ensures header { state.new.header ≡ state.old.header }
     ensures opening { state.new.opening ≡ state.old.opening }
     ensures faults { state.old.disk.faults ≤ state.new.disk.faults }
@@ -49,6 +50,8 @@ impl<D: Disk> OwnRepository for RepoState<D> {
 
     ghost sealed = { λ s. s.sealed };
 
+    ghost open_to = { λ s. open_to s.left };
+
     ghost faults = { λ s. s.disk.faults };
 
     fn entries(&self) -> u64 {
@@ -65,6 +68,7 @@ impl<D: Disk> OwnRepository for RepoState<D> {
         log_from(alloc, self, from)
     }
 
+    #[tactic(auto, using(crate::proofs::Leavings::opens_less))]
     fn seal_first(&mut self, upto: u64) -> Result<(), Failed> {
         match self.seal(NO_SEAT, upto) {
             Ok(()) => Ok(()),
@@ -77,6 +81,7 @@ impl<D: Disk> OwnRepository for RepoState<D> {
 fn end_of<D: Disk, L: Link>(alloc: Global, state: &mut RepoState<D>, link: &mut L) -> FollowEnd
     ensures followed { IsFollowed state.old.opening state.old.history state.old.sealed [] [] (L.rest link.old) state.new.history state.new.sealed result }
     ensures version { result ≡ ends.OldFormat ↔ state.old.header.version ≡ First }
+    ensures opens { open_to state.new.left ≤ open_to state.old.left }
     ensures opening { state.new.opening ≡ state.old.opening }
     ensures link_faults { L.faults link.old ≤ L.faults link.new }
     ensures link_cause { result ≡ ends.LinkFault → Rose (L.faults link.old) (L.faults link.new) }
@@ -101,7 +106,7 @@ pub fn follow<D: Disk, L: Link>(alloc: Global, state: &mut RepoState<D>, link: &
     ensures version { result.end ≡ ends.OldFormat ↔ state.old.header.version ≡ First }
     ensures header { state.new.header ≡ state.old.header }
     ensures opening { state.new.opening ≡ state.old.opening }
-    ensures sound { IsSound state.new.opening state.new.history state.new.sealed state.new.disk }
+    ensures sound { IsSound state.new.opening state.new.history state.new.sealed (reach state.new) state.new.disk }
     ensures link_faults { L.faults link.old ≤ L.faults link.new }
     ensures link_cause { result.end ≡ ends.LinkFault → Rose (L.faults link.old) (L.faults link.new) }
     ensures disk_faults { state.old.disk.faults ≤ state.new.disk.faults }

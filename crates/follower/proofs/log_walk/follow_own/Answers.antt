@@ -11,4 +11,4 @@ returns-in-Err-clause-followed g c =
     let is = c.entries-entries.ensures.length in
     let h = own.history c.args.own.now in
     let sealed = own.sealed c.args.own.now in
-    ends_here (own.opening c.args.own.now) h sealed [] [] (g.L.Link.rest c.args.link.now) h sealed Memory (still 1 h h sealed refl (omega arith)) refl (λ bytes ahead. tt)
+    ends_here (own.opening c.args.own.now) h sealed [] [] (g.L.Link.rest c.args.link.now) h sealed Memory (still h h sealed refl (omega arith)) refl (λ bytes ahead. (refl, tt))

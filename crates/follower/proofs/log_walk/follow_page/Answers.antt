@@ -13,6 +13,7 @@ entries-init g c =
       grown = inl (refl, refl);
       ready = c.requires.ready;
       opening = refl;
+      opens = omega arith;
       link_faults = omega arith;
       disk_faults = omega arith;
     }
@@ -26,6 +27,8 @@ returns-in-Some-clause-goes g c =
 pub entries-preserved : goal.entries-preserved
 entries-preserved g c =
     let own = g.R.OwnRepository in
+    let open0 = c.entries.invariant.opens in
+    let open1 = c.follow_entry.ensures.opens in
     let link0 = c.entries.invariant.link_faults in
     let link1 = c.follow_entry.ensures.link_faults in
     let disk0 = c.entries.invariant.disk_faults in
@@ -37,6 +40,7 @@ entries-preserved g c =
           (own.sealed c.follow_entry.new.own) c.entries.entry-index c.entries.invariant.opening c.entries.invariant.grown c.in-None.ensures.goes;
       ready = c.follow_entry.ensures.ready;
       opening = c.follow_entry.ensures.opening ∙ c.entries.invariant.opening;
+      opens = omega arith;
       link_faults = omega arith;
       disk_faults = omega arith;
     }

@@ -14,6 +14,7 @@ invariant-entries g l =
       grown : HasGrown (own.opening l.fn.own).header (own.history l.fn.own) (own.history l.own) l.entry-index;
       ready : IsReady l.inbox;
       opening : own.opening l.own ≡ own.opening l.fn.own;
+      opens : own.open_to l.own ≤ own.open_to l.fn.own;
       link_faults : g.L.Link.faults l.fn.link ≤ g.L.Link.faults l.link;
       disk_faults : own.faults l.fn.own ≤ own.faults l.own;
     }

@@ -19,6 +19,7 @@ pages-init g c =
       reached = subst (λ (held : List ℕ). Reached opening h n [] [] rest h n [] held rest) (sym c.requires.empty) (begins opening h n [] [] rest);
       ready = c.requires.ready;
       opening = refl;
+      opens = omega arith;
       link_faults = omega arith;
       disk_faults = omega arith;
     }
@@ -37,6 +38,8 @@ pages-smaller g c =
 pub pages-preserved : goal.pages-preserved
 pages-preserved g c =
     let own = g.R.OwnRepository in
+    let open0 = c.pages.invariant.opens in
+    let open1 = c.turn.ensures.opens in
     let link0 = c.pages.invariant.link_faults in
     let link1 = c.turn.ensures.link_faults in
     let disk0 = c.pages.invariant.disk_faults in
@@ -46,6 +49,7 @@ pages-preserved g c =
           (own.history c.turn.new.own) (own.sealed c.turn.new.own) c.turn.new.inbox.held.items (g.L.Link.rest c.turn.new.link) c.in-None.ensures.goes;
       ready = c.turn.ensures.ready;
       opening = c.turn.ensures.opening ∙ c.pages.invariant.opening;
+      opens = omega arith;
       link_faults = omega arith;
       disk_faults = omega arith;
     }

@@ -12,6 +12,7 @@ invariant-pages g l =
       reached : Reached (own.opening l.fn.own) (own.history l.fn.own) (own.sealed l.fn.own) [] [] (rest l.fn.link) (own.history l.own) (own.sealed l.own) [] l.inbox.held.items (rest l.link);
       ready : IsReady l.inbox;
       opening : own.opening l.own ≡ own.opening l.fn.own;
+      opens : own.open_to l.own ≤ own.open_to l.fn.own;
       link_faults : g.L.Link.faults l.fn.link ≤ g.L.Link.faults l.link;
       disk_faults : own.faults l.fn.own ≤ own.faults l.own;
     }

@@ -6,8 +6,8 @@ use Rattle.repo_calls.specs.Calls.{granted_seen, line_seen}
 use Rattle.follower.specs.Making.{count}
 use Rattle.repo_state.specs.State.{after_seal}
 use Rattle.follower.proofs.Causes.{rose_from}
-use Rattle.follower.proofs.Granting.{differs, left_over, made_so, still_up}
-use Rattle.follower.proofs.Resealed.{sealed_entry, unsealed_entry}
+use Rattle.follower.proofs.Granting.{differs, made_so, still_up, uncompared}
+use Rattle.follower.proofs.Resealed.{made_one, sealed_entry, unsealed_entry}
 use Rattle.follower.proofs.Unmade.{fault_replayed, read_only}
 use Rattle.follower.proofs.replay.replay.Goals as goal
 
@@ -39,7 +39,7 @@ returns-in-Err-is_told-clause-replayed g c =
     let one = c.make_entry.ensures.sealed in
     let two = c.is_told.ensures.sealed in
     let most : sealed ≤ count h = omega arith in
-    left_over opening h mid after line fetched granted sealed number c.in-Ok.ensures.reply c.is_told.ensures.history most is
+    uncompared opening h mid after line fetched granted sealed number c.in-Ok.ensures.reply c.is_told.ensures.history most is
 
 pub returns-in-Ok-false-clause-replayed : goal.returns-in-Ok-false-clause-replayed
 returns-in-Ok-false-clause-replayed g c =
@@ -102,8 +102,9 @@ returns-in-Err-seal_first-clause-replayed g c =
     let two = c.is_told.ensures.sealed in
     let most : sealed ≤ count h = omega arith in
     let made = made_so opening h mid after line fetched granted sealed number c.in-Ok.ensures.reply c.is_told.ensures.history most is (c.in-Ok-true.ensures.told.0 c.in-Ok-true.field-0-test) in
-    let still = c.in-Err-seal_first.ensures.fails in
-    unsealed_entry opening h mid (own.history c.seal_first.new.self) line fetched (own.sealed c.seal_first.new.self) made (c.in-Err-seal_first.ensures.history ∙ ap (after_seal 0 true) c.is_told.ensures.history) (omega arith)
+    let all = c.seal_first.ensures.most in
+    unsealed_entry opening h mid (own.history c.seal_first.new.self) line fetched (own.sealed c.seal_first.new.self) made (c.in-Err-seal_first.ensures.history ∙ ap (after_seal 0 true) c.is_told.ensures.history)
+    (subst (λ n. own.sealed c.seal_first.new.self ≤ n) (ap count c.is_told.ensures.history ∙ made_one opening.header h mid line fetched made) all)
 
 pub returns-in-Err-seal_first-clause-cause : goal.returns-in-Err-seal_first-clause-cause
 returns-in-Err-seal_first-clause-cause g c = λ _.

@@ -10,4 +10,4 @@ returns-in-First-clause-followed g c =
     let s = c.args.state.now in
     let most = c.stored_length-stored.ensures.most in
     let is = c.stored_length-stored.ensures.length in
-    ends_here s.opening s.history s.sealed [] [] (g.L.Link.rest c.args.link.now) s.history s.sealed OldFormat (still 0 s.history s.history s.sealed refl (omega arith)) refl (λ bytes ahead. ap (λ (header : Header). header.version) (sym c.history_length-length.ensures.header) ∙ sym c.in-First.ensures)
+    ends_here s.opening s.history s.sealed [] [] (g.L.Link.rest c.args.link.now) s.history s.sealed OldFormat (still s.history s.history s.sealed refl (omega arith)) refl (λ bytes ahead. (refl, ap (λ (header : Header). header.version) (sym c.history_length-length.ensures.header) ∙ sym c.in-First.ensures))
