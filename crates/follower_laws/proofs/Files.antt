@@ -16,11 +16,11 @@ use Rattle.follower_laws.specs.Endings.{HasFollowedWell, IsBehind}
 use Rattle.follower_laws.proofs.Steps.{along_first}
 use Rattle.follower_laws.proofs.Walk.{walk}
 
-pub followed_well : (own : Opening) (server : Header) (h from last : List Entry) (bytes : List ℕ) (end : FollowEnd) (done : List Body) → IsBehind own.header server h from bytes last → Follows own h bytes [] end done → HasFollowedWell own.honest h done last end
-followed_well own server h from last bytes end done behind follows = walk server own behind.header behind.second follows from last behind.up behind.serves (along_first from h behind.front)
+pub followed_well : (own : Opening) (server : Header) (h from last : List Entry) (bytes : List ℕ) (end : FollowEnd) (done extra : List Body) → IsBehind own.header server h from bytes last → Follows own h bytes [] end done extra → HasFollowedWell own.honest h done last end
+followed_well own server h from last bytes end done extra behind follows = walk server own behind.header behind.second follows from last behind.up behind.serves (along_first from h behind.front)
 
 pub file_ends : (opening : Opening) (server : Header) (h from last after : List Entry) (before sealed : ℕ) (bytes : List ℕ) (m : Meaning) (end : FollowEnd) → IsBehind opening.header server h from bytes last → (f : HasFollowed opening h before (Some bytes) after sealed m end) → HasFollowedWell opening.honest h f.followed.done last end
-file_ends opening server h from last after before sealed bytes m end behind f = followed_well opening server h from last bytes end f.followed.done behind (f.followed.told bytes refl)
+file_ends opening server h from last after before sealed bytes m end behind f = followed_well opening server h from last bytes end f.followed.done f.followed.extra behind (f.followed.told bytes refl)
 
 front_stands : (opening : Opening) (h last : List Entry) (done : List Body) (image : List ℕ) (end : FollowEnd) → StandsFollowed opening h done image → HasFollowedWell opening.honest h done last end → (history : List Entry) × Stands opening.header image history × IsPrefix (stored history) (stored last)
 front_stands opening h last done image end s well =
@@ -38,8 +38,8 @@ file_stays opening server h from last after before sealed bytes m end behind f n
     let well = file_ends opening server h from last after before sealed bytes m end behind f in
     let done = f.followed.done in
     let remains = f.followed.remains in
-    let few = remains.few in
-    let extra : remains.extra ≡ [] = nil_from_length remains.extra (omega arith) in
+    let few = f.followed.few in
+    let extra : f.followed.extra ≡ [] = nil_from_length f.followed.extra (omega arith) in
     let all : bodies after ≡ bodies well.reached =
     remains.entries ∙ ap (λ (bs : List Body). bodies h ++ (done ++ bs)) extra ∙ ap (λ (bs : List Body). bodies h ++ bs) (append-nil done) ∙ sym well.reached_is in
     subst (λ (bs : List Body). IsPrefix (map unnumbered bs) (stored last)) (sym all) well.front

@@ -13,3 +13,5 @@ pub mod Steps
 pub mod Walk
 pub mod Files
 pub mod Examples
+pub mod Histories
+pub mod ById

@@ -159,19 +159,19 @@ differs_only honest b line (Lacks absent) made told again other = absurd other
 differs_only honest b line (Roots fs un gone) made told again other = absurd other
 differs_only honest b line (NodeCollision x) made told again other = absurd other
 
-inside : (server : Header) (opening : Opening) (own : List Entry) (line : LogLine) (lines : List LogLine) (bytes : List ℕ) (last : List Entry) (end : FollowEnd) → opening.header.version ≡ Second → is_down own ≡ false → (has : HasEntry server own line lines bytes last) → slice_get (bodies last) (count own) ≡ Some has.next.body → EndsInside opening own bytes line end → EndsWell opening.honest own (bodies last) end
-inside server opening own line lines bytes last ends.Same second up has here at = tt
-inside server opening own line lines bytes last ends.LinkFault second up has here at = tt
-inside server opening own line lines bytes last (ends.BadReply number) second up has here at = absurd (has.found at.1)
-inside server opening own line lines bytes last (ends.Differs number) second up has here at =
+inside : (server : Header) (opening : Opening) (own : List Entry) (line : LogLine) (lines : List LogLine) (bytes : List ℕ) (last : List Entry) (end : FollowEnd) → opening.header.version ≡ Second → is_down own ≡ false → (has : HasEntry server own line lines bytes last) → slice_get (bodies last) (count own) ≡ Some has.next.body → (extra : List Body) → EndsInside opening own bytes line end extra → EndsWell opening.honest own (bodies last) end
+inside server opening own line lines bytes last ends.Same second up has here extra at = tt
+inside server opening own line lines bytes last ends.LinkFault second up has here extra at = tt
+inside server opening own line lines bytes last (ends.BadReply number) second up has here extra at = absurd (has.found at.2)
+inside server opening own line lines bytes last (ends.Differs number) second up has here extra at =
     let fetch = (has.only at.1 at.2 at.3).0 in
     let other = at.4 in
-    let again = answered_again server opening.header own has.next.body line at.1 other.answer other.made (setting server opening.header has.now own line lines at.1 has.legal second up has.next fetch) has.next.told other.answers in
-    (at.0, has.next.body, ap (slice_get (bodies last)) at.0 ∙ here, differs_only opening.honest has.next.body line other.answer other.made has.next.told again other.another)
-inside server opening own line lines bytes last (ends.Full number) second up has here at = tt
-inside server opening own line lines bytes last ends.DiskFault second up has here at = tt
-inside server opening own line lines bytes last ends.OldFormat second up has here at = tt
-inside server opening own line lines bytes last ends.Memory second up has here at = tt
+    let again = answered_again server opening.header own has.next.body line at.1 other.answered.answer other.answered.made (setting server opening.header has.now own line lines at.1 has.legal second up has.next fetch) has.next.told other.answered.answers in
+    (at.0, has.next.body, ap (slice_get (bodies last)) at.0 ∙ here, differs_only opening.honest has.next.body line other.answered.answer other.answered.made has.next.told again other.another)
+inside server opening own line lines bytes last (ends.Full number) second up has here extra at = tt
+inside server opening own line lines bytes last ends.DiskFault second up has here extra at = tt
+inside server opening own line lines bytes last ends.OldFormat second up has here extra at = tt
+inside server opening own line lines bytes last ends.Memory second up has here extra at = tt
 
 -- it stands at its place in what the server has stored in the end
 place_of : (server : Header) (own : List Entry) (line : LogLine) (lines : List LogLine) (bytes : List ℕ) (last : List Entry) → (has : HasEntry server own line lines bytes last) → slice_get (bodies last) (count own) ≡ Some has.next.body
@@ -185,20 +185,20 @@ place_of server own line lines bytes last has =
 
 -- ---- from the end on
 
-ended : (server : Header) (opening : Opening) (h own : List Entry) (lines : List LogLine) (bytes : List ℕ) (last : List Entry) (end : FollowEnd) → IsTrue (is_header server) → opening.header.version ≡ Second → is_down own ≡ false → Serves server h (count own) lines bytes last → IsAlong h own lines → EndsAt opening own bytes lines end → HasFollowedWell opening.honest own [] last end
-ended server opening h own [] bytes last end fits second up serves along at = record {
+ended : (server : Header) (opening : Opening) (h own : List Entry) (lines : List LogLine) (bytes : List ℕ) (last : List Entry) (end : FollowEnd) → IsTrue (is_header server) → opening.header.version ≡ Second → is_down own ≡ false → Serves server h (count own) lines bytes last → IsAlong h own lines → (extra : List Body) → EndsAt opening own bytes lines end extra → HasFollowedWell opening.honest own [] last end
+ended server opening h own [] bytes last end fits second up serves along extra at = record {
   reached = own;
   reached_is = sym (append-nil (bodies own));
   front = front_of last own [] (more_along server h last own [] (grown_to server serves) along);
-  well = between opening own bytes (bodies last) end (page_at server h own bytes last fits along (at_page server h (count own) bytes last serves)) at;
+  well = between opening own bytes (bodies last) end (page_at server h own bytes last fits along (at_page server h (count own) bytes last serves)) at.1;
 }
-ended server opening h own (line ∷ lines) bytes last end fits second up serves along at =
+ended server opening h own (line ∷ lines) bytes last end fits second up serves along extra at =
     let has = entry_at server h own line lines bytes last along (at_line server h (count own) line lines bytes last serves) in
     record {
       reached = own;
       reached_is = sym (append-nil (bodies own));
       front = front_of last own (line ∷ lines) (more_along server h last own (line ∷ lines) (grown_to server serves) along);
-      well = inside server opening own line lines bytes last end second up has (place_of server own line lines bytes last has) at;
+      well = inside server opening own line lines bytes last end second up has (place_of server own line lines bytes last has) extra at;
     }
 
 -- ---- one entry more
@@ -282,11 +282,11 @@ made_more server opening own bytes rest fetched line lines found done last end s
     subst (λ (n : ℕ). Serves server has.now n lines rest last) (sym (counts_more own found line makes.told)) (subst (λ (bs : List ℕ). Serves server has.now (count own + 1) lines bs last) (sym only.1) has.serves) in
     entered opening own found line done last end makes.told (go has.now (still_up own found line makes.told up) serves (along_more server has.now own line lines has.next found same makes.told))
 
-pub walk : (server : Header) (opening : Opening) → IsTrue (is_header server) → opening.header.version ≡ Second → {own : List Entry} {bytes : List ℕ} {lines : List LogLine} {end : FollowEnd} {done : List Body} → Follows opening own bytes lines end done → (h last : List Entry) → is_down own ≡ false → Serves server h (count own) lines bytes last → IsAlong h own lines → HasFollowedWell opening.honest own done last end
-walk server opening fits second (following.Ends own bytes lines end at) h last up serves along = ended server opening h own lines bytes last end fits second up serves along at
-walk server opening fits second (following.Turns own bytes rest lines total end done page some follows) h last up serves along =
+pub walk : (server : Header) (opening : Opening) → IsTrue (is_header server) → opening.header.version ≡ Second → {own : List Entry} {bytes : List ℕ} {lines : List LogLine} {end : FollowEnd} {done extra : List Body} → Follows opening own bytes lines end done extra → (h last : List Entry) → is_down own ≡ false → Serves server h (count own) lines bytes last → IsAlong h own lines → HasFollowedWell opening.honest own done last end
+walk server opening fits second (following.Ends own bytes lines end extra at) h last up serves along = ended server opening h own lines bytes last end fits second up serves along extra at
+walk server opening fits second (following.Turns own bytes rest lines total end done extra page some follows) h last up serves along =
     turned server opening h own bytes last lines total rest done end fits along page some (λ g serves along. walk server opening fits second follows g last up serves along) (at_page server h (count own) bytes last serves)
-walk server opening fits second (following.Enters own bytes rest fetched line lines found end done fetch makes follows) h last up serves along =
+walk server opening fits second (following.Enters own bytes rest fetched line lines found end done extra fetch makes follows) h last up serves along =
     made_more server opening own bytes rest fetched line lines found done last end second up fetch makes
     (λ g up serves along. walk server opening fits second follows g last up serves along)
     (entry_at server h own line lines bytes last along (at_line server h (count own) line lines bytes last serves))

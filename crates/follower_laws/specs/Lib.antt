@@ -1,3 +1,4 @@
 pub mod Serving
 pub mod Again
 pub mod Endings
+pub mod ById

@@ -13,10 +13,10 @@ ghost use Rattle.follower_laws.specs.Endings.{HasFollowedWell, IsBehind};
 
 /// Following a server that keeps its rules never leads away from it: what is made then is a front of what the server has stored, each reply is one, and no entry differs but a whole of which a content has the digest of another one, or that was read from a disk that isn't honest and gave other bytes.
 pub fn a_server_is_followed()
-    ensures { (own : Opening) (server : Header) (h from last : List Entry) (bytes : List ℕ) (end : FollowEnd) (done : List Body) → IsBehind own.header server h from bytes last → Follows own h bytes [] end done → HasFollowedWell own.honest h done last end }
+    ensures { (own : Opening) (server : Header) (h from last : List Entry) (bytes : List ℕ) (end : FollowEnd) (done extra : List Body) → IsBehind own.header server h from bytes last → Follows own h bytes [] end done extra → HasFollowedWell own.honest h done last end }
 {}
 
-/// So it is with a repository in a file that follows a server over a link. It ends so. What it has stored then is a front of what the server has, unless an entry differs or couldn't be compared for want of memory, which waits unsealed then. On an honest disk each image of the file stands for a history whose stored entries are such a front, at every end.
+/// So it is with a repository in a file that follows a server over a link. It ends so. What it has stored then is a front of what the server has, unless an entry differs or couldn't be compared for want of memory: what its call made waits unsealed then. On an honest disk each image of the file stands for a history whose stored entries are such a front, at every end.
 pub fn a_file_follows_a_server()
     ensures ends { (opening : Opening) (server : Header) (h from last after : List Entry) (before sealed : ℕ) (bytes : List ℕ) (m : Meaning) (end : FollowEnd) → IsBehind opening.header server h from bytes last → (f : HasFollowed opening h before (Some bytes) after sealed m end) →
         HasFollowedWell opening.honest h f.followed.done last end }
