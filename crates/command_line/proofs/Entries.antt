@@ -17,7 +17,7 @@ use Rattle.http_front.specs.declared.ended.Ended.{Ended}
 use Rattle.http_front.specs.declared.ended.Ended.TheVariants as ends
 use Rattle.http_front.specs.Serving.{EndsAs, Finished, Start}
 use Rattle.repo_calls.specs.Replying.{Honestly}
-use Rattle.repo_state.specs.Alone.{RepliesAlone}
+use Rattle.repo_state.specs.Alone.{SealedAlone}
 use Rattle.repo_state.specs.State.{faults_in}
 use Rattle.command_line.specs.Sessions.{IsOfSeat}
 
@@ -52,48 +52,49 @@ adds_then who a b c p q = record {
   own = of_seat-append who p.more q.more p.own q.own;
 }
 
-replies_add : (header : Header) (h : List Entry) (who : ℕ) (call : Call) (answer : Answer) (after : List Entry) → RepliesAlone header h who call answer after → Adds who h after
-replies_add header h who call answer after r =
+replies_add : (n : ℕ) (header : Header) (h : List Entry) (who : ℕ) (call : Call) (answer : Answer) (after : List Entry) → SealedAlone n header h who call answer after → Adds who h after
+replies_add n header h who call answer after s =
+    let r = s.replies in
     record { more = entries_of who r.made; after_is = r.new_is; own = of_seat-map who (option_to_list r.made.entry ++ option_to_list (option_map Fault r.made.fault)) }
 
 -- also a landing at a moment that a clock tells
-dated_add : (tells : ℕ → Type 0) (honest : Bool) (header : Header) (h : List Entry) (who : ℕ) (call : Call) (answer : Answer) (after : List Entry) → Dated tells (Honestly honest RepliesAlone) header h who call answer after → Adds who h after
-dated_add tells honest header h who (Asks (PutContent bytes)) answer after r = replies_add header h who (Asks (PutContent bytes)) answer after r.answered
-dated_add tells honest header h who (Asks (PutWhole body pieces)) answer after r = replies_add header h who (Asks (PutWhole body pieces)) answer after r.answered
-dated_add tells honest header h who (Asks (PutChangeset bytes)) answer after r = replies_add header h who (Asks (PutChangeset bytes)) answer after r.answered
-dated_add tells honest header h who (Asks (SetBookmark caller name from to)) answer after r = replies_add header h who (Asks (SetBookmark caller name from to)) answer after r.answered
-dated_add tells honest header h who (Asks (LandDraft caller name draft moment)) answer after r = replies_add header h who (Asks (LandDraft caller name draft r.0)) answer after r.2.answered
-dated_add tells honest header h who (Asks (SetPolicy caller text)) answer after r = replies_add header h who (Asks (SetPolicy caller text)) answer after r.answered
-dated_add tells honest header h who (Joins body) answer after r = replies_add header h who (Joins body) answer after r.answered
-dated_add tells honest header h who (Looks question) answer after r = replies_add header h who (Looks question) answer after r.answered
-dated_add tells honest header h who (Derives x) answer after r = replies_add header h who (Derives x) answer after r.answered
+dated_add : (tells : ℕ → Type 0) (honest : Bool) (n : ℕ) (header : Header) (h : List Entry) (who : ℕ) (call : Call) (answer : Answer) (after : List Entry) → Dated tells (Honestly honest (SealedAlone n)) header h who call answer after → Adds who h after
+dated_add tells honest n header h who (Asks (PutContent bytes)) answer after r = replies_add n header h who (Asks (PutContent bytes)) answer after r.answered
+dated_add tells honest n header h who (Asks (PutWhole body pieces)) answer after r = replies_add n header h who (Asks (PutWhole body pieces)) answer after r.answered
+dated_add tells honest n header h who (Asks (PutChangeset bytes)) answer after r = replies_add n header h who (Asks (PutChangeset bytes)) answer after r.answered
+dated_add tells honest n header h who (Asks (SetBookmark caller name from to)) answer after r = replies_add n header h who (Asks (SetBookmark caller name from to)) answer after r.answered
+dated_add tells honest n header h who (Asks (LandDraft caller name draft moment)) answer after r = replies_add n header h who (Asks (LandDraft caller name draft r.0)) answer after r.2.answered
+dated_add tells honest n header h who (Asks (SetPolicy caller text)) answer after r = replies_add n header h who (Asks (SetPolicy caller text)) answer after r.answered
+dated_add tells honest n header h who (Joins body) answer after r = replies_add n header h who (Joins body) answer after r.answered
+dated_add tells honest n header h who (Looks question) answer after r = replies_add n header h who (Looks question) answer after r.answered
+dated_add tells honest n header h who (Derives x) answer after r = replies_add n header h who (Derives x) answer after r.answered
 
-asked_adds : (tells : ℕ → Type 0) (honest : Bool) (header : Header) (who : ℕ) (h : List Entry) (a : Asked) (q : Request) (out : List ℕ) (after : List Entry) → AnswersAsked (Dated tells (Honestly honest RepliesAlone)) header who h a q out after → Adds who h after
-asked_adds tells honest header who h (asking.Calls call) q out after answers = dated_add tells honest header h who call answers.answer after answers.answered
-asked_adds tells honest header who h (asking.Fails r) q out after answers = nothing_added who h after answers.same
+asked_adds : (tells : ℕ → Type 0) (honest : Bool) (n : ℕ) (header : Header) (who : ℕ) (h : List Entry) (a : Asked) (q : Request) (out : List ℕ) (after : List Entry) → AnswersAsked (Dated tells (Honestly honest (SealedAlone n))) header who h a q out after → Adds who h after
+asked_adds tells honest n header who h (asking.Calls call) q out after answers = dated_add tells honest n header h who call answers.answer after answers.answered
+asked_adds tells honest n header who h (asking.Fails r) q out after answers = nothing_added who h after answers.same
 
-answers_add : (tells : ℕ → Type 0) (honest : Bool) (header : Header) (who : ℕ) (h : List Entry) (q : Request) (out : List ℕ) (after : List Entry) → Answers (Dated tells (Honestly honest RepliesAlone)) header who h q out after → Adds who h after
-answers_add tells honest header who h q out after (inl answers) = asked_adds tells honest header who h (asked q) q out after answers
-answers_add tells honest header who h q out after (inr alone) = nothing_added who h after alone.same
+answers_add : (tells : ℕ → Type 0) (honest : Bool) (n : ℕ) (header : Header) (who : ℕ) (h : List Entry) (q : Request) (out : List ℕ) (after : List Entry) → Answers (Dated tells (Honestly honest (SealedAlone n))) header who h q out after → Adds who h after
+answers_add tells honest n header who h q out after (inl answers) = asked_adds tells honest n header who h (asked q) q out after answers
+answers_add tells honest n header who h q out after (inr alone) = nothing_added who h after alone.same
 
-serves_add : (tells : ℕ → Type 0) (honest : Bool) (header : Header) (who : ℕ) (h : List Entry) (requests : List Request) (texts : List (List ℕ)) (after : List Entry) → Serves (Dated tells (Honestly honest RepliesAlone)) header who h requests texts after → Adds who h after
-serves_add tells honest header who h [] [] after same = nothing_added who h after same
-serves_add tells honest header who h (q ∷ requests) (text ∷ texts) after serves =
-    adds_then who h serves.0 after (answers_add tells honest header who h q text serves.0 serves.1) (serves_add tells honest header who serves.0 requests texts after serves.2)
-serves_add tells honest header who h [] (text ∷ texts) after serves = absurd serves
-serves_add tells honest header who h (q ∷ requests) [] after serves = absurd serves
+serves_add : (tells : ℕ → Type 0) (honest : Bool) (n : ℕ) (header : Header) (who : ℕ) (h : List Entry) (requests : List Request) (texts : List (List ℕ)) (after : List Entry) → Serves (Dated tells (Honestly honest (SealedAlone n))) header who h requests texts after → Adds who h after
+serves_add tells honest n header who h [] [] after same = nothing_added who h after same
+serves_add tells honest n header who h (q ∷ requests) (text ∷ texts) after serves =
+    adds_then who h serves.0 after (answers_add tells honest n header who h q text serves.0 serves.1) (serves_add tells honest n header who serves.0 requests texts after serves.2)
+serves_add tells honest n header who h [] (text ∷ texts) after serves = absurd serves
+serves_add tells honest n header who h (q ∷ requests) [] after serves = absurd serves
 
-ends_add : (tells : ℕ → Type 0) (honest : Bool) (header : Header) (who : ℕ) (h : List Entry) (s out : List ℕ) (after : List Entry) (end : Ended) → EndsAs (Dated tells (Honestly honest RepliesAlone)) header who h s out after end → Adds who h after
-ends_add tells honest header who h s out after ends.Whole session = serves_add tells honest header who h session.requests session.texts after session.serves
-ends_add tells honest header who h s out after ends.Closed session = serves_add tells honest header who h session.requests session.texts after session.serves
-ends_add tells honest header who h s out after (ends.Cut read) session = serves_add tells honest header who h session.requests session.texts after session.serves
-ends_add tells honest header who h s out after (ends.Refused status) session = serves_add tells honest header who h session.requests session.texts after session.serves
-ends_add tells honest header who h s out after ends.Spent session = serves_add tells honest header who h session.requests session.texts after session.serves
-ends_add tells honest header who h s out after ends.LinkFault broken = serves_add tells honest header who h broken.requests broken.texts after broken.serves
-ends_add tells honest header who h s out after ends.Memory began = nothing_added who h after began.same
+ends_add : (tells : ℕ → Type 0) (honest : Bool) (n : ℕ) (header : Header) (who : ℕ) (h : List Entry) (s out : List ℕ) (after : List Entry) (end : Ended) → EndsAs (Dated tells (Honestly honest (SealedAlone n))) header who h s out after end → Adds who h after
+ends_add tells honest n header who h s out after ends.Whole session = serves_add tells honest n header who h session.requests session.texts after session.serves
+ends_add tells honest n header who h s out after ends.Closed session = serves_add tells honest n header who h session.requests session.texts after session.serves
+ends_add tells honest n header who h s out after (ends.Cut read) session = serves_add tells honest n header who h session.requests session.texts after session.serves
+ends_add tells honest n header who h s out after (ends.Refused status) session = serves_add tells honest n header who h session.requests session.texts after session.serves
+ends_add tells honest n header who h s out after ends.Spent session = serves_add tells honest n header who h session.requests session.texts after session.serves
+ends_add tells honest n header who h s out after ends.LinkFault broken = serves_add tells honest n header who h broken.requests broken.texts after broken.serves
+ends_add tells honest n header who h s out after ends.Memory began = nothing_added who h after began.same
 
-pub session_adds : (tells : ℕ → Type 0) (honest : Bool) (from : Start) (h : List Entry) (rest written : Option (List ℕ)) (end : Ended) → Finished (Dated tells (Honestly honest RepliesAlone)) from h rest written end → Adds from.who from.history h
-session_adds tells honest from h rest written end finished = ends_add tells honest from.header from.who from.history finished.read finished.out h end finished.ends
+pub session_adds : (tells : ℕ → Type 0) (honest : Bool) (n : ℕ) (from : Start) (h : List Entry) (rest written : Option (List ℕ)) (end : Ended) → Finished (Dated tells (Honestly honest (SealedAlone n))) from h rest written end → Adds from.who from.history h
+session_adds tells honest n from h rest written end finished = ends_add tells honest n from.header from.who from.history finished.read finished.out h end finished.ends
 
 pub adds_prefix : (who : ℕ) (h after : List Entry) → Adds who h after → IsPrefix h after
 adds_prefix who h after adds = (adds.more, sym adds.after_is)

@@ -22,7 +22,7 @@ use Rattle.command_line.specs.declared.status.Outcome.{Outcome}
 use Rattle.command_line.specs.declared.came.Came.{Came}
 use Rattle.command_line.specs.Making.{Unopened}
 use Rattle.command_line.specs.Opening.{OpensIn, RefusesIn}
-use Rattle.command_line.specs.Outside.{Links, Outside, Peer, TakesNone, taken}
+use Rattle.command_line.specs.Outside.{Links, Outside, Peer, TakesNone, none_served, taken}
 use Rattle.command_line.specs.Followed.{Answered, AsksLink, FollowsBy, FollowsFile, FollowsOn, FollowsOpened}
 use Rattle.command_line.specs.Running.{Ends, OpensUnfollowed, RunsFollow, RunsOpenedOn, Writes}
 use Rattle.command_line.proofs.Serving.{opens_none}
@@ -59,9 +59,9 @@ one_taken n a is = by (cases_lt n (2 ^ 64 - 1))
     by (inr above) = inr (is ∙ min-eq_right (omega (arith, above)))
 
 pub takes_one : {K : Type 0} (n a : ℕ) (answer : Result (Option K) Failed) (link after : K) (left : Option K) → answer ≡ Ok (Some link) → left ≡ Some after
-    → a ≡ (if is_link answer then raised n else n) → (n + taken 0 left ≡ a) ⊎ (a ≡ 2 ^ 64 - 1)
+    → a ≡ (if is_link answer then raised n else n) → (n + (taken none_served left).count ≡ a) ⊎ (a ≡ 2 ^ 64 - 1)
 unfolding raised_by
-takes_one {K} n a answer link after left is left_is given = subst (λ (o : Option K). (n + taken 0 o ≡ a) ⊎ (a ≡ 2 ^ 64 - 1)) (sym left_is) (one_taken n a (given ∙ ap (raised_by n) is))
+takes_one {K} n a answer link after left is left_is given = subst (λ (o : Option K). (n + (taken none_served o).count ≡ a) ⊎ (a ≡ 2 ^ 64 - 1)) (sym left_is) (one_taken n a (given ∙ ap (raised_by n) is))
 
 pub takes_none : {K : Type 0} (n a : ℕ) (answer : Result (Option K) Failed) → is_link answer ≡ false
     → a ≡ (if is_link answer then raised n else n) → (n + 0 ≡ a) ⊎ (a ≡ 2 ^ 64 - 1)

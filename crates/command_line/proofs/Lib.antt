@@ -1,6 +1,8 @@
 pub mod Entries
 pub mod Sessions
 pub mod Unserved
+pub mod Shelves
+pub mod Lasts
 pub mod Serving
 pub mod Loading
 pub mod Pieces

@@ -6,7 +6,8 @@ use Rattle.blob_disk.specs.declared.mem_disk.MemDisk.{MemDisk}
 use Rattle.history_model.specs.History.{Entry, is_down}
 use Rattle.history_model.specs.Journal.{Header, Keeps}
 use Rattle.disk_model.specs.Images.{IsImage}
-use Rattle.repo_state.specs.State.{HasNoFault, IsAllSealed, IsQuiet, IsSound, State, faults_in}
+use Rattle.repo_state.specs.Images.{Leaves}
+use Rattle.repo_state.specs.State.{HasNoFault, IsAllSealed, IsQuiet, IsSound, State, faults_in, reach}
 use Rattle.repo_state.proofs.Leaving.{keeps_up}
 use Rattle.repo_state.proofs.Stands.{no_faults}
 use Rattle.run_gen.specs.declared.fault.LoadFault.{LoadFault}
@@ -16,7 +17,7 @@ use Rattle.run_gen.specs.Loading as loads
 use Rattle.run_gen.specs.declared.summary.Summary.{Summary}
 use Rattle.command_line.specs.Loading.{Closes, HoldsAll, IsClosed, LeavesLoad, Loads, report_of}
 use Rattle.command_line.proofs.Entries.{down_has_fault}
-use Rattle.command_line.proofs.Sessions.{stands_whole}
+use Rattle.command_line.proofs.Sessions.{reach_sealed, stands_whole}
 
 by_faults : (h : List Entry) → faults_in h ≡ 0 → (down : Bool) → is_down h ≡ down → is_down h ≡ false
 by_faults h none true is = (let some = down_has_fault h is in absurd (omega arith))
@@ -27,10 +28,12 @@ is_up h calm = by_faults h (no_faults h calm) (is_down h) refl
 
 holds_all : (s : State) (disk : MemDisk) → IsQuiet s.opening → IsAllSealed s.history s.sealed → IsClosed s disk → HoldsAll s.opening.header s.history disk
 holds_all s disk quiet sealed closed =
-    let sound : IsSound s.opening s.history s.sealed (told_of disk) = subst (IsSound s.opening s.history s.sealed) (sym closed.disk_is) closed.sound in
+    let sound : IsSound s.opening s.history s.sealed (reach s) (told_of disk) = subst (IsSound s.opening s.history s.sealed (reach s)) (sym closed.disk_is) closed.sound in
     let calm = sound.calm quiet in
     let up = is_up s.history calm in
-    let part = keeps_up s.opening.header s.opening.length s.opening.moment s.history s.sealed s.opening.disk (told_of disk) up (sound.leaves refl) in
+    let end = reach_sealed s.history s.sealed (reach s) (sealed up) sound.reaches sound.within in
+    let part = keeps_up s.opening.header s.opening.length s.opening.moment s.history s.sealed s.opening.disk (told_of disk)
+    (subst (λ upto. Leaves s.opening.header s.opening.length s.opening.moment s.history s.sealed upto s.opening.disk (told_of disk)) end (sound.leaves refl)) in
     let keeps : Keeps s.opening.header (IsImage (told_of disk).state) s.history = λ image is. stands_whole s.opening.header s.history s.sealed image (sealed up) (part image is) in
     record {
       legal = sound.legal;

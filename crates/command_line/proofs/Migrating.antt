@@ -46,7 +46,7 @@ still_opens header h journal first m n opens read opened = record {
       let here = opens.unharmed.kept.honest ∙ honest in
       leaves_then (λ image. Stands header image h) first m n opens.unharmed.kept (opens.settled honest was)
       (leaves_weaker (IsImage n.state) (λ image. Stands header image h) m n (λ image is. opens.opened.now here image (image_before m n read here image is)) (read.time here)));
-  during = opens.during;
+  synced = opens.synced;
   unharmed = still_unharmed first m n opens.unharmed read;
 }
 

@@ -45,7 +45,9 @@ pub record FollowsLink {K : Type 0} (opening : Opening) (opened : List Entry) (b
   pub history : List Entry
   pub sealed : ℕ
   pub followed : HasFollowed opening opened before (tells link).rest history sealed m end
-  pub sound : IsSound opening history sealed m
+  -- up to where a crash leaves entries that wait
+  pub reach : ℕ
+  pub sound : IsSound opening history sealed reach m
   pub report_is : report ≡ report_of sealed end
   pub current : end ≢ ends.OldFormat
   pub link_fault : end ≡ ends.LinkFault → Rose (tells link).faults (tells after).faults

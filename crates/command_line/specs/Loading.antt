@@ -12,7 +12,7 @@ use Rattle.blob_disk.specs.declared.mem_disk.MemDisk.{MemDisk}
 use Rattle.history_model.specs.History.{Entry}
 use Rattle.history_model.specs.Journal.{Header, Keeps, Stands}
 use Rattle.reply_model.specs.Legal.{IsLegal}
-use Rattle.repo_state.specs.State.{HasNoFault, IsSound, State}
+use Rattle.repo_state.specs.State.{HasNoFault, IsSound, State, reach}
 use Rattle.run_gen.specs.Loads.{IsLoaded, IsStopped}
 use Rattle.run_gen.specs.declared.fault.LoadFault.{LoadFault}
 use Rattle.run_gen.specs.declared.fault.LoadFault.TheVariants.{Refused, Memory}
@@ -37,7 +37,7 @@ pub record HoldsAll (header : Header) (h : List Entry) (disk : MemDisk) : Type 0
 pub record IsClosed (s : State) (disk : MemDisk) : Type 0 where
   pub disk_is : told_of disk ≡ s.disk
   pub whole : IsWhole (told_of disk)
-  pub sound : IsSound s.opening s.history s.sealed s.disk
+  pub sound : IsSound s.opening s.history s.sealed (reach s) s.disk
 
 abbrev pub Closes : Option State → Option MemDisk → Type 0
 Closes None None = Unit {0}

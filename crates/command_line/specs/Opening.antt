@@ -10,7 +10,7 @@ use Rattle.ports.specs.Faults.{Rose}
 use Rattle.ports.specs.Openers.{Shelf, given}
 use Rattle.disk_model.specs.Images.{IsImage}
 use Rattle.disk_model.specs.Meaning.{Meaning}
-use Rattle.disk_model.specs.Calls.{Kept, LeavesOnly, Within}
+use Rattle.disk_model.specs.Calls.{Kept, LeavesOnly, Within, next_moment}
 use Rattle.history_model.specs.History.{Entry, stored}
 use Rattle.history_model.specs.Journal.{Header, Stands}
 use Rattle.reply_model.specs.Legal.{IsLegal}
@@ -53,8 +53,8 @@ pub record Opens (header : Header) (h : List Entry) (journal : JournalView) (old
   -- a file that stands for a legal history opens as that
   pub only : IsTrue old.honest → (made : Header) (g : List Entry) → Stands made old.state.reads g → IsLegal made (stored g) → (header ≡ made) × (h ≡ stored g)
   pub settled : IsTrue old.honest → IsSettled old → LeavesOnly (λ image. Stands header image h) old new
-  -- the opening's moment and its count of faults aren't earlier than the call
-  pub during : (old.moment ≤ journal.opening.moment) × (old.faults ≤ journal.opening.faults)
+  -- the opening's moment and its count of faults are those right after the sync with which it begins: no call had failed
+  pub synced : (journal.opening.moment ≡ next_moment old) × (journal.opening.faults ≡ old.faults)
   pub unharmed : Unharmed old new
 
 -- a refusal is the one that the definition of opening finds, and any other report says nothing of the file

@@ -7,9 +7,11 @@
 --     RunsFollow meaning file ..      the server to which the accept gives a link is followed into the repository in it
 --     RunsGen seed stacks clients ..      a load is made in memory, and no file is opened
 --     LacksMemory request ..      there was no memory to read the words;  Runs meaning tells request ..      by what is asked for
+--     OpensOnly file create ..      the file of this name alone was taken out;  OpensBoth source target ..      the files of these names alone
 --     takes_links request      the command takes links;  makes_load request      it makes a load;  opens_other request      it opens another file;  follows_server request      it follows a server
-use Rattle.std.specs.Prelude.{◌≡◌, ◌⊎◌, ℕ, Bool, true, false, List, Option, None, Some, MatchOption}
-use Rattle.ports.specs.Faults.{Rose}
+use Rattle.std.specs.Prelude.{◌≡◌, ◌⊎◌, ℕ, Bool, true, false, is_none, List, Option, None, Some, MatchOption}
+use Rattle.ports.specs.Faults.{Counts, Rose}
+use Rattle.ports.specs.Openers.{Shelf}
 use Rattle.disk_model.specs.Meaning.{Meaning}
 use Rattle.blob_disk.specs.declared.mem_disk.MemDisk.{MemDisk}
 use Rattle.history_model.specs.History.{Entry}
@@ -25,11 +27,11 @@ use Rattle.command_line.specs.Counting.{ChecksIn}
 use Rattle.command_line.specs.Followed.{FollowsFile, FollowsOpened}
 use Rattle.command_line.specs.Making.{AttemptsIn, Unopened}
 use Rattle.command_line.specs.Migrating.{Migrates}
-use Rattle.command_line.specs.Opening.{RefusesIn}
+use Rattle.command_line.specs.Opening.{IsGiven, RefusesIn, Unharmed}
 use Rattle.command_line.specs.Reports.{Reports, status_of}
 use Rattle.command_line.specs.declared.came.Came.{Came}
 use Rattle.command_line.specs.Loading.{Loads}
-use Rattle.command_line.specs.Outside.{Links, Outside, Peer, TakesNone, Told}
+use Rattle.command_line.specs.Outside.{Links, Outside, Peer, TakesNone, Told, taken_from}
 use Rattle.command_line.specs.Sessions.{ServesFile}
 use Rattle.command_line.specs.Serving.{ServesOpened, ServesRepository}
 
@@ -96,10 +98,22 @@ pub record OpensNone {D : Type 0} (meaning : D → Meaning) (file : List ℕ) (o
   pub on : RunsOn (λ disk report. RefusesIn meaning file old.shelf disk report) old new ran
   pub untaken : TakesNone links
 
--- there was no memory to begin, and the file is given up
-pub record LacksLanes {D : Type 0} (old new : Told) (links : Links) (ran : Came D) : Type 0 where
+-- there was no memory to begin, and the disk is told as it was once all was read
+pub record LacksLanesOn {D : Type 0} (meaning : D → Meaning) (read : Meaning) (old new : Told) (links : Links) (ran : Came D) : Type 0 where
   pub writes : Writes report.NoMemory ran.status old new
-  pub none : ran.disk ≡ None
+  pub disk : D
+  pub disk_is : ran.disk ≡ Some disk
+  pub still : meaning disk ≡ read
+  pub untaken : TakesNone links
+
+-- there was no memory to begin, and the file is as it was opened
+pub record LacksLanes {D : Type 0} (meaning : D → Meaning) (file : List ℕ) (shelf : Option (Shelf D)) (old new : Told) (links : Links) (ran : Came D) : Type 0 where
+  pub writes : Writes report.NoMemory ran.status old new
+  pub disk : D
+  pub disk_is : ran.disk ≡ Some disk
+  pub first : D
+  pub gives : IsGiven file shelf first
+  pub unharmed : Unharmed (meaning first) (meaning disk)
   pub untaken : TakesNone links
 
 -- the end is reported
@@ -110,11 +124,11 @@ pub record Ends {D : Type 0} (As : Report → Option D → Type 0) (old new : To
 
 abbrev pub RunsOpened : {D : Type 0} → (D → Meaning) → Header → List Entry → JournalView → Meaning → (lanes connections : ℕ) → Told → Told → Links → Came D → Type 0
 RunsOpened meaning header opened journal read lanes connections old new links ran =
-    LacksLanes old new links ran ⊎ Ends (ServesOpened meaning header opened journal read lanes connections links) old new ran
+    LacksLanesOn meaning read old new links ran ⊎ Ends (ServesOpened meaning header opened journal read lanes connections links) old new ran
 
 abbrev pub RunsServe : {D : Type 0} → (D → Meaning) → List ℕ → (lanes connections : ℕ) → Outside D → Outside D → Links → Came D → Type 0
 RunsServe meaning file lanes connections old new links ran =
-    OpensNone meaning file old new links ran ⊎ LacksLanes old.link new.link links ran ⊎ Ends (ServesRepository meaning file old.shelf lanes connections links) old.link new.link ran
+    OpensNone meaning file old new links ran ⊎ LacksLanes meaning file old.shelf old.link new.link links ran ⊎ Ends (ServesRepository meaning file old.shelf lanes connections links) old.link new.link ran
 
 -- ---- a server that is followed
 
@@ -140,6 +154,18 @@ pub record ReportsLoad (seed stacks clients : ℕ) (load : Option MemDisk) (stat
 
 abbrev pub RunsGen : {D : Type 0} → (seed stacks clients : ℕ) → Outside D → Outside D → Came D → Option MemDisk → Type 0
 RunsGen seed stacks clients old new ran load = RunsAlone (ReportsLoad seed stacks clients load) old new ran
+
+-- ---- the shelf
+
+-- where it wasn't opened, the opener's count of faults rose
+pub record OpensOnly {D : Type 0} (file : List ℕ) (create : Bool) (old new : Outside D) (disk : Option D) : Type 0 where
+  pub shelf : new.shelf ≡ taken_from file create disk old.shelf
+  pub unopened : Counts old.unopened new.unopened (is_none disk)
+
+-- the source, and then the target, which is made where there is none
+pub record OpensBoth {D : Type 0} (source target : List ℕ) (old new : Outside D) (disk other : Option D) : Type 0 where
+  pub shelf : new.shelf ≡ taken_from target true disk (taken_from source false other old.shelf)
+  pub unopened : Counts old.unopened new.unopened (is_none other)
 
 -- ---- all words
 
@@ -199,13 +225,13 @@ pub record LacksMemory {D K : Type 0} (request : Option Request) (old new : Outs
   pub unlinked : peer.left ≡ None
 
 abbrev pub Runs : {D K : Type 0} → (D → Meaning) → (ℕ → Type 0) → Option Request → Outside D → Outside D → Links → Peer K → Came D → Option MemDisk → Option D → Type 0
-Runs meaning tells (Some (init file capacity)) old new links peer ran load other = RunsInit meaning file capacity old new ran
-Runs meaning tells (Some (session file)) old new links peer ran load other = RunsSession meaning tells file old new ran
-Runs meaning tells (Some (serve file address lanes derivers connections)) old new links peer ran load other = RunsServe meaning file lanes connections old new links ran
-Runs meaning tells (Some (fsck file)) old new links peer ran load other = RunsFsck meaning file old new ran
-Runs meaning tells (Some (migrate source target)) old new links peer ran load other = RunsMigrate meaning source target old new ran other
+Runs meaning tells (Some (init file capacity)) old new links peer ran load other = RunsInit meaning file capacity old new ran × OpensOnly file true old new ran.disk
+Runs meaning tells (Some (session file)) old new links peer ran load other = RunsSession meaning tells file old new ran × OpensOnly file false old new ran.disk
+Runs meaning tells (Some (serve file address lanes derivers connections)) old new links peer ran load other = RunsServe meaning file lanes connections old new links ran × OpensOnly file false old new ran.disk
+Runs meaning tells (Some (fsck file)) old new links peer ran load other = RunsFsck meaning file old new ran × OpensOnly file false old new ran.disk
+Runs meaning tells (Some (migrate source target)) old new links peer ran load other = RunsMigrate meaning source target old new ran other × OpensBoth source target old new ran.disk other
 Runs meaning tells (Some (gen seed stacks clients)) old new links peer ran load other = RunsGen seed stacks clients old new ran load
-Runs meaning tells (Some (follow file address)) old new links peer ran load other = RunsFollow meaning file old new links peer ran
+Runs meaning tells (Some (follow file address)) old new links peer ran load other = RunsFollow meaning file old new links peer ran × OpensOnly file false old new ran.disk
 Runs meaning tells (Some help) old new links peer ran load other = RunsLine report.Help old new ran
 Runs meaning tells (Some version) old new links peer ran load other = RunsLine report.Version old new ran
 Runs meaning tells None old new links peer ran load other = RunsLine report.Usage old new ran

@@ -1,7 +1,7 @@
 -- A session on the repository in a file.
 --     status_of end, session_status down end      the status that the end of a session gives, and that of a run where the history holds a breaking fault or not
 --     IsOfSeat who h      the seat made all entries
---     LeavesFile header opened h n moment first m      what a crash leaves of the file, where the first n stored entries are sealed
+--     LeavesFile header opened h n reach moment first m      what a crash leaves of the file, where the first n stored entries are sealed, and the first reach are left at most
 --     Serves meaning tells header opened journal read old new ran      one connection is served on an opened repository, whose disk was told so once all was read, by a clock that tells such moments
 --     ServesFile meaning tells file shelf old new ran      one is served on the repository in the file that an opener tells for the name
 use Rattle.std.specs.Prelude.{◌≡◌, ℕ, ◌≤◌, Bool, true, false, if◌then◌else◌, IsTrue, List, length, Option, Some}
@@ -13,13 +13,13 @@ use Rattle.ports.specs.Openers.{Shelf}
 use Rattle.disk_model.specs.Images.{IsImage}
 use Rattle.disk_model.specs.Meaning.{Meaning, LeftSince}
 use Rattle.disk_model.specs.Calls.{Kept, LeavesOnly}
-use Rattle.history_model.specs.History.{Entry, is_down}
+use Rattle.history_model.specs.History.{Entry, bodies, is_down}
 use Rattle.history_model.specs.Journal.{Header, Stands}
 use Rattle.reply_model.specs.Legal.{IsLegal}
 use Rattle.repo_journal.specs.View.{JournalView}
 use Rattle.repo_calls.specs.Replying.{Honestly}
 use Rattle.session_model.specs.Dating.{Dated}
-use Rattle.repo_state.specs.Alone.{RepliesAlone}
+use Rattle.repo_state.specs.Alone.{SealedAlone}
 use Rattle.repo_state.specs.Images.{StandsNow, StandsSince}
 use Rattle.repo_state.specs.State.{Covers, HasNoFault, IsSealedAlone, IsSound, faults_in, opening_of}
 use Rattle.http_front.specs.declared.ended.Ended.{Ended}
@@ -46,13 +46,13 @@ session_status down end = if down then DiskFault else status_of end
 abbrev pub IsOfSeat : ℕ → List Entry → Type 0
 IsOfSeat who h = AllByRecursion (λ (e : Entry). e.who ≡ who) h
 
--- An image is what a crash could leave: it stands for the entries that are sealed, or after a breaking fault for the whole history too, of which the last entries may then be in the file or not. What is sealed is never lost
-pub record LeavesFile (header : Header) (opened h : List Entry) (n moment : ℕ) (first m : Meaning) : Type 0 where
-  pub now : (image : List ℕ) → IsImage m.state image → StandsNow header h n image
+-- An image is what a crash could leave: it stands for the entries that are sealed, or after a breaking fault for the first up to one end too, of which the last entries may then be in the file or not. What is sealed is never lost
+pub record LeavesFile (header : Header) (opened h : List Entry) (n reach moment : ℕ) (first m : Meaning) : Type 0 where
+  pub now : (image : List ℕ) → IsImage m.state image → StandsNow header h n reach image
   -- since the opening for so many of the sealed entries as were sealed then, and never fewer than the file was opened with
-  pub since : (image : List ℕ) → LeftSince m moment image → StandsSince header (length opened) h n image
+  pub since : (image : List ℕ) → LeftSince m moment image → StandsSince header (length opened) h n reach image
   -- and since the file was given, where each image was then what reads give
-  pub all : IsSettled first → LeavesOnly (StandsSince header (length opened) h n) first m
+  pub all : IsSettled first → LeavesOnly (StandsSince header (length opened) h n reach) first m
 
 -- on a disk that fails no call within the capacity there is no fault
 abbrev pub IsCalm : Header → List Entry → Meaning → Type 0
@@ -64,13 +64,13 @@ pub record Serves {D : Type 0} (meaning : D → Meaning) (tells : ℕ → Type 0
   pub disk_is : ran.disk ≡ Some disk
   pub history : List Entry
   pub end : Ended
-  pub session : Finished (Dated tells (Honestly read.honest RepliesAlone)) (record { header = header; who = 0; history = opened; rest = old.rest; written = old.written }) history new.rest new.written end
-  pub status_is : ran.status ≡ session_status (is_down history) end
-  pub link_fault : end ≡ ends.LinkFault → Rose old.faults new.faults
   -- all that was granted is sealed: only the entry of a change that the disk failed may not be
   pub sealed : ℕ
   pub all_sealed : IsSealedAlone history sealed
-  pub sound : IsSound (opening_of header journal.opening read) history sealed (meaning disk)
+  pub session : Finished (Dated tells (Honestly read.honest (SealedAlone sealed))) (record { header = header; who = 0; history = opened; rest = old.rest; written = old.written }) history new.rest new.written end
+  pub status_is : ran.status ≡ session_status (is_down history) end
+  pub link_fault : end ≡ ends.LinkFault → Rose old.faults new.faults
+  pub sound : IsSound (opening_of header journal.opening read) history sealed (length (bodies history)) (meaning disk)
 
 pub record ServesFile {D : Type 0} (meaning : D → Meaning) (tells : ℕ → Type 0) (file : List ℕ) (shelf : Option (Shelf D)) (old new : Told) (ran : Came D) : Type 0 where
   pub disk : D
@@ -83,19 +83,19 @@ pub record ServesFile {D : Type 0} (meaning : D → Meaning) (tells : ℕ → Ty
   pub opened : List Entry
   pub journal : JournalView
   pub opens : Opens header opened journal (meaning first) read
-  -- the session, whose landings are made at moments that the clock tells, and the history at its end
+  -- the history at the end of the session. All that was granted is sealed, so that every image begins with it: only the entry of a change that the disk failed may not be
   pub history : List Entry
+  pub sealed : ℕ
+  pub all_sealed : IsSealedAlone history sealed
+  pub sealed_first : length opened ≤ sealed
+  -- the session, whose landings are made at moments that the clock tells, and whose grants stand among what is sealed
   pub end : Ended
-  pub session : Finished (Dated tells (Honestly (meaning first).honest RepliesAlone)) (record { header = header; who = 0; history = opened; rest = old.rest; written = old.written }) history new.rest new.written end
+  pub session : Finished (Dated tells (Honestly (meaning first).honest (SealedAlone sealed))) (record { header = header; who = 0; history = opened; rest = old.rest; written = old.written }) history new.rest new.written end
   pub status_is : ran.status ≡ session_status (is_down history) end
   pub link_fault : end ≡ ends.LinkFault → Rose old.faults new.faults
   pub legal : IsLegal header history
   pub begins : IsPrefix opened history
   pub alone : IsOfSeat 0 history
-  -- all that was granted is sealed, so that every image begins with it: only the entry of a change that the disk failed may not be
-  pub sealed : ℕ
-  pub all_sealed : IsSealedAlone history sealed
-  pub sealed_first : length opened ≤ sealed
   -- no fault comes but with the disk's
   pub calm : IsCalm header history (meaning first)
   pub covers : Covers (faults_in history) (meaning first).faults (meaning disk).faults
@@ -103,4 +103,4 @@ pub record ServesFile {D : Type 0} (meaning : D → Meaning) (tells : ℕ → Ty
   -- the file at the end, and what a crash leaves of it
   pub kept : Kept (meaning first) (meaning disk)
   pub stands : IsTrue (meaning disk).honest → is_down history ≡ false → ForSome (meaning disk).reads (λ bytes. Stands header bytes history)
-  pub leaves : IsTrue (meaning disk).honest → LeavesFile header opened history sealed journal.opening.moment (meaning first) (meaning disk)
+  pub leaves : IsTrue (meaning disk).honest → LeavesFile header opened history sealed (length (bodies history)) journal.opening.moment (meaning first) (meaning disk)

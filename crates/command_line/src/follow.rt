@@ -1,5 +1,5 @@
 //! Following a server into the repository in a file.
-ghost use Rattle.std.specs.Prelude.{◌≡◌, None};
+ghost use Rattle.std.specs.Prelude.{◌≡◌, false, None};
 ghost use Rattle.bonsai.specs.Versions.{version_view};
 ghost use Rattle.changeset_model.specs.Version.{Second};
 ghost use Rattle.history_model.specs.History.{stored};
@@ -7,8 +7,8 @@ ghost use Rattle.reply_model.specs.Legal.{IsLegal};
 ghost use Rattle.repo_journal.specs.Opened.{IsOpened};
 ghost use Rattle.repo_state.specs.State.{IsSound};
 ghost use Rattle.command_line.specs.Followed.{AsksLink, FollowsLink, FollowsOn, report_of};
-ghost use Rattle.command_line.specs.Outside.{links, outside, peer, taken, told};
-ghost use Rattle.command_line.specs.Running.{RunsFollow, RunsOpenedOn};
+ghost use Rattle.command_line.specs.Outside.{links, none_served, outside, peer, taken, told};
+ghost use Rattle.command_line.specs.Running.{OpensOnly, RunsFollow, RunsOpenedOn};
 ghost use Rattle.command_line.specs.Serving.{IsServed};
 
 use crate::opening::{OpenedFile, open_file};
@@ -69,8 +69,8 @@ fn follow_next<D: Disk, A: Accept<K>, K: Link>(
     accept: &mut A,
 ) -> Visit<K>
     requires { state.old.header.version ≡ Second }
-    ensures asks { AsksLink state.old.opening state.old.history state.old.sealed state.old.disk state.new.disk (links A.given A.over A.faults accept.old accept.new 0) (peer A.next_link K.rest K.written K.faults accept.old result.link) result.report }
-    ensures taken { IsServed (links A.given A.over A.faults accept.old accept.new (taken 0 result.link)) }
+    ensures asks { AsksLink state.old.opening state.old.history state.old.sealed state.old.disk state.new.disk (links A.given A.over A.faults accept.old accept.new none_served) (peer A.next_link K.rest K.written K.faults accept.old result.link) result.report }
+    ensures taken { IsServed (links A.given A.over A.faults accept.old accept.new (taken none_served result.link)) }
 {
     match accept.next() {
         Ok(Some(link)) => follow_over(alloc, state, link),
@@ -93,8 +93,8 @@ fn follow_by_version<D: Disk, A: Accept<K>, K: Link>(
     state: &mut RepoState<D>,
     accept: &mut A,
 ) -> Visit<K>
-    ensures follows { FollowsOn state.old.header.version state.old.opening state.old.history state.old.sealed state.old.disk state.new.disk (links A.given A.over A.faults accept.old accept.new 0) (peer A.next_link K.rest K.written K.faults accept.old result.link) result.report }
-    ensures taken { IsServed (links A.given A.over A.faults accept.old accept.new (taken 0 result.link)) }
+    ensures follows { FollowsOn state.old.header.version state.old.opening state.old.history state.old.sealed state.old.disk state.new.disk (links A.given A.over A.faults accept.old accept.new none_served) (peer A.next_link K.rest K.written K.faults accept.old result.link) result.report }
+    ensures taken { IsServed (links A.given A.over A.faults accept.old accept.new (taken none_served result.link)) }
 {
     match state.version() {
         Version::First => Visit {
@@ -120,7 +120,7 @@ where
     requires legal { IsLegal opened.machine.header opened.machine.history }
     requires stored { opened.machine.history ≡ stored opened.machine.history }
     ensures runs { RunsOpenedOn D.meaning opened.machine.header opened.machine.history opened.journal (D.meaning opened.disk) (told L.rest L.written L.faults link.old) (told L.rest L.written L.faults link.new) (links A.given A.over A.faults accept result.accept result.served) (peer A.next_link K.rest K.written K.faults accept result.link) (record { status = result.status; disk = result.disk }) }
-    ensures served { result.served ≡ 0 }
+    ensures served { result.served ≡ none_served }
     ensures taken { IsServed (links A.given A.over A.faults accept result.accept (taken result.served result.link)) }
     ensures other { result.other ≡ None }
     ensures load { result.load ≡ None }
@@ -161,7 +161,8 @@ where
     A: Accept<K>,
     K: Link,
     ensures runs { RunsFollow D.meaning file.now (outside O.shelf O.faults L.rest L.written L.faults opener.old link.old) (outside O.shelf O.faults L.rest L.written L.faults opener.new link.new) (links A.given A.over A.faults accept result.accept result.served) (peer A.next_link K.rest K.written K.faults accept result.link) (record { status = result.status; disk = result.disk }) }
-    ensures served { result.served ≡ 0 }
+    ensures only { OpensOnly file.now false (outside O.shelf O.faults L.rest L.written L.faults opener.old link.old) (outside O.shelf O.faults L.rest L.written L.faults opener.new link.new) result.disk }
+    ensures served { result.served ≡ none_served }
     ensures taken { IsServed (links A.given A.over A.faults accept result.accept (taken result.served result.link)) }
     ensures other { result.other ≡ None }
     ensures load { result.load ≡ None }

@@ -4,6 +4,7 @@ ghost use Rattle.ports.specs.Faults.{Counts};
 ghost use Rattle.changeset_model.specs.Version.{Second};
 ghost use Rattle.history_model.specs.Journal.{is_header};
 ghost use Rattle.command_line.specs.Making.{Attempts, AttemptsIn, Unopened};
+ghost use Rattle.command_line.specs.Outside.{taken_from};
 
 use crate::report::Report;
 use crate::status::Outcome;
@@ -16,6 +17,7 @@ pub fn init_file<D: Disk, O: Opener<D>>(opener: &mut O, file: &str, capacity: u6
     requires { IsTrue (is_header (record { capacity = capacity; version = Second })) }
     ensures unopened { result.disk ≡ None → Unopened result.report (O.faults opener.old) (O.faults opener.new) }
     ensures opened { IfSome result.disk (λ disk. AttemptsIn D.meaning file.now capacity (O.shelf opener.old) disk result.report) }
+    ensures left { O.shelf opener.new ≡ taken_from file.now true result.disk (O.shelf opener.old) }
     ensures faults { Counts (O.faults opener.old) (O.faults opener.new) (is_none result.disk) }
 {
     let Ok(mut disk) = opener.open(file, true) else {

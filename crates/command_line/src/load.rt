@@ -1,7 +1,7 @@
 //! A generated load, in a repository in memory.
 ghost use Rattle.std.specs.Prelude.{◌≡◌, ◌≤◌, ◌<◌, ◌^◌, None};
 ghost use Rattle.command_line.specs.Loading.{Closes, Loads, report_of};
-ghost use Rattle.command_line.specs.Outside.{told};
+ghost use Rattle.command_line.specs.Outside.{none_served, told};
 ghost use Rattle.command_line.specs.Running.{ReportsLoad};
 
 use crate::ran::{Ran, loaded};
@@ -94,7 +94,7 @@ where
     ensures loads { ReportsLoad seed stacks clients result.load result.status (told L.rest L.written L.faults link.old) (told L.rest L.written L.faults link.new) }
     ensures disk { result.disk ≡ None }
     ensures other { result.other ≡ None }
-    ensures served { result.served ≡ 0 }
+    ensures served { result.served ≡ none_served }
     ensures link { result.link ≡ None }
     ensures accept { result.accept ≡ accept }
 {

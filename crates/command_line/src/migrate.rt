@@ -1,11 +1,12 @@
 //! Copying a repository to a file of the second version.
-ghost use Rattle.std.specs.Prelude.{◌≡◌, ◌≤◌, None};
+ghost use Rattle.std.specs.Prelude.{◌≡◌, false, true, is_none, None};
+ghost use Rattle.ports.specs.Faults.{Counts as FaultCounts};
 ghost use Rattle.reply_model.specs.Legal.{IsLegal};
 ghost use Rattle.repo_journal.specs.Opened.{IsOpened};
 ghost use Rattle.repo_machine.specs.Counting.{counts_of};
 ghost use Rattle.command_line.specs.Migrating.{CopiesOpened, Migrates, report_of};
-ghost use Rattle.command_line.specs.Outside.{outside};
-ghost use Rattle.command_line.specs.Running.{RunsMigrate};
+ghost use Rattle.command_line.specs.Outside.{none_served, outside, taken_from};
+ghost use Rattle.command_line.specs.Running.{OpensBoth, RunsMigrate};
 
 use crate::opening::{OpenedFile, open_file};
 use crate::program::tell;
@@ -36,14 +37,16 @@ pub fn migrate_file<D: Disk, O: Opener<D>>(
     source: &str,
     target: &str,
 ) -> Migration<D>
-    ensures { Migrates D.meaning source.now target.now (O.shelf opener.old) (O.faults opener.old) (O.faults opener.new) result }
+    ensures migrates { Migrates D.meaning source.now target.now (O.shelf opener.old) (O.faults opener.old) (O.faults opener.new) result }
+    ensures left { O.shelf opener.new ≡ taken_from target.now true result.disk (taken_from source.now false result.other (O.shelf opener.old)) }
+    ensures faults { FaultCounts (O.faults opener.old) (O.faults opener.new) (is_none result.other) }
 {
     match open_file(alloc, keys, opener, source) {
         Ok(opened) => migrate_opened(opened, opener, target),
-        Err(Outcome { report, disk }) => Migration {
-            report,
+        Err(outcome) => Migration {
+            report: outcome.report,
             disk: None,
-            other: disk,
+            other: outcome.disk,
         },
     }
 }
@@ -57,7 +60,8 @@ fn migrate_opened<D: Disk, O: Opener<D>>(
     requires opened { IsOpened opened.machine.header opened.machine.history opened.journal (D.meaning opened.disk) }
     requires legal { IsLegal opened.machine.header opened.machine.history }
     ensures copies { CopiesOpened D.meaning target.now (O.shelf opener.old) opened.machine.header opened.machine.history opened.journal (D.meaning opened.disk) (O.faults opener.old) (O.faults opener.new) result }
-    ensures grows { O.faults opener.old ≤ O.faults opener.new }
+    ensures left { O.shelf opener.new ≡ taken_from target.now true result.disk (O.shelf opener.old) }
+    ensures faults { FaultCounts (O.faults opener.old) (O.faults opener.new) (is_none result.disk) }
 {
     let OpenedFile {
         machine,
@@ -107,8 +111,9 @@ where
     L: Link,
     K: Drop,
     ensures runs { RunsMigrate D.meaning source.now target.now (outside O.shelf O.faults L.rest L.written L.faults opener.old link.old) (outside O.shelf O.faults L.rest L.written L.faults opener.new link.new) (record { status = result.status; disk = result.disk }) result.other }
+    ensures only { OpensBoth source.now target.now (outside O.shelf O.faults L.rest L.written L.faults opener.old link.old) (outside O.shelf O.faults L.rest L.written L.faults opener.new link.new) result.disk result.other }
     ensures load { result.load ≡ None }
-    ensures served { result.served ≡ 0 }
+    ensures served { result.served ≡ none_served }
     ensures link { result.link ≡ None }
     ensures accept { result.accept ≡ accept }
 {

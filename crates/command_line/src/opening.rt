@@ -1,5 +1,5 @@
 //! Opening the repository in a file.
-ghost use Rattle.std.specs.Prelude.{◌≡◌, false, None, IfErr, IfOk, IfSome, OnOk};
+ghost use Rattle.std.specs.Prelude.{◌≡◌, if◌then◌else◌, false, None, IfErr, IfOk, IfSome, OnOk};
 ghost use Rattle.std.specs.Option.{option_map};
 ghost use Rattle.ports.specs.Faults.{Counts};
 ghost use Rattle.ports.specs.Openers.{left};
@@ -36,7 +36,7 @@ pub fn open_file<D: Disk, O: Opener<D>>(
     file: &str,
 ) -> Result<OpenedFile<D>, Outcome<D>>
     ensures opens { IfOk result (λ o. OpensIn D.meaning file.now (O.shelf opener.old) o.machine.header o.machine.history o.journal o.disk) }
-    ensures left { OnOk result (O.shelf opener.new ≡ option_map (left file.now false) (O.shelf opener.old)) }
+    ensures left { O.shelf opener.new ≡ (if is_unopened result then O.shelf opener.old else option_map (left file.now false) (O.shelf opener.old)) }
     ensures unopened { IfErr result (λ came. came.disk ≡ None → Unopened came.report (O.faults opener.old) (O.faults opener.new)) }
     ensures refuses { IfErr result (λ came. IfSome came.disk (λ disk. RefusesIn D.meaning file.now (O.shelf opener.old) disk came.report)) }
     ensures faults { Counts (O.faults opener.old) (O.faults opener.new) (is_unopened result) }

@@ -4,7 +4,7 @@ ghost use Rattle.program_words.specs.Said.{IsInRange, said_of};
 ghost use Rattle.program_words.specs.Words.{command_of};
 ghost use Rattle.program_words.specs.Sessions.{is_session};
 ghost use Rattle.command_line.specs.declared.report.Report.TheVariants.{NoMemory as NoMemoryLine, Usage as UsageLine};
-ghost use Rattle.command_line.specs.Outside.{links, outside, peer, taken, told};
+ghost use Rattle.command_line.specs.Outside.{links, none_served, outside, peer, taken, told};
 ghost use Rattle.command_line.specs.Running.{LacksLine, LacksMemory, Runs, Writes, follows_server, makes_load, opens_other, takes_links};
 ghost use Rattle.command_line.specs.Serving.{IsServed};
 
@@ -75,6 +75,8 @@ fn run_command<R, D, O, L, A, K, G, C>(
 where
     R: Threads + Wait + Sync,
     D: Disk + Send,
+    D::Flush: Send,
+    D::Peer: Send,
     O: Opener<D>,
     L: Link,
     A: Accept<K> + Send,
@@ -84,7 +86,7 @@ where
     requires { IsInRange command }
     ensures runs { Runs D.meaning (C.tells clock.now) (Some (said_of command.entry)) (outside O.shelf O.faults L.rest L.written L.faults opener.old link.old) (outside O.shelf O.faults L.rest L.written L.faults opener.new link.new) (links A.given A.over A.faults accept result.accept result.served) (peer A.next_link K.rest K.written K.faults accept result.link) (record { status = result.status; disk = result.disk }) result.load result.other }
     ensures served { IsServed (links A.given A.over A.faults accept result.accept (taken result.served result.link)) }
-    ensures apart { takes_links (Some (said_of command.entry)) ≡ false → (result.served ≡ 0) × (result.accept ≡ accept) }
+    ensures apart { takes_links (Some (said_of command.entry)) ≡ false → (result.served ≡ none_served) × (result.accept ≡ accept) }
     ensures unloaded { makes_load (Some (said_of command.entry)) ≡ false → result.load ≡ None }
     ensures single { opens_other (Some (said_of command.entry)) ≡ false → result.other ≡ None }
     ensures unlinked { follows_server (Some (said_of command.entry)) ≡ false → result.link ≡ None }
@@ -110,7 +112,7 @@ where
             file,
             u64::from(lanes),
             u64::from(derivers),
-            u64::from(connections),
+            connections,
             link,
             opener,
             accept,
@@ -153,6 +155,8 @@ pub fn run<R, D, O, L, A, K, G, C>(
 where
     R: Threads + Wait + Sync,
     D: Disk + Send,
+    D::Flush: Send,
+    D::Peer: Send,
     O: Opener<D>,
     L: Link,
     A: Accept<K> + Send,
@@ -162,7 +166,7 @@ where
     ensures runs { Runs D.meaning (C.tells clock.now) (command_of (map string_bytes words.now)) (outside O.shelf O.faults L.rest L.written L.faults opener.old link.old) (outside O.shelf O.faults L.rest L.written L.faults opener.new link.new) (links A.given A.over A.faults accept result.accept result.served) (peer A.next_link K.rest K.written K.faults accept result.link) (record { status = result.status; disk = result.disk }) result.load result.other
         ⊎ LacksMemory (command_of (map string_bytes words.now)) (outside O.shelf O.faults L.rest L.written L.faults opener.old link.old) (outside O.shelf O.faults L.rest L.written L.faults opener.new link.new) (links A.given A.over A.faults accept result.accept result.served) (peer A.next_link K.rest K.written K.faults accept result.link) (record { status = result.status; disk = result.disk }) result.load result.other }
     ensures served { IsServed (links A.given A.over A.faults accept result.accept (taken result.served result.link)) }
-    ensures apart { takes_links (command_of (map string_bytes words.now)) ≡ false → (result.served ≡ 0) × (result.accept ≡ accept) }
+    ensures apart { takes_links (command_of (map string_bytes words.now)) ≡ false → (result.served ≡ none_served) × (result.accept ≡ accept) }
     ensures unloaded { makes_load (command_of (map string_bytes words.now)) ≡ false → result.load ≡ None }
     ensures single { opens_other (command_of (map string_bytes words.now)) ≡ false → result.other ≡ None }
     ensures unlinked { follows_server (command_of (map string_bytes words.now)) ≡ false → result.link ≡ None }

@@ -1,5 +1,6 @@
 //! What a run of the program came to.
 ghost use Rattle.std.specs.Prelude.{◌≡◌, None};
+ghost use Rattle.command_line.specs.Outside.{none_served};
 
 use crate::Status;
 use crate::came::Came;
@@ -26,7 +27,7 @@ pub(crate) fn apart<D, A, K: Drop>(came: Came<D>, accept: A) -> Ran<D, A, K>
     ensures disk { result.disk ≡ came.disk }
     ensures other { result.other ≡ None }
     ensures load { result.load ≡ None }
-    ensures served { result.served ≡ 0 }
+    ensures served { result.served ≡ none_served }
     ensures link { result.link ≡ None }
     ensures accept { result.accept ≡ accept }
 {
@@ -39,7 +40,7 @@ pub(crate) fn beside<D, A, K: Drop>(came: Came<D>, other: Option<D>, accept: A) 
     ensures disk { result.disk ≡ came.disk }
     ensures other { result.other ≡ other }
     ensures load { result.load ≡ None }
-    ensures served { result.served ≡ 0 }
+    ensures served { result.served ≡ none_served }
     ensures link { result.link ≡ None }
     ensures accept { result.accept ≡ accept }
 {
@@ -64,7 +65,7 @@ pub(crate) fn loaded<D, A, K: Drop>(
     ensures disk { result.disk ≡ None }
     ensures other { result.other ≡ None }
     ensures load { result.load ≡ load }
-    ensures served { result.served ≡ 0 }
+    ensures served { result.served ≡ none_served }
     ensures link { result.link ≡ None }
     ensures accept { result.accept ≡ accept }
 {

@@ -1,15 +1,17 @@
 //! Many connections, served on the repository in a file.
-ghost use Rattle.std.specs.Prelude.{◌≡◌, ◌≤◌, All, IfNone, IfSome, None};
+ghost use Rattle.std.specs.Prelude.{◌≡◌, ◌≤◌, All, if◌then◌else◌, true, false, is_some, None};
 ghost use mathlib.Core.List.{IsPrefix};
 ghost use Rattle.disk_model.specs.Meaning.{IsSound};
-ghost use Rattle.repo_state.specs.State.{IsAllSealed, IsSound as IsSoundState};
-ghost use Rattle.history_model.specs.History.{Entry, is_down, stored};
+ghost use Rattle.repo_state.specs.State.{IsAllSealed, IsSound as IsSoundState, reach};
+ghost use Rattle.bookmark_lock.specs.Lasting.{AreLast};
+ghost use Rattle.history_model.specs.History.{Entry, entries_by, is_down, stored};
 ghost use Rattle.reply_model.specs.Legal.{IsLegal};
 ghost use Rattle.repo_journal.specs.Opened.{IsOpened};
 ghost use Rattle.repo_machine.specs.Counting.{counts_of};
 ghost use Rattle.repo_machine.specs.Seats.{cleared};
+ghost use Rattle.command_line.specs.declared.report.Report.TheVariants.{NoMemory as NoMemoryLine};
 ghost use Rattle.command_line.specs.Outside.{TakesNone, links, outside, told};
-ghost use Rattle.command_line.specs.Running.{RunsOpened, RunsServe};
+ghost use Rattle.command_line.specs.Running.{OpensOnly, RunsOpened, RunsServe};
 ghost use Rattle.command_line.specs.Serving.{IsServed, TakesLinks, served_report};
 
 use crate::program::tell;
@@ -47,14 +49,17 @@ pub(crate) fn run_serve<R, D, O, L, A, K, G, C>(
 where
     R: Threads + Wait + Sync,
     D: Disk + Send,
+    D::Flush: Send,
+    D::Peer: Send,
     O: Opener<D>,
     L: Link,
     A: Accept<K> + Send,
     K: Link + Send,
     G: Gate + Sync,
     C: Clock + Sync,
-    requires { (1 ≤ lanes) × (lanes ≤ 16) × (derivers ≤ 8) }
+    requires { (1 ≤ lanes) × (lanes ≤ 4096) × (derivers ≤ 8) }
     ensures runs { RunsServe D.meaning file.now lanes connections (outside O.shelf O.faults L.rest L.written L.faults opener.old link.old) (outside O.shelf O.faults L.rest L.written L.faults opener.new link.new) (links A.given A.over A.faults accept result.accept result.served) (record { status = result.status; disk = result.disk }) }
+    ensures only { OpensOnly file.now false (outside O.shelf O.faults L.rest L.written L.faults opener.old link.old) (outside O.shelf O.faults L.rest L.written L.faults opener.new link.new) result.disk }
     ensures served { IsServed (links A.given A.over A.faults accept result.accept result.served) }
     ensures other { result.other ≡ None }
     ensures load { result.load ≡ None }
@@ -77,7 +82,6 @@ where
     }
 }
 
-// Where no state comes back, there was no memory to begin.
 fn serve_opened<R, D, L, A, K, G, C>(
     rt: &R,
     alloc: Global,
@@ -93,6 +97,8 @@ fn serve_opened<R, D, L, A, K, G, C>(
 where
     R: Threads + Wait + Sync,
     D: Disk + Send,
+    D::Flush: Send,
+    D::Peer: Send,
     L: Link,
     A: Accept<K> + Send,
     K: Link + Send,
@@ -101,9 +107,10 @@ where
     requires opened { IsOpened opened.machine.header opened.machine.history opened.journal (D.meaning opened.disk) }
     requires legal { IsLegal opened.machine.header opened.machine.history }
     requires stored { opened.machine.history ≡ stored opened.machine.history }
-    requires lanes { (1 ≤ lanes) × (lanes ≤ 16) }
+    requires lanes { (1 ≤ lanes) × (lanes ≤ 4096) }
     requires derivers { derivers ≤ 8 }
     ensures runs { RunsOpened D.meaning opened.machine.header opened.machine.history opened.journal (D.meaning opened.disk) lanes connections (told L.rest L.written L.faults link.old) (told L.rest L.written L.faults link.new) (links A.given A.over A.faults accept result.accept result.served) (record { status = result.status; disk = result.disk }) }
+    ensures disk { is_some result.disk ≡ true }
     ensures served { IsServed (links A.given A.over A.faults accept result.accept result.served) }
     ensures other { result.other ≡ None }
     ensures load { result.load ≡ None }
@@ -128,36 +135,28 @@ where
     );
     let Left {
         state,
+        began,
         accept,
         served,
         faulted,
     } = left;
-    match state {
-        Some(state) => Ran {
-            status: end_run(served_report(&state, faulted, served.count()), link),
-            disk: Some(closed(state)),
-            other: None,
-            load: None,
-            served,
-            link: None,
-            accept,
-        },
-        None => Ran {
-            status: end_run(Report::NoMemory, link),
-            disk: None,
-            other: None,
-            load: None,
-            served,
-            link: None,
-            accept,
-        },
+    let report = served_report(&state, began, faulted, served.count());
+    Ran {
+        status: end_run(report, link),
+        disk: Some(closed(state)),
+        other: None,
+        load: None,
+        served,
+        link: None,
+        accept,
     }
 }
 
-// What is left of a server, and whether a call of its accept failed.
+// What is left of a server, whether there was memory to begin, and whether a call of its accept failed.
 #[derive(Drop)]
 struct Left<D: Disk, A, K: Drop> {
-    state: Option<RepoState<D>>,
+    state: RepoState<D>,
+    began: bool,
     accept: A,
     served: ServedLinks<K>,
     faulted: bool,
@@ -178,6 +177,8 @@ fn serve_watched<R, D, A, K, G, C, N>(
 where
     R: Threads + Wait + Sync,
     D: Disk + Send,
+    D::Flush: Send,
+    D::Peer: Send,
     A: Accept<K> + Send,
     K: Link + Send,
     G: Gate + Sync,
@@ -185,15 +186,19 @@ where
     N: Since + Send,
     requires sealed { IsAllSealed state.history state.sealed }
     requires since { A.faults accept ≡ N.faults }
-    requires lanes { (1 ≤ lanes) × (lanes ≤ 16) }
+    requires lanes { (1 ≤ lanes) × (lanes ≤ 4096) }
     requires derivers { derivers ≤ 8 }
     ensures served { IsServed (links A.given A.over A.faults accept result.accept result.served) }
-    ensures takes { IfSome result.state (λ _. TakesLinks connections result.faulted (links A.given A.over A.faults accept result.accept result.served)) }
-    ensures memory { IfNone result.state (TakesNone (links A.given A.over A.faults accept result.accept result.served)) }
-    ensures opening { IfSome result.state (λ s. s.opening ≡ state.opening) }
-    ensures begins { IfSome result.state (λ s. IsPrefix (cleared state.history) s.history) }
-    ensures seats { IfSome result.state (λ s. All (λ (e : Entry). e.who ≤ lanes) s.history) }
-    ensures sealed { IfSome result.state (λ s. IsAllSealed s.history s.sealed) }
+    ensures takes { result.began ≡ true → TakesLinks connections result.faulted (links A.given A.over A.faults accept result.accept result.served) }
+    ensures memory { result.began ≡ false → TakesNone (links A.given A.over A.faults accept result.accept result.served) }
+    ensures back { result.began ≡ false → result.state.disk ≡ state.disk }
+    ensures opening { result.began ≡ true → result.state.opening ≡ state.opening }
+    ensures begins { result.began ≡ true → IsPrefix (cleared state.history) result.state.history }
+    ensures seats { result.began ≡ true → All (λ (e : Entry). e.who ≤ lanes) result.state.history }
+    ensures sealed { result.began ≡ true → IsAllSealed result.state.history result.state.sealed }
+    ensures told { result.began ≡ true → result.served.sealed ≤ result.state.sealed }
+    ensures last { result.began ≡ true → AreLast result.state.history result.state.sealed }
+    ensures own { result.began ≡ true → entries_by 0 result.state.history ≡ entries_by 0 (cleared state.history) }
 {
     let watched = Watched::<A, K, N>::new(accept);
     let closing = serve_all(
@@ -209,23 +214,17 @@ where
     );
     let Closing {
         state,
+        began,
         accept,
         served,
     } = closing;
     let (accept, faulted) = accept.into_parts();
-    match state {
-        Some(state) => Left {
-            state: Some(state),
-            accept,
-            served,
-            faulted,
-        },
-        None => Left {
-            state: None,
-            accept,
-            served,
-            faulted,
-        },
+    Left {
+        state,
+        began,
+        accept,
+        served,
+        faulted,
     }
 }
 
@@ -233,16 +232,23 @@ where
 pub(crate) fn closed<D: Disk>(state: RepoState<D>) -> D
     ensures disk { D.meaning result ≡ state.disk }
     ensures whole { IsSound (D.meaning result) }
-    ensures state { IsSoundState state.opening state.history state.sealed state.disk }
+    ensures state { IsSoundState state.opening state.history state.sealed (reach state) state.disk }
 {
     state.into_disk()
 }
 
-// What is reported where connections were served.
-fn served_report<D: Disk>(state: &RepoState<D>, faulted: bool, connections: u64) -> Report
-    ensures { result ≡ served_report (is_down state.now.history) faulted connections (counts_of state.now.history).entries }
+// What is reported of a server, or where there was no memory to begin.
+fn served_report<D: Disk>(
+    state: &RepoState<D>,
+    began: bool,
+    faulted: bool,
+    connections: u64,
+) -> Report
+    ensures { result ≡ (if began then served_report (is_down state.now.history) faulted connections (counts_of state.now.history).entries else NoMemoryLine) }
 {
-    if state.down() {
+    if !began {
+        Report::NoMemory
+    } else if state.down() {
         Report::DiskFault
     } else if faulted {
         Report::StreamFault

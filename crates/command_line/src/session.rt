@@ -1,14 +1,14 @@
 //! One connection, served on the repository in a file.
-ghost use Rattle.std.specs.Prelude.{◌≡◌};
+ghost use Rattle.std.specs.Prelude.{◌≡◌, false};
 ghost use Rattle.history_model.specs.History.{stored};
 ghost use Rattle.reply_model.specs.Legal.{IsLegal};
 ghost use Rattle.repo_journal.specs.Opened.{IsOpened};
 ghost use Rattle.command_line.specs.Outside.{outside, told};
-ghost use Rattle.command_line.specs.Running.{RunsSession};
+ghost use Rattle.command_line.specs.Running.{OpensOnly, RunsSession};
 ghost use Rattle.command_line.specs.Sessions.{Serves, session_status, status_of};
 
 use crate::came::Came;
-use crate::{OpenedFile, Outcome, Status, open_file};
+use crate::{OpenedFile, Status, open_file};
 use blob_disk::Disk;
 use http_front::ended::Ended;
 use http_front::session::serve_session;
@@ -51,13 +51,14 @@ pub(crate) fn run_session<D: Disk, O: Opener<D>, L: Link, C: Clock>(
     opener: &mut O,
     clock: &C,
 ) -> Came<D>
-    ensures { RunsSession D.meaning (C.tells clock.now) file.now (outside O.shelf O.faults L.rest L.written L.faults opener.old link.old) (outside O.shelf O.faults L.rest L.written L.faults opener.new link.new) result }
+    ensures runs { RunsSession D.meaning (C.tells clock.now) file.now (outside O.shelf O.faults L.rest L.written L.faults opener.old link.old) (outside O.shelf O.faults L.rest L.written L.faults opener.new link.new) result }
+    ensures only { OpensOnly file.now false (outside O.shelf O.faults L.rest L.written L.faults opener.old link.old) (outside O.shelf O.faults L.rest L.written L.faults opener.new link.new) result.disk }
 {
     match open_file(alloc, keys, opener, file) {
         Ok(opened) => serve_file(alloc, opened, link, clock),
-        Err(Outcome { report, disk }) => Came {
-            status: report.status(),
-            disk,
+        Err(outcome) => Came {
+            status: outcome.report.status(),
+            disk: outcome.disk,
         },
     }
 }

@@ -52,6 +52,7 @@ impl<A: Accept<K>, K, N: Since> Watched<A, K, N> {
         ensures accept { result.0 ≡ self.accept }
         ensures none { result.1 ≡ false → self.failures ≡ 0 }
         ensures fault { result.1 ≡ true → Rose N.faults (A.faults result.0) }
+        ensures calm { result.1 ≡ false → A.faults result.0 ≡ N.faults }
         ensures grows { N.faults ≤ A.faults result.0 }
     {
         let Watched {

@@ -1,5 +1,5 @@
 //! The log, page by page, whose changesets are told to derivers.
-ghost use Rattle.std.specs.Prelude.{◌≡◌, IfOk, List};
+ghost use Rattle.std.specs.Prelude.{◌≡◌, ◌≤◌, IfOk, List};
 ghost use Rattle.reply_model.specs.Reply.{LogFrom};
 ghost use Rattle.reply_model.specs.After.{Answer, Looks};
 ghost use Rattle.repo_calls.specs.Calls.{line_seen};
@@ -61,6 +61,7 @@ impl Feed {
     /// is refused it goes by those before it, and where there is no memory it sends none.
     pub fn tell_heads<R: Wait, S: Seat>(&mut self, rt: &R, alloc: Global, seat: &mut S)
         ensures stays { self.new ≡ self.old }
+        ensures seals { S.sealed seat.old ≤ S.sealed seat.new }
         ensures home { S.home seat.new ≡ S.home seat.old }
     {
         if self.begins {
@@ -74,7 +75,8 @@ impl Feed {
     /// Reads the log at this seat from where it was left to its end, page by page, and sends its changesets to
     /// the derivers. A page that is refused ends it; it is read the next time.
     pub fn read_pages<R: Wait, S: Seat>(&mut self, rt: &R, alloc: Global, seat: &mut S)
-        ensures pages { (answers : List Answer) × ReadsPages (S.replies (S.home seat.old)) (S.header seat.old) (S.number seat.old) (S.front seat.old) self.old answers (S.front seat.new) self.new }
+        ensures pages { (answers : List Answer) × ReadsPages (S.replies (S.home seat.old) 0) (S.header seat.old) (S.number seat.old) (S.front seat.old) self.old answers (S.front seat.new) self.new }
+        ensures seals { S.sealed seat.old ≤ S.sealed seat.new }
         ensures home { S.home seat.new ≡ S.home seat.old }
     {
         let mut next = self.next;
@@ -91,9 +93,10 @@ impl Feed {
 // The page of the log that begins with the entry of this number, which becomes that of the page after it. `None` where it is
 // refused or has no entry.
 fn read_page<S: Seat>(alloc: Global, seat: &mut S, next: &mut u64) -> Option<LogPage>
-    ensures page { (answer : Answer) × S.replies (S.home seat.old) (S.header seat.old) (S.front seat.old) (S.number seat.old) (Looks (LogFrom next.old)) answer (S.front seat.new) × (next.new ≡ next_after next.old answer) }
+    ensures page { (answer : Answer) × S.replies (S.home seat.old) 0 (S.header seat.old) (S.front seat.old) (S.number seat.old) (Looks (LogFrom next.old)) answer (S.front seat.new) × (next.new ≡ next_after next.old answer) }
     ensures header { S.header seat.new ≡ S.header seat.old }
     ensures number { S.number seat.new ≡ S.number seat.old }
+    ensures seals { S.sealed seat.old ≤ S.sealed seat.new }
     ensures home { S.home seat.new ≡ S.home seat.old }
 {
     match seat.look(alloc, &Question::Log(*next)) {
@@ -111,7 +114,8 @@ fn read_page<S: Seat>(alloc: Global, seat: &mut S, next: &mut u64) -> Option<Log
 
 // The heads that bookmarks have by the log.
 fn read_heads<S: Seat>(alloc: Global, seat: &mut S) -> Result<Heads, AllocError>
-    ensures { S.home seat.new ≡ S.home seat.old }
+    ensures seals { S.sealed seat.old ≤ S.sealed seat.new }
+    ensures home { S.home seat.new ≡ S.home seat.old }
 {
     let mut heads = Heads::new(alloc);
     let mut next = 0;

@@ -6,20 +6,23 @@
 #![tactic(auto)]
 
 mod streams;
+mod threads;
 
 use blob_disk::Disk;
-use command_line::{Status, refuse_words, run};
+use command_line::{Report, Status, end_run, refuse_words, run};
 use file_disk::FileOpener;
 use net_ports::{ReaderSource, SystemClock, TcpAccept, TcpDial, WriterSink};
 use ports::{Accept, Clock, Link, NoGate, Opener, Pair};
 use program_words::{Command, number_fault, read_words};
 use std::alloc::Global;
 use std::hash::RandomState;
+use std::io::Eprint;
 use std::process::ExitCode;
 use std::sync::Wait;
 use std::thread::Threads;
 use std::{env, io};
 use streams::{HeldStreams, hold_streams};
+use threads::started_at_once;
 
 // The words of the command line, the program's name first.
 fn words(rt: &HostRuntime) -> io::Result<Vec<String>> {
@@ -30,23 +33,29 @@ fn words(rt: &HostRuntime) -> io::Result<Vec<String>> {
     Ok(words)
 }
 
-// What connections come from where the words serve at this address.
-fn listener_at<'a>(rt: &'a HostRuntime, address: &str) -> TcpAccept<&'a HostRuntime> {
+// What connections come from where the words serve at this address, or how that is reported where it can't be listened at.
+fn listener_at<'a>(
+    rt: &'a HostRuntime,
+    address: &str,
+) -> Result<TcpAccept<&'a HostRuntime>, Report> {
     match TcpAccept::bind(rt, rt.alloc(), address) {
-        Ok(accept) => accept,
+        Ok(accept) => Ok(accept),
         Err(error) => {
-            // where that can't be said either, the status alone says it
+            // where that can't be said either, the report alone says it
             let _ = eprintln!(rt; "can't listen at {address}: {error}");
-            TcpAccept::absent()
+            Err(Report::StreamFault)
         }
     }
 }
 
 // What connections come from where no server is followed. Words that take none listen nowhere.
-fn accept_for<'a>(rt: &'a HostRuntime, words: &[String]) -> TcpAccept<&'a HostRuntime> {
+fn accept_for<'a>(
+    rt: &'a HostRuntime,
+    words: &[String],
+) -> Result<TcpAccept<&'a HostRuntime>, Report> {
     match read_words(rt.alloc(), words) {
         Ok(Command::Serve { address, .. }) => listener_at(rt, address),
-        _ => TcpAccept::absent(),
+        _ => Ok(TcpAccept::absent()),
     }
 }
 
@@ -58,7 +67,28 @@ fn server_for<'a>(rt: &'a HostRuntime, words: &[String]) -> Option<TcpDial<&'a H
     }
 }
 
-// The status of a run over the connections of this accept.
+// Whether the lanes and the derivers that the words name, if any, can be threads of their own. Where they can't, that is said.
+fn has_threads<R: Threads + Wait + Eprint + Sync>(rt: &R, alloc: Global, words: &[String]) -> bool {
+    let Ok(
+        Command::Serve {
+            lanes,
+            derivers,
+            ..
+        },
+    ) = read_words(alloc, words)
+    else {
+        return true;
+    };
+    let wanted = lanes.saturating_add(derivers);
+    let count = started_at_once(rt, wanted);
+    if count < wanted {
+        let _ = eprintln!(rt; "can't start {wanted} threads at once, but {count}");
+    }
+    count >= wanted
+}
+
+// The status of a run over the connections of this accept, or its report where there is none: the file, whose opening takes
+// long where it is large, is opened once all else is there.
 fn run_over<R, D, O, L, A, K, C>(
     rt: &R,
     alloc: Global,
@@ -66,19 +96,27 @@ fn run_over<R, D, O, L, A, K, C>(
     words: &[String],
     link: &mut L,
     opener: &mut O,
-    accept: A,
+    accept: Result<A, Report>,
     clock: &C,
 ) -> Status
 where
-    R: Threads + Wait + Sync,
+    R: Threads + Wait + Eprint + Sync,
     D: Disk + Send,
+    D::Flush: Send,
+    D::Peer: Send,
     O: Opener<D>,
     L: Link,
     A: Accept<K> + Send,
     K: Link + Send,
     C: Clock + Sync,
 {
-    run(rt, alloc, keys, words, link, opener, accept, &NoGate, clock).status
+    match accept {
+        Ok(accept) if has_threads(rt, alloc, words) => {
+            run(rt, alloc, keys, words, link, opener, accept, &NoGate, clock).status
+        }
+        Ok(_) => end_run(Report::NoMemory, link),
+        Err(report) => end_run(report, link),
+    }
 }
 
 // Keys for the tables by ids. Where the system has none to give, that is said on standard error.
@@ -126,7 +164,7 @@ fn main(rt: HostRuntime) -> ExitCode {
                 let (link, opener) = (&mut link, &mut opener);
                 let status = match server_for(&rt, words) {
                     Some(server) => {
-                        run_over(&rt, alloc, keys, words, link, opener, server, &clock)
+                        run_over(&rt, alloc, keys, words, link, opener, Ok(server), &clock)
                     }
                     None => {
                         let accept = accept_for(&rt, words);

@@ -11,7 +11,7 @@ use repo_state::RepoState;
 use run_gen::begin::begin;
 use run_gen::{LoadFault, client};
 use shared_repo::{Repo, RepoSeat, Served};
-use std::alloc::Global;
+use std::alloc::{AllocError, Global};
 use std::hash::RandomState;
 use std::sync::Wait;
 use std::test::Fail;
@@ -95,7 +95,9 @@ fn left_in<R: Wait, D: Disk>(rt: &R, alloc: Global, state: RepoState<D>) -> Resu
     requires sealed { IsAllSealed state.history state.sealed }
     requires quiet { IsQuiet state.opening }
 {
-    let (repo, mut lead) = Repo::new(alloc, state)?;
+    let Ok((repo, mut lead)) = Repo::new(alloc, state) else {
+        return Err(Fail::from(AllocError));
+    };
     land_in_turn(rt, alloc, &repo, &mut lead, 3)?;
     read_at(rt, alloc, &repo, lead)
 }
@@ -131,6 +133,19 @@ fn land_blocking<S: Seat>(alloc: Global, seat: &mut S) -> Result<(), Fail> {
     land(alloc, seat)
 }
 
+// This seat lands the file `client0`.
+fn block<R: Wait, D: Disk>(
+    rt: &R,
+    alloc: Global,
+    repo: &Repo<D>,
+    seat: RepoSeat,
+) -> Result<(), Fail>
+    requires place { seat.lock ≡ repo.now }
+{
+    let mut other = Served::new(rt, repo, seat, &NoGate);
+    land_blocking(alloc, &mut other)
+}
+
 // What becomes of client 0 in a repository where another seat has landed the file `client0`.
 fn blocked_in<R: Wait, D: Disk>(
     rt: &R,
@@ -140,9 +155,10 @@ fn blocked_in<R: Wait, D: Disk>(
     requires sealed { IsAllSealed state.history state.sealed }
     requires quiet { IsQuiet state.opening }
 {
-    let (repo, mut lead) = Repo::new(alloc, state)?;
-    let mut other = Served::new(rt, &repo, repo.split(&mut lead), &NoGate);
-    land_blocking(alloc, &mut other)?;
+    let Ok((repo, mut lead)) = Repo::new(alloc, state) else {
+        return Err(Fail::from(AllocError));
+    };
+    block(rt, alloc, &repo, repo.split(&mut lead))?;
     Ok(land_in_turn(rt, alloc, &repo, &mut lead, 1))
 }
 

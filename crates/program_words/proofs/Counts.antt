@@ -18,8 +18,8 @@ not_five (a ∷ b ∷ c ∷ d ∷ []) n = refl
 not_five (a ∷ b ∷ c ∷ d ∷ e ∷ []) n = absurd (n refl)
 not_five (a ∷ b ∷ c ∷ d ∷ e ∷ f ∷ more) n = refl
 
-pub is_served : (xs : List (Bor Text)) (z : Bor Text) (lanes derivers connections : ℕ) → length xs ≡ 5 → number_between 1 16 (get_or xs 2 z).now ≡ Some lanes
-    → number_between 0 8 (get_or xs 3 z).now ≡ Some derivers → number_between 1 1000000 (get_or xs 4 z).now ≡ Some connections
+pub is_served : (xs : List (Bor Text)) (z : Bor Text) (lanes derivers connections : ℕ) → length xs ≡ 5 → number_between 1 4096 (get_or xs 2 z).now ≡ Some lanes
+    → number_between 0 8 (get_or xs 3 z).now ≡ Some derivers → number_between 1 1000000000000000 (get_or xs 4 z).now ≡ Some connections
     → serve_of (map (λ w. w.now) xs) ≡ Some (serve (get_or xs 0 z).now (get_or xs 1 z).now lanes derivers connections)
 is_served [] z l d n count lanes derivers connections = absurd (omega arith)
 is_served (a ∷ []) z l d n count lanes derivers connections = absurd (omega arith)

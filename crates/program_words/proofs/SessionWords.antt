@@ -54,9 +54,9 @@ serve_never (a ∷ b ∷ []) = refl
 serve_never (a ∷ b ∷ c ∷ []) = refl
 serve_never (a ∷ b ∷ c ∷ d ∷ []) = refl
 serve_never (a ∷ b ∷ c ∷ d ∷ e ∷ []) =
-    chained (λ l. option_and_then (λ k. option_map (serve a b l k) (number_between 1 1000000 e)) (number_between 0 8 d)) (number_between 1 16 c)
-    (λ l. chained (λ k. option_map (serve a b l k) (number_between 1 1000000 e)) (number_between 0 8 d)
-    (λ k. mapped (serve a b l k) (number_between 1 1000000 e) (λ n. refl)))
+    chained (λ l. option_and_then (λ k. option_map (serve a b l k) (number_between 1 1000000000000000 e)) (number_between 0 8 d)) (number_between 1 4096 c)
+    (λ l. chained (λ k. option_map (serve a b l k) (number_between 1 1000000000000000 e)) (number_between 0 8 d)
+    (λ k. mapped (serve a b l k) (number_between 1 1000000000000000 e) (λ n. refl)))
 serve_never (a ∷ b ∷ c ∷ d ∷ e ∷ f ∷ words) = refl
 
 gen_never : (words : List Text) → is_session (gen_of words) ≡ false

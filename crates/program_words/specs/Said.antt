@@ -20,7 +20,7 @@ abbrev pub IsInRange : Command → Type 0
 IsInRange (command.Init file capacity) = (4096 ≤ capacity) × (capacity ≤ 34359738368)
 IsInRange (command.Session file) = ⊤
 IsInRange (command.Serve file address lanes derivers connections) =
-    (1 ≤ lanes) × (lanes ≤ 16) × (derivers ≤ 8) × (1 ≤ connections) × (connections ≤ 1000000)
+    (1 ≤ lanes) × (lanes ≤ 4096) × (derivers ≤ 8) × (1 ≤ connections) × (connections ≤ 1000000000000000)
 IsInRange (command.Fsck file) = ⊤
 IsInRange (command.Migrate old new) = ⊤
 IsInRange (command.Gen seed stacks clients) =

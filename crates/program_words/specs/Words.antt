@@ -106,7 +106,7 @@ session_of _ = None
 abbrev pub serve_of : List Text → Option Request
 serve_of (file ∷ address ∷ lanes ∷ derivers ∷ connections ∷ []) =
     option_and_then (λ l. option_and_then (λ d. option_map (serve file address l d)
-    (number_between 1 1000000 connections)) (number_between 0 8 derivers)) (number_between 1 16 lanes)
+    (number_between 1 1000000000000000 connections)) (number_between 0 8 derivers)) (number_between 1 4096 lanes)
 serve_of _ = None
 
 abbrev pub fsck_of : List Text → Option Request

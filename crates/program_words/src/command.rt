@@ -17,12 +17,12 @@ pub enum Command<'a> {
     Serve {
         file: &'a str,
         address: &'a str,
-        /// Lanes that serve connections, 1 to 16.
+        /// Lanes that serve connections, 1 to 4,096.
         lanes: u32,
         /// Threads that derive manifests, 0 to 8.
         derivers: u32,
-        /// Connections that are accepted before the program ends, 1 to 1,000,000.
-        connections: u32,
+        /// Connections that are accepted before the program ends, 1 to 1,000,000,000,000,000.
+        connections: u64,
     },
     /// Open a repository and count what it holds.
     Fsck {

@@ -69,7 +69,7 @@ fn serve<'a>(rest: &[&'a str]) -> Option<NumberFault<'a>>
     let [_, _, lanes, derivers, connections] = rest else {
         return None;
     };
-    let lanes = outside("LANES", lanes, 1, 16);
+    let lanes = outside("LANES", lanes, 1, 4_096);
     if lanes.is_some() {
         return lanes;
     }
@@ -77,7 +77,7 @@ fn serve<'a>(rest: &[&'a str]) -> Option<NumberFault<'a>>
     if derivers.is_some() {
         return derivers;
     }
-    outside("CONNECTIONS", connections, 1, 1_000_000)
+    outside("CONNECTIONS", connections, 1, 1_000_000_000_000_000)
 }
 
 fn generate<'a>(rest: &[&'a str]) -> Option<NumberFault<'a>>

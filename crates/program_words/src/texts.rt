@@ -9,7 +9,7 @@ pub const HELP: &str = "hg_cli keeps a repository in one file and serves it over
 
 hg_cli init FILE CAP   makes a repository of at most CAP bytes (4096 to 34359738368) in a new or empty file
 hg_cli session FILE   serves one connection on standard input and output
-hg_cli serve FILE ADDR LANES DERIVERS CONNECTIONS   serves CONNECTIONS connections (1 to 1000000) at ADDR, by LANES lanes (1 to 16) and DERIVERS derivers (0 to 8)
+hg_cli serve FILE ADDR LANES DERIVERS CONNECTIONS   serves CONNECTIONS connections (1 to 1000000000000000) at ADDR, by LANES lanes (1 to 4096) and DERIVERS derivers (0 to 8)
 hg_cli fsck FILE   opens a repository and counts what it holds
 hg_cli migrate OLD NEW   copies the repository in OLD to a new or empty file NEW, in the second version, which policies and joined contents need
 hg_cli gen SEED STACKS CLIENTS   lands STACKS stacks (1 to 400) from each of CLIENTS clients (1 to 8), drawn from SEED (0 to 4294967295), in memory
@@ -21,4 +21,4 @@ A number is decimal digits without a sign or a leading zero. After the word -- n
 ";
 
 /// The line that answers `--version` and `-V`.
-pub const VERSION: &str = "hg_cli 0.1.0\n";
+pub const VERSION: &str = "hg_cli 1.0.0\n";

@@ -39,15 +39,15 @@ fn serve<'a>(rest: &[&'a str]) -> Option<Command<'a>>
     let [file, address, lanes, derivers, connections] = rest else {
         return None;
     };
-    let lanes = number_between(lanes, 1, 16)?;
+    let lanes = number_between(lanes, 1, 4_096)?;
     let derivers = number_between(derivers, 0, 8)?;
-    let connections = number_between(connections, 1, 1_000_000)?;
+    let connections = number_between(connections, 1, 1_000_000_000_000_000)?;
     Some(Command::Serve {
         file,
         address,
         lanes: lanes as u32,
         derivers: derivers as u32,
-        connections: connections as u32,
+        connections,
     })
 }
 

@@ -21,7 +21,7 @@ pub record Did (seed stacks : ℕ) (seated : Seated) (finished : Finished) : Typ
 
 -- the seat that this lead splits off after so many others
 abbrev pub place_at : Place → ℕ → Place
-place_at lead k = record { lock = lead.lock; number = lead.split + k + 1; front = lead.front; sealed = lead.sealed; unsealed = None; split = 0; out = 0; joined = [] }
+place_at lead k = record { lock = lead.lock; number = lead.split + k + 1; front = lead.front; sealed = lead.sealed; since = lead.since; reach = lead.reach; unsealed = None; disk = lead.disk; split = 0; out = 0; joined = [] }
 
 pub record IsClientAt (lead : Place) (k : ℕ) (seated : Seated) : Type 0 where
   pub seat : seated.seat ≡ place_at lead k

@@ -73,6 +73,9 @@ pub(crate) fn run_all<D: Disk + Send, R: Threads + Wait + Sync>(
     seed: u64,
     stacks: u64,
 ) -> Result<Vec<Finished>, AllocError>
+where
+    D::Flush: Send,
+    D::Peer: Send,
     requires ready { All (IsReady repo.now seed) all.items }
     requires stacks { 0 < stacks }
     ensures len { IfOk result (λ v. length v.items ≡ length all.items) }

@@ -42,7 +42,9 @@ fn run<R: Threads + Wait + Sync>(
     ensures sealed { IfOk result (λ left. IsAllSealed left.state.history left.state.sealed) }
 {
     let state = begin(alloc, keys)?;
-    let (repo, mut lead) = Repo::new(alloc, state)?;
+    let Ok((repo, mut lead)) = Repo::new(alloc, state) else {
+        return Err(AllocError);
+    };
     let all = split_all(&repo, alloc, &mut lead, clients)?;
     let finished = run_all(rt, alloc, &repo, all, seed, stacks)?;
     let outcome = outcome_of(finished.as_slice());

@@ -112,7 +112,7 @@ const SERVERS: &[Server] = &[
         ..TWO
     },
     Server {
-        line: "hg_cli serve repository A 16 0 1000000",
+        line: "hg_cli serve repository A 17 0 1000000000000000",
         ..TWO
     },
     Server {
@@ -217,6 +217,8 @@ fn run_over<R, D, O, L, A, K, G>(
 where
     R: Threads + Wait + Sync,
     D: Disk + Send,
+    D::Flush: Send,
+    D::Peer: Send,
     O: Opener<D>,
     L: Link,
     A: Accept<K> + Send,
@@ -352,10 +354,10 @@ fn check_refused<R: Abort + Threads + Wait + Sync>(
 
 const MISUSED: &str = "\
 hg_cli serve repository A 0 0 1
-hg_cli serve repository A 17 0 1
+hg_cli serve repository A 4097 0 1
 hg_cli serve repository A 1 9 1
 hg_cli serve repository A 1 0 0
-hg_cli serve repository A 1 0 1000001
+hg_cli serve repository A 1 0 1000000000000001
 hg_cli serve repository A 1 0";
 
 #[test]

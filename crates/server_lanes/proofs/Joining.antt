@@ -1,5 +1,6 @@
 -- A lead that joins seats one after another.
-use Rattle.std.proofs.Common.{ℕ, ◌+◌, ◌∙◌, arith}
+use Rattle.std.proofs.Common.{ℕ, ◌+◌, ◌∙◌, ap, sym, arith}
+use Rattle.history_model.specs.History.{entries_by}
 use Rattle.byte_fields.proofs.Lists.{prefix_trans}
 use Rattle.bookmark_lock.specs.Place.{Place}
 use Rattle.server_lanes.specs.Lanes.{TakesBack}
@@ -10,5 +11,7 @@ takes_more first lead now n t one = record {
   number = one.number ∙ t.number;
   split = one.split ∙ t.split;
   out = let a = t.out in let b = one.out in omega arith;
+  own = ap (λ (w : ℕ). entries_by w now.front) (sym t.number) ∙ (one.own ∙ (ap (λ (w : ℕ). entries_by w lead.front) t.number ∙ t.own));
   begins = prefix_trans first.front lead.front now.front t.begins one.begins;
+  seals = (let a = t.seals in let b = one.seals in omega arith);
 }

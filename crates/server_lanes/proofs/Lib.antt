@@ -1,3 +1,4 @@
 pub mod Joining
+pub mod Splitting
 pub mod Crossing
 pub mod Idle

@@ -1,10 +1,11 @@
 //! Who works for a server at once: its lanes, and the derivers that they feed.
-ghost use Rattle.std.specs.Prelude.{◌≡◌, ◌+◌, ◌<◌, ◌≤◌, ◌^◌, ℕ, All, IfOk, OnOk, length, vec_len};
+ghost use Rattle.std.specs.Prelude.{◌≡◌, ◌+◌, ◌<◌, ◌≤◌, ◌^◌, ℕ, [], All, IfOk, length, vec_capacity, vec_len};
 ghost use Rattle.bookmark_lock.specs.Place.{Site};
 ghost use Rattle.server_lanes.specs.Lanes.{HasRun, IsAt, IsDone};
 ghost use Rattle.server_lanes.specs.Derivers.{AreNumbered, HasDerived, IsIdle};
 
 use crate::both::for_each_of_both;
+use crate::commons::Commons;
 use crate::derivers::{Deriver, split_derivers};
 use crate::door::Door;
 use crate::lane::{Lane, serve_links};
@@ -12,7 +13,7 @@ use crate::lanes::split_lanes;
 use crate::run::Run;
 use crate::tally::Tally;
 use blob_disk::Disk;
-use derive_pool::{Feed, ids_channel};
+use derive_pool::{Feed, IdsFrom, ids_channel};
 use ports::{Accept, Clock, Gate, Link};
 use routes::Routes;
 use shared_repo::{Repo, RepoSeat};
@@ -36,45 +37,99 @@ pub(crate) struct Crew<'a, R: Wait, D: Disk, G: Gate, L: Link, K: Run, E: Ledger
     pub(crate) derivers: Vec<Deriver<'a, R, D>>,
 }
 
-/// A crew, each of it at a seat of its own: first the lanes', then the derivers'. Where there are no
-/// derivers the lanes have no feeds. All memory is taken here.
+/// What a crew takes memory for: room for its lanes and derivers, and where ids come out.
+#[derive(Drop)]
+pub(crate) struct CrewRoom<'a, R: Wait, D: Disk, G: Gate, L: Link, K: Run, E: Ledger> {
+    pub(crate) lanes: Vec<Lane<'a, R, D, G, L, K, E>>,
+    pub(crate) derivers: Vec<Deriver<'a, R, D>>,
+    pub(crate) ends: Vec<IdsFrom>,
+}
+
+impl<'a, R: Wait, D: Disk, G: Gate, L: Link, K: Run, E: Ledger> CrewRoom<'a, R, D, G, L, K, E> {
+    /// Room for so many, and what tells the derivers of the log, if there are any.
+    pub(crate) fn new(alloc: Global, numbers: Numbers) -> Result<(Self, Option<Feed>), AllocError>
+        ensures empty { IfOk result (λ made. (made.0.lanes.items ≡ []) × (made.0.derivers.items ≡ [])) }
+        ensures lanes { IfOk result (λ made. numbers.lanes ≤ vec_capacity made.0.lanes) }
+        ensures derivers { IfOk result (λ made. numbers.derivers ≤ vec_capacity made.0.derivers) }
+        ensures ends { IfOk result (λ made. vec_len made.0.ends ≡ numbers.derivers) }
+    {
+        let Numbers {
+            lanes,
+            derivers,
+            next,
+        } = numbers;
+        let (feed, ends) = make_channel(alloc, derivers, next)?;
+        let room = CrewRoom {
+            lanes: Vec::with_capacity(alloc, lanes as usize)?,
+            derivers: Vec::with_capacity(alloc, derivers as usize)?,
+            ends,
+        };
+        Ok((room, feed))
+    }
+}
+
+// A feed and an end for each deriver, of one channel. Where there are no derivers there is no feed.
+fn make_channel(
+    alloc: Global,
+    derivers: u64,
+    next: u64,
+) -> Result<(Option<Feed>, Vec<IdsFrom>), AllocError>
+    ensures { IfOk result (λ made. vec_len made.1 ≡ derivers) }
+{
+    if derivers == 0 {
+        return Ok((None, Vec::new(alloc)));
+    }
+    let (to, from) = ids_channel(alloc)?;
+    let ends = make_ends(alloc, &from, derivers)?;
+    Ok((Some(Feed::new(to, next)), ends))
+}
+
+// So many ends where ids come out.
+fn make_ends(alloc: Global, from: &IdsFrom, derivers: u64) -> Result<Vec<IdsFrom>, AllocError>
+    ensures { IfOk result (λ made. vec_len made ≡ derivers) }
+{
+    let mut made = Vec::with_capacity(alloc, derivers as usize)?;
+    for _ in 0..derivers {
+        made.push(from.clone()?)?;
+    }
+    Ok(made)
+}
+
+/// A crew, each of it at a seat of its own: first the lanes', then the derivers'. It takes no memory.
 pub(crate) fn split_crew<'a, R: Wait, D: Disk, G: Gate, L: Link, K: Run, E: Ledger>(
     rt: &'a R,
-    alloc: Global,
+    room: CrewRoom<'a, R, D, G, L, K, E>,
+    commons: &'a Commons,
     repo: &'a Repo<D>,
     gate: &'a G,
     lead: &mut RepoSeat,
     tally: &mut Tally<L, K, E>,
     numbers: Numbers,
-) -> Result<Crew<'a, R, D, G, L, K, E>, AllocError>
+) -> Crew<'a, R, D, G, L, K, E>
     requires place { lead.old.lock ≡ repo.now }
     requires leads { lead.old.number ≡ 0 }
     requires room { lead.old.split + (numbers.lanes + numbers.derivers) ≤ 2 ^ 63 }
-    requires tally { tally.old ≡ record { parts = numbers.lanes; served = 0; told = 0 } }
-    ensures lead { OnOk result (lead.new ≡ record lead.old { split = lead.old.split + (numbers.lanes + numbers.derivers); out = lead.old.out + (numbers.lanes + numbers.derivers) }) }
-    ensures tally { OnOk result (tally.new ≡ record { parts = 0; served = 0; told = 0 }) }
-    ensures count { IfOk result (λ crew. (vec_len crew.lanes ≡ numbers.lanes) × (vec_len crew.derivers ≡ numbers.derivers)) }
-    ensures lanes { IfOk result (λ crew. All (IsAt repo.now) crew.lanes.items) }
-    ensures idle { IfOk result (λ crew. All (IsIdle repo.now) crew.derivers.items) }
-    ensures numbers { IfOk result (λ crew. AreNumbered (lead.old.split + numbers.lanes + 1) crew.derivers.items) }
+    requires tally { tally.old ≡ record { parts = numbers.lanes; served = 0; sealed = 0; told = 0 } }
+    requires empty { (room.lanes.items ≡ []) × (room.derivers.items ≡ []) }
+    requires lanes { numbers.lanes ≤ vec_capacity room.lanes }
+    requires derivers { numbers.derivers ≤ vec_capacity room.derivers }
+    requires ends { vec_len room.ends ≡ numbers.derivers }
+    ensures lead { lead.new ≡ record lead.old { split = lead.old.split + (numbers.lanes + numbers.derivers); out = lead.old.out + (numbers.lanes + numbers.derivers) } }
+    ensures tally { tally.new ≡ record { parts = 0; served = 0; sealed = 0; told = 0 } }
+    ensures count { (vec_len result.lanes ≡ numbers.lanes) × (vec_len result.derivers ≡ numbers.derivers) }
+    ensures lanes { All (IsAt repo.now) result.lanes.items }
+    ensures idle { All (IsIdle repo.now) result.derivers.items }
+    ensures numbers { AreNumbered (lead.old.split + numbers.lanes + 1) result.derivers.items }
 {
-    let Numbers {
+    let CrewRoom {
         lanes,
         derivers,
-        next,
-    } = numbers;
-    if derivers == 0 {
-        return Ok(Crew {
-            lanes: split_lanes(rt, alloc, repo, gate, lead, tally, lanes, None)?,
-            derivers: Vec::new(alloc),
-        });
+        ends,
+    } = room;
+    Crew {
+        lanes: split_lanes(rt, lanes, commons, repo, gate, lead, tally, numbers.lanes),
+        derivers: split_derivers(rt, derivers, ends, repo, lead, numbers.derivers),
     }
-    let (to, from) = ids_channel(alloc)?;
-    let feed = Some(Feed::new(to, next));
-    Ok(Crew {
-        lanes: split_lanes(rt, alloc, repo, gate, lead, tally, lanes, feed)?,
-        derivers: split_derivers(rt, alloc, repo, lead, derivers, from)?,
-    })
 }
 
 /// The lanes serve links of the door until no more will come, and the derivers derive meanwhile, until
@@ -97,6 +152,9 @@ pub(crate) fn run_crew<
     lanes: &mut [Lane<'_, R, D, G, L, K, E>],
     derivers: &mut [Deriver<'_, R, D>],
 )
+where
+    D::Flush: Send,
+    D::Peer: Send,
     requires some { 0 < length lanes.old }
     requires parts { All (λ lane. lane.tally.parts ≡ 1) lanes.old }
     ensures lanes { (site : Site) → All (IsAt site) lanes.old → All (IsDone site) lanes.new }

@@ -1,5 +1,5 @@
 //! All derivers of a server: from the first seat split off to the last one joined.
-ghost use Rattle.std.specs.Prelude.{◌≡◌, ◌+◌, ◌≤◌, ◌^◌, All, IfOk, OnOk, vec_len};
+ghost use Rattle.std.specs.Prelude.{◌≡◌, ◌+◌, ◌≤◌, ◌^◌, [], All, vec_capacity, vec_len};
 ghost use Rattle.bookmark_lock.specs.Place.{Place};
 ghost use Rattle.server_lanes.specs.Lanes.{TakesBack};
 ghost use Rattle.server_lanes.specs.Derivers.{AreNumbered, HasDerived, HasNone, HaveNone, IsIdle};
@@ -8,7 +8,7 @@ use crate::deriving_seat::DerivingSeat;
 use blob_disk::Disk;
 use derive_pool::{IdsFrom, derive_ids};
 use shared_repo::{Repo, RepoSeat};
-use std::alloc::{AllocError, Global};
+use std::alloc::Global;
 use std::marker::Model;
 use std::sync::Wait;
 
@@ -51,29 +51,37 @@ impl<'a, R: Wait, D: Disk> Deriver<'a, R, D> {
     }
 }
 
-/// So many derivers, each at a seat of its own. All memory is taken here.
+/// So many derivers, each at a seat of its own, in the room that was made for them, and each with one of the ends where ids come
+/// out. It takes no memory.
 pub(crate) fn split_derivers<'a, R: Wait, D: Disk>(
     rt: &'a R,
-    alloc: Global,
+    made: Vec<Deriver<'a, R, D>>,
+    ends: Vec<IdsFrom>,
     repo: &'a Repo<D>,
     lead: &mut RepoSeat,
     derivers: u64,
-    ids: IdsFrom,
-) -> Result<Vec<Deriver<'a, R, D>>, AllocError>
+) -> Vec<Deriver<'a, R, D>>
     requires place { lead.old.lock ≡ repo.now }
     requires leads { lead.old.number ≡ 0 }
     requires room { lead.old.split + derivers ≤ 2 ^ 63 }
-    ensures lead { OnOk result (lead.new ≡ record lead.old { split = lead.old.split + derivers; out = lead.old.out + derivers }) }
-    ensures count { IfOk result (λ made. vec_len made ≡ derivers) }
-    ensures idle { IfOk result (λ made. All (IsIdle repo.now) made.items) }
-    ensures numbers { IfOk result (λ made. AreNumbered (lead.old.split + 1) made.items) }
+    requires empty { made.items ≡ [] }
+    requires made { derivers ≤ vec_capacity made }
+    requires ends { vec_len ends ≡ derivers }
+    ensures lead { lead.new ≡ record lead.old { split = lead.old.split + derivers; out = lead.old.out + derivers } }
+    ensures count { vec_len result ≡ derivers }
+    ensures idle { All (IsIdle repo.now) result.items }
+    ensures numbers { AreNumbered (lead.old.split + 1) result.items }
 {
-    let mut made = Vec::with_capacity(alloc, derivers as usize)?;
+    let mut made = made;
+    let mut ends = ends;
     for _ in 0..derivers {
+        let Some(ids) = ends.pop() else {
+            unreachable!()
+        };
         let seat = DerivingSeat::new(rt, repo, repo.split(lead));
-        made.push(Deriver::new(seat, ids.clone()?))?;
+        made.push_reserved(Deriver::new(seat, ids));
     }
-    Ok(made)
+    made
 }
 
 // The lead joins the seat of one deriver.

@@ -114,13 +114,6 @@ impl<A: Accept<L>, L, K: Run, E: Ledger> Door<A, L, K, E> {
         self.links.audit(counted);
     }
 
-    /// The accept, of a run that didn't begin.
-    pub(crate) fn into_accept(self) -> A
-        ensures { result ≡ self.accept }
-    {
-        self.accept
-    }
-
     /// The accept, where the one share has counted all links, and the other that the door is through.
     pub(crate) fn close(self, links: &mut Share<K>, told: &mut Share<E>) -> A
         requires links { links.old.parts ≡ K.parts }

@@ -1,14 +1,15 @@
 //! What one thread serves links with.
-ghost use Rattle.std.specs.Prelude.{◌≡◌, ◌<◌};
+ghost use Rattle.std.specs.Prelude.{◌≡◌, ◌<◌, ◌≤◌};
 ghost use Rattle.std.specs.Bool.{OnFalse};
 ghost use Rattle.bookmark_lock.specs.Place.{home_of};
 ghost use Rattle.server_lanes.specs.Lanes.{HasRun};
 
+use crate::bounded::Bounded;
 use crate::door::Door;
+use crate::feeding::Feeding;
 use crate::run::Run;
 use crate::tally::Tally;
 use blob_disk::Disk;
-use derive_pool::Feed;
 use ports::{Accept, Clock, Gate, Link};
 use routes::Routes;
 use shared_repo::{RepoSeat, Served};
@@ -17,12 +18,12 @@ use std::marker::Model;
 use std::sync::ledger::Ledger;
 use std::sync::{Mutex, Wait};
 
-/// A seat, and how many links were served at it; and where there are derivers, what tells them of the log.
+/// A seat, and how many links were served at it; and what tells derivers of the log.
 #[derive(Drop)]
 pub(crate) struct Lane<'a, R: Wait, D: Disk, G: Gate, L: Link, K: Run, E: Ledger> {
-    seat: Served<'a, R, D, G>,
+    seat: Bounded<'a, R, Served<'a, R, D, G>>,
     tally: Tally<L, K, E>,
-    feed: Option<Feed>,
+    feeding: &'a Feeding,
 }
 
 impl<'a, R: Wait, D: Disk, G: Gate, L: Link, K: Run, E: Ledger> Model
@@ -36,10 +37,18 @@ impl<'a, R: Wait, D: Disk, G: Gate, L: Link, K: Run, E: Ledger> Model
 
 impl<'a, R: Wait, D: Disk, G: Gate, L: Link, K: Run, E: Ledger> Lane<'a, R, D, G, L, K, E> {
     /// A lane at this seat.
-    pub(crate) fn new(seat: Served<'a, R, D, G>, tally: Tally<L, K, E>, feed: Option<Feed>) -> Self
+    pub(crate) fn new(
+        seat: Bounded<'a, R, Served<'a, R, D, G>>,
+        tally: Tally<L, K, E>,
+        feeding: &'a Feeding,
+    ) -> Self
         ensures { result ≡ record { place = seat.entry; tally = tally } }
     {
-        Lane { seat, tally, feed }
+        Lane {
+            seat,
+            tally,
+            feeding,
+        }
     }
 
     // Takes a link of the door and serves it to its end. Says whether there was one.
@@ -55,46 +64,37 @@ impl<'a, R: Wait, D: Disk, G: Gate, L: Link, K: Run, E: Ledger> Lane<'a, R, D, G
         ensures home { home_of self.new.place ≡ home_of self.old.place }
         ensures parts { self.new.tally.parts ≡ self.old.tally.parts }
         ensures told { OnFalse result (0 < self.new.tally.told) }
+        ensures seen { self.old.tally.sealed ≤ self.old.place.sealed → self.new.tally.sealed ≤ self.new.place.sealed }
     {
         self.tally
             .serve_next(rt, alloc, routes, door, &mut self.seat, clock)
     }
 
-    // Tells the derivers, if there are any, the heads of the bookmarks, unless another lane does.
+    // Tells the derivers, if there are any, the heads of the bookmarks, unless another lane did or does.
     fn tell_heads(&mut self, rt: &R, alloc: Global)
         ensures home { home_of self.new.place ≡ home_of self.old.place }
+        ensures seals { self.old.place.sealed ≤ self.new.place.sealed }
         ensures tally { self.new.tally ≡ self.old.tally }
     {
-        let Lane {
-            seat,
-            tally: _,
-            feed,
-        } = self;
-        if let Some(feed) = feed {
-            feed.tell_heads(rt, alloc, seat);
-        }
+        self.feeding.tell_heads(rt, alloc, &mut self.seat);
     }
 
-    // Tells the derivers, if there are any, what the log has since the last time.
+    // Tells the derivers, if there are any, what the log has since the last time, unless another lane does.
     fn feed_derivers(&mut self, rt: &R, alloc: Global)
         ensures home { home_of self.new.place ≡ home_of self.old.place }
+        ensures seals { self.old.place.sealed ≤ self.new.place.sealed }
         ensures tally { self.new.tally ≡ self.old.tally }
     {
-        let Lane {
-            seat,
-            tally: _,
-            feed,
-        } = self;
-        if let Some(feed) = feed {
-            feed.read_pages(rt, alloc, seat);
-        }
+        self.feeding.read_pages(rt, alloc, &mut self.seat);
     }
 
     // Tells them nothing more. They go on until no lane does.
-    fn end_feed(&mut self)
-        ensures { self.new ≡ self.old }
+    fn end_feed(&mut self, rt: &R, alloc: Global)
+        ensures home { home_of self.new.place ≡ home_of self.old.place }
+        ensures seals { self.old.place.sealed ≤ self.new.place.sealed }
+        ensures tally { self.new.tally ≡ self.old.tally }
     {
-        self.feed = None;
+        self.feeding.end_lane(rt, alloc, &mut self.seat);
     }
 
     /// Its seat, and its tally.
@@ -102,7 +102,7 @@ impl<'a, R: Wait, D: Disk, G: Gate, L: Link, K: Run, E: Ledger> Lane<'a, R, D, G
         ensures seat { result.0 ≡ self.entry.place }
         ensures tally { result.1 ≡ self.entry.tally }
     {
-        (self.seat.into_seat(), self.tally)
+        (self.seat.into_seat().into_seat(), self.tally)
     }
 }
 
@@ -133,7 +133,7 @@ pub(crate) fn serve_links<
     for _ in rt.forever() {
         let served = lane.serve_next(rt, alloc, routes, door, clock);
         if !served {
-            lane.end_feed();
+            lane.end_feed(rt, alloc);
             return;
         }
         lane.feed_derivers(rt, alloc);

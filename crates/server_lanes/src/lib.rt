@@ -3,13 +3,17 @@
 #![tactic(auto)]
 
 mod both;
+mod bounded;
 mod closing;
+mod commons;
 mod crew;
 mod derivers;
 mod deriving_seat;
 mod door;
+mod feeding;
 mod lane;
 mod lanes;
+mod permits;
 mod run;
 mod serving;
 mod tally;

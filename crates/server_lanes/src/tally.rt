@@ -1,5 +1,5 @@
 //! How many links were served, with the shares of ledgers that say the same.
-ghost use Rattle.std.specs.Prelude.{◌≡◌, ◌+◌, ◌<◌, ◌≤◌, ◌^◌, is_some, if◌then◌else◌, ◌-◌};
+ghost use Rattle.std.specs.Prelude.{◌≡◌, max, ◌+◌, ◌<◌, ◌≤◌, ◌^◌, is_some, if◌then◌else◌, ◌-◌};
 ghost use Rattle.server_lanes.specs.Serving.{Gave, IsThrough};
 
 use crate::door::Door;
@@ -13,7 +13,7 @@ use std::marker::Model;
 use std::sync::ledger::{Ledger, Share};
 use std::sync::{Mutex, Wait};
 
-/// The links that one lane has served, or several have. The one ledger counts links as they are given,
+/// The links that one lane has served, or several have, with how many stored entries their sessions saw sealed. The one ledger counts links as they are given,
 /// the other how often it was told that no more will come.
 #[derive(Drop)]
 pub(crate) struct Tally<L: Link, K: Run, E: Ledger> {
@@ -28,9 +28,9 @@ impl<L: Link, K: Run, E: Ledger> Model for Tally<L, K, E> {
 
     ghost Value = { TallyView };
 
-    ghost view = { λ t. record { parts = t.links.parts; served = t.served; told = t.told.amount } };
+    ghost view = { λ t. record { parts = t.links.parts; served = t.served.count; sealed = t.served.sealed; told = t.told.amount } };
 
-    ghost invariant = { λ t. (t.served ≡ t.links.amount) × (t.told.parts ≡ t.links.parts) };
+    ghost invariant = { λ t. (t.served.count ≡ t.links.amount) × (t.told.parts ≡ t.links.parts) };
 }
 
 // The next link of the door. The lock is free again when this returns.
@@ -55,7 +55,7 @@ impl<L: Link, K: Run, E: Ledger> Tally<L, K, E> {
     pub(crate) fn new(links: Share<K>, told: Share<E>) -> Self
         requires none { links.amount ≡ 0 }
         requires parts { told.parts ≡ links.parts }
-        ensures { result ≡ record { parts = links.parts; served = 0; told = told.amount } }
+        ensures { result ≡ record { parts = links.parts; served = 0; sealed = 0; told = told.amount } }
     {
         Tally {
             served: ServedLinks::new(),
@@ -68,7 +68,7 @@ impl<L: Link, K: Run, E: Ledger> Tally<L, K, E> {
     pub(crate) fn split_off(&mut self) -> Self
         requires parts { 0 < self.old.parts }
         requires none { (self.old.served ≡ 0) × (self.old.told ≡ 0) }
-        ensures part { result ≡ record { parts = 1; served = 0; told = 0 } }
+        ensures part { result ≡ record { parts = 1; served = 0; sealed = 0; told = 0 } }
         ensures rest { self.new ≡ record self.old { parts = self.old.parts - 1 } }
     {
         Tally::new(self.links.split_off(1, 0), self.told.split_off(1, 0))
@@ -87,7 +87,9 @@ impl<L: Link, K: Run, E: Ledger> Tally<L, K, E> {
         requires { 0 < self.old.parts }
         ensures parts { self.new.parts ≡ self.old.parts }
         ensures served { self.new.served ≡ (if result then self.old.served + 1 else self.old.served) }
+        ensures sealed { self.new.sealed ≡ (if result then max self.old.sealed (T.sealed seat.new) else self.old.sealed) }
         ensures told { self.new.told ≡ (if result then self.old.told else self.old.told + 1) }
+        ensures seals { T.sealed seat.old ≤ T.sealed seat.new }
         ensures home { T.home seat.new ≡ T.home seat.old }
     {
         let Tally {
@@ -104,7 +106,7 @@ impl<L: Link, K: Run, E: Ledger> Tally<L, K, E> {
 
     /// What both have served, as this door gave it.
     pub(crate) fn merge<A: Accept<L>>(self, other: Self, door: &mut Door<A, L, K, E>) -> Self
-        ensures { result ≡ record { parts = self.parts + other.parts; served = self.served + other.served; told = self.told + other.told } }
+        ensures { result ≡ record { parts = self.parts + other.parts; served = self.served + other.served; sealed = max self.sealed other.sealed; told = self.told + other.told } }
     {
         let Tally {
             served,
@@ -125,9 +127,10 @@ impl<L: Link, K: Run, E: Ledger> Tally<L, K, E> {
     pub(crate) fn close<A: Accept<L>>(self, door: Door<A, L, K, E>) -> (A, ServedLinks<L>)
         requires whole { self.parts ≡ K.parts }
         requires told { 0 < self.told }
-        ensures gave { Gave result.1 K.given (A.given result.0) }
-        ensures few { result.1 ≤ K.connections }
-        ensures through { IsThrough result.1 K.connections (A.over result.0) K.faults (A.faults result.0) }
+        ensures gave { Gave result.1.count K.given (A.given result.0) }
+        ensures sealed { result.1.sealed ≡ self.sealed }
+        ensures few { result.1.count ≤ K.connections }
+        ensures through { IsThrough result.1.count K.connections (A.over result.0) K.faults (A.faults result.0) }
         ensures faults { K.faults ≤ A.faults result.0 }
     {
         let Tally {

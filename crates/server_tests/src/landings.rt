@@ -148,7 +148,10 @@ fn left_in<D: Disk, A: Drop, L: Drop>(
     closing: Closing<D, A, L>,
     landed: u64,
 ) -> Result<Left, Fail> {
-    let state = closing.state.ok_or("memory")?;
+    if !closing.began {
+        return Err(Fail::from("memory"));
+    }
+    let state = closing.state;
     let derived = has_derived(alloc, &state)?;
     Ok(Left {
         landed,
@@ -163,7 +166,11 @@ fn left_of<R: Threads + Wait + Sync, D: Disk + Send>(
     alloc: Global,
     alone: Alone<D>,
     derivers: u64,
-) -> Result<Left, Fail> {
+) -> Result<Left, Fail>
+where
+    D::Flush: Send,
+    D::Peer: Send,
+{
     let landed = AtomicU64::new(0);
     let accept = accept_of(alloc, &landed)?;
     let closing = serve(rt, alloc, alone, accept, &NoGate, 2, derivers, 2)?;
@@ -191,7 +198,10 @@ fn head_is_derived_in<D: Disk, A: Drop, L: Drop>(
     alloc: Global,
     closing: Closing<D, A, L>,
 ) -> Result<bool, Fail> {
-    let state = closing.state.ok_or("memory")?;
+    if !closing.began {
+        return Err(Fail::from("memory"));
+    }
+    let state = closing.state;
     is_derived(alloc, &state, ROOT)
 }
 

@@ -208,7 +208,10 @@ fn left_in<D: Disk, A: Accept<L>, L: Drop>(
     closing: Closing<D, A, L>,
     answered: u64,
 ) -> Result<Left, Fail> {
-    let state = closing.state.ok_or("memory")?;
+    if !closing.began {
+        return Err(Fail::from("memory"));
+    }
+    let state = closing.state;
     let mut accept = closing.accept;
     Ok(Left {
         served: closing.served.count(),
@@ -224,7 +227,11 @@ fn left_of<R: Threads + Wait + Sync, D: Disk + Send>(
     alone: Alone<D>,
     row: &Row,
     derivers: u64,
-) -> Result<Left, Fail> {
+) -> Result<Left, Fail>
+where
+    D::Flush: Send,
+    D::Peer: Send,
+{
     let answered = AtomicU64::new(0);
     let accept = accept_of(alloc, row, &answered)?;
     let closing = serve(

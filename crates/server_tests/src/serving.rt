@@ -26,6 +26,8 @@ pub(crate) fn serve<R, D, A, L, G>(
 where
     R: Threads + Wait + Sync,
     D: Disk + Send,
+    D::Flush: Send,
+    D::Peer: Send,
     A: Accept<L> + Send,
     L: Link + Send,
     G: Gate + Sync,

@@ -103,7 +103,11 @@ fn run_words<R: Threads + Wait + Sync, D: Disk + Send, O: Opener<D>, L: Link>(
     words: &[String],
     link: &mut L,
     opener: &mut O,
-) -> (Status, Option<D>) {
+) -> (Status, Option<D>)
+where
+    D::Flush: Send,
+    D::Peer: Send,
+{
     let none = no_links(alloc);
     let clock = FixedClock { moment: 0 };
     let ran = run(rt, alloc, keys, words, link, opener, none, &NoGate, &clock);
@@ -117,7 +121,11 @@ fn run_with<R: Threads + Wait + Sync, D: Disk + Send, O: Opener<D>, L: Link>(
     line: &str,
     link: &mut L,
     opener: &mut O,
-) -> Result<(Status, Option<D>), Fail> {
+) -> Result<(Status, Option<D>), Fail>
+where
+    D::Flush: Send,
+    D::Peer: Send,
+{
     let words = words(alloc, line)?;
     Ok(run_words(rt, alloc, keys()?, words.as_slice(), link, opener))
 }
@@ -129,7 +137,11 @@ pub(crate) fn status_with<R: Threads + Wait + Sync, D: Disk + Send, O: Opener<D>
     line: &str,
     link: &mut L,
     opener: &mut O,
-) -> Result<Status, Fail> {
+) -> Result<Status, Fail>
+where
+    D::Flush: Send,
+    D::Peer: Send,
+{
     let (status, _disk) = run_with(rt, alloc, line, link, opener)?;
     Ok(status)
 }

@@ -33,7 +33,11 @@ fn check<R: Abort + Threads + Wait + Sync, D: Disk + Send, O: Opener<D>>(
     line: &str,
     input: &[u8],
     wanted: (Status, &[u8]),
-) -> Result<(), Fail> {
+) -> Result<(), Fail>
+where
+    D::Flush: Send,
+    D::Peer: Send,
+{
     let mut link = link_of(alloc, input)?;
     let status = status_with(rt, alloc, line, &mut link, opener)?;
     same(rt, (status, link.written()), wanted, line);
@@ -45,7 +49,11 @@ fn check_session<R: Abort + Threads + Wait + Sync, D: Disk + Send, O: Opener<D>>
     alloc: Global,
     opener: &mut O,
     lines: &str,
-) -> Result<(), Fail> {
+) -> Result<(), Fail>
+where
+    D::Flush: Send,
+    D::Peer: Send,
+{
     let script = script_of(alloc, lines)?;
     let (line, input) = ("hg_cli session repository", script.input.as_slice());
     let wanted = (Status::Done, script.wanted.as_slice());
@@ -57,7 +65,11 @@ fn check_story<R: Abort + Threads + Wait + Sync, D: Disk + Send, O: Opener<D>>(
     rt: &R,
     alloc: Global,
     opener: &mut O,
-) -> Result<(), Fail> {
+) -> Result<(), Fail>
+where
+    D::Flush: Send,
+    D::Peer: Send,
+{
     let made = (Status::Done, b"ready 65536\n".as_slice());
     check(rt, alloc, opener, INIT, b"", made)?;
     check_session(rt, alloc, opener, PUT)?;
@@ -85,7 +97,11 @@ fn check_opened<R: Abort + Threads + Wait + Sync, D: Disk + Send, O: Opener<D>>(
     rt: &R,
     alloc: Global,
     opener: &mut O,
-) -> Result<(), Fail> {
+) -> Result<(), Fail>
+where
+    D::Flush: Send,
+    D::Peer: Send,
+{
     let first = opener.open(OPENED, false);
     assert!(rt; first.is_ok());
     assert!(rt; !is_opened(opener, false));

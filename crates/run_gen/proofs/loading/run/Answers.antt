@@ -12,18 +12,18 @@ use Rattle.run_gen.proofs.loading.run.Goals as goal
 
 pub join_all-requires-clause-places : goal.join_all-requires-clause-places
 join_all-requires-clause-places g c =
-    let first = c.in_ok-repo.lead in
-    let lock = ap (λ (p : Place). p.lock) c.in_ok-repo.ensures.lead in
+    let first = c.in-Ok.lead in
+    let lock = ap (λ (p : Place). p.lock) c.in-Ok.ensures.lead in
     subst (λ (site : Site). All (IsOf site) c.in_ok-finished.finished.items) lock
     (places first c.args.clients c.args.seed c.args.stacks c.in_ok-all.all.items c.in_ok-finished.finished.items c.in_ok-all.ensures.clients c.in_ok-all.ensures.len c.in_ok-finished.ensures.len c.in_ok-finished.ensures.did)
 
 pub returns-clause-leaves : goal.returns-clause-leaves
 returns-clause-leaves g c =
-    let first = c.in_ok-repo.lead in
+    let first = c.in-Ok.lead in
     let fin = c.in_ok-finished.finished.items in
     let before = c.split_all.new.lead in
     let now = c.join_all.new.lead in
-    let lead_is = c.in_ok-repo.ensures.lead in
+    let lead_is = c.in-Ok.ensures.lead in
     let split_is = c.in_ok-all.ensures.lead in
     let front = ap (λ (p : Place). p.front) lead_is ∙ ap cleared c.in_ok-state.ensures.led.history in
     let none = ap (λ (p : Place). p.split) lead_is in
@@ -31,7 +31,7 @@ returns-clause-leaves g c =
     let most = c.join_all.ensures.split ∙ ap (λ (p : Place). p.split) split_is ∙ ap (λ n. n + c.args.clients) none ∙ plain in
     let numbers = subst (λ (t : ℕ × List Entry). All (λ (e : Entry). e.who ≤ t.0) t.1) (λ i. (most i, c.close.ensures.history i)) c.close.ensures.recorded in
     let begun = begun_of c.args.clients before now (seats_of fin) now.front c.join_all.ensures (ap (λ (p : Place). p.front) split_is ∙ front) (ap (λ (p : Place). p.number) split_is ∙ ap (λ (p : Place). p.number) lead_is) refl numbers in
-    let quiet = subst IsQuiet (sym (c.close.ensures.opening ∙ c.in_ok-repo.ensures.opening)) c.in_ok-state.ensures.led.quiet in
+    let quiet = subst IsQuiet (sym (c.close.ensures.opening ∙ c.in-Ok.ensures.opening)) c.in_ok-state.ensures.led.quiet in
     let calm = subst HasNoFault c.close.ensures.history (c.close.ensures.front.calm quiet) in
     let outcome = c.outcome_of-outcome.result in
     let ok = subst (λ (fs : List Finished). OnOk outcome (All (λ (f : Finished). f.outcome ≡ Ok tt) fs)) c.as_slice.ensures.value c.outcome_of-outcome.ensures.ok in

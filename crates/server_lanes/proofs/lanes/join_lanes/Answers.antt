@@ -16,4 +16,5 @@ loop-lane-preserved g c =
       lead = subst (λ (n : ℕ). TakesBack c.args.lead.now n c.join_one-tally.new.lead) (sym count) (takes_more c.args.lead.now c.loop-lane.lead c.join_one-tally.new.lead (length c.loop-lane.yielded) invariant.lead c.join_one-tally.ensures.lead);
       parts = omega arith;
       told = omega arith;
+      seen = c.join_one-tally.ensures.seen;
     }

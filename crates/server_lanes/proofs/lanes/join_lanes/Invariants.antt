@@ -10,4 +10,5 @@ invariant-loop-lane g l = record {
   lead : TakesBack l.initial.lead (length l.yielded) l.lead;
   parts : l.tally.parts ≡ l.fn.rest.parts + length l.yielded;
   told : length l.yielded ≤ l.tally.told;
+  seen : l.tally.sealed ≤ l.lead.sealed;
 }
