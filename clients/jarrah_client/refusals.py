@@ -4,7 +4,7 @@ from __future__ import annotations
 
 from collections.abc import Iterator
 from contextlib import contextmanager
-from typing import Any
+from typing import Any, TypedDict
 
 WORDS = {
     "bad-target": "the server can't read the request's target",
@@ -22,9 +22,11 @@ WORDS = {
     "not-a-dir": "the path is a file and no directory",
     "not-a-file": "the path is a directory and no file",
     "method": "the server's route has another method",
-    "bad-caller": "the server refuses the caller's name (1 to 128 of A-Z a-z 0-9 _ . - are allowed)",
+    "bad-caller": "the server refuses the caller's name"
+    " (1 to 128 of A-Z a-z 0-9 _ . - are allowed)",
     "denied": "the server's policy doesn't allow this at {path}",
-    "bad-policy": "the server refuses the policy: its line {line}, counted from 0, breaks the grammar",
+    "bad-policy": "the server refuses the policy: its line {line}, counted from 0,"
+    " breaks the grammar",
     "old-format": "the server's file has version 1, which can't have this:"
     " `hg_cli migrate OLD NEW` makes a file of version 2 of it, once the server is stopped",
     "bad-parts": "the body has {length} bytes, and not 1 to 64 ids of 32 bytes each",
@@ -69,6 +71,30 @@ WORDS = {
 }
 
 
+class RefusalMembers(TypedDict, total=False):
+    """What a refusal's body tells beside its code: of each code other members."""
+
+    id: str
+    path: str
+    left: str
+    right: str
+    long: str
+    short: str
+    place: int
+    line: int
+    length: int
+    size: int
+    count: int
+    distance: int
+    rule: int | None
+    """The rule that decides; None where none speaks of the path."""
+    found: int | str | None
+    """A size, an id, or where a bookmark is; None where there is none."""
+    wanted: int | str
+    draft: str
+    """What the gateway tells besides: the draft that it made and couldn't land."""
+
+
 class Fault(Exception):
     """What went wrong, in one line."""
 
@@ -89,11 +115,15 @@ class WrongWords(Fault):
 class Refused(Fault):
     """The server's refusal: its status, its code and the other members of its body."""
 
-    def __init__(self, status: int, code: str, members: dict[str, Any]):
+    def __init__(self, status: int, code: str, members: RefusalMembers):
         super().__init__(in_words(status, code, members))
         self.status = status
         self.code = code
         self.members = members
+
+    def __reduce__(self) -> tuple[Any, ...]:
+        """How it goes from one process to another."""
+        return type(self), (self.status, self.code, self.members), self.__dict__
 
 
 @contextmanager
@@ -106,7 +136,7 @@ def about(what: str) -> Iterator[None]:
         raise
 
 
-def in_words(status: int, code: str, members: dict[str, Any]) -> str:
+def in_words(status: int, code: str, members: RefusalMembers) -> str:
     """A refusal in words; a code that isn't known is told as it stands."""
     words = WORDS.get(code)
     if words is None:
@@ -117,7 +147,7 @@ def in_words(status: int, code: str, members: dict[str, Any]) -> str:
         return f"{code} (status {status}, without its member {missing})"
 
 
-def told(value: Any) -> str:
+def told(value: object) -> str:
     """A member of a body as a person reads it."""
     if value is None:
         return "no changeset (there is no such bookmark)"

@@ -15,15 +15,15 @@ from dataclasses import dataclass, field
 from enum import Enum
 from pathlib import Path
 
-from ..changesets import File
-from ..output import clean, counted, some_of, title
-from ..paths import own_name, path_key
+from ..formats.changesets import File
+from ..formats.paths import own_name, path_key
+from ..net.server import Server, Trouble
 from ..refusals import Fault
-from ..server import Server, Trouble
-from ..tree_diff import Difference, differences
-from ..trees import tree_of
+from ..terminal.output import clean, counted, some_of, title
+from ..trees.differences import Difference
+from ..trees.tree import tree_of
 from . import disk
-from .moves import Moved, carry_out, keep
+from .moves import Moved, between, carry_out, keep
 from .rebase import restore
 from .scan import changed_files
 from .stack import need_no_drafts, need_settled
@@ -67,8 +67,9 @@ class Search:
 
     def next(self) -> str | None:
         """What is to be tried: the nearest to the middle; none at the end."""
-        untried, middle = self.untried, len(self.left) // 2 - 1
-        return min(untried, key=lambda id: abs(untried[id] - middle), default=None)
+        middle = len(self.left) // 2 - 1
+        tries = ((abs(place - middle), place, id) for id, place in self.untried.items())
+        return min(tries, default=(0, 0, None))[2]
 
     def take(self, id: str, verdict: Verdict) -> None:
         """Takes what came of a try."""
@@ -138,7 +139,7 @@ class Folder:
     def go(self, target: str) -> None:
         """Brings the folder to a changeset."""
         tree = tree_of(self.server, target)
-        coming = [one for one in differences(self.tree, tree) if not own_name(one[0])]
+        coming = [one for one in between(self.copy, self.tree, tree) if not own_name(one[0])]
         self.put_back(coming)
         for path, what in self.in_the_way(coming):
             raise Trouble(f"{what} is new and in the way: {target} has {path}")

@@ -5,8 +5,9 @@ from __future__ import annotations
 from collections.abc import Callable
 from dataclasses import dataclass
 
-from ..changesets import MOST_CONTENT_BYTES, File, Kind, digest
-from ..text_diff import merged
+from ..formats.changesets import MOST_CONTENT_BYTES, File, Kind
+from ..formats.fields import digest
+from ..text.diff import merged
 
 Read = Callable[[File], bytes]
 HERE, THERE = "here", "there"
@@ -56,3 +57,8 @@ def merge_bytes(
         return Merge(ours, conflict="the merge would be too large")
     file = File(digest(data), len(data), kind)
     return Merge(file, data, None if clean else f"changed {HERE} and {THERE}")
+
+
+def moved_twice(at: str, other: str, side: str = THERE) -> str:
+    """Why a path is a conflict whose file has another name on the other side."""
+    return f"it was {at}, which was moved to {other} {side}"

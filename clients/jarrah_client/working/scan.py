@@ -7,17 +7,17 @@ import stat
 from collections.abc import Iterator
 from contextlib import suppress
 from dataclasses import dataclass, field
-from fnmatch import fnmatchcase
 from pathlib import Path
 
-from ..changesets import MOST_SIZE_BYTES, File, Kind
-from ..contents import Source, in_file, in_memory
-from ..paths import OWN_NAMES, is_above, path_fault, path_key
-from ..server import Trouble
+from ..formats.changesets import MOST_SIZE_BYTES, File, Kind
+from ..formats.paths import OWN_NAMES, is_above, path_fault, path_key
+from ..net.contents import Source, in_file, in_memory
+from ..net.server import Trouble
+from .ignoring import Ignoring, Rules
 from .state import NEVER, Kept, Stamp, WorkingCopy
 
-IGNORED = ".jarrahignore"
-"""A file at the top with patterns of new files that aren't looked at, one a line."""
+OUTSIDE = "it is outside of the directories that are in the folder (`jarrah sparse`)"
+"""Why a new file can't be committed: what the base has in its place isn't known."""
 
 
 @dataclass
@@ -45,11 +45,15 @@ def scan(copy: WorkingCopy, under: list[str] | None = None) -> Scan:
     """
     found = Scan()
     seen = set()
+    profile = copy.state.profile
     for path, status in walked(copy):
         if not is_in(path, under):
             continue
         seen.add(path)
-        look_at(copy, path, status, found)
+        if profile and path not in copy.state.files and not profile.has(path):
+            found.faults[path] = OUTSIDE
+        else:
+            look_at(copy, path, status, found)
     for path in copy.state.files:
         if path not in seen and is_in(path, under):
             found.changes[path] = None
@@ -88,24 +92,35 @@ def look_at(copy: WorkingCopy, path: str, status: os.stat_result, found: Scan) -
 
 def walked(copy: WorkingCopy) -> Iterator[tuple[str, os.stat_result]]:
     """All that lies in the folder but directories, with its status; what is ignored is left out."""
-    patterns = ignored(copy.top)
-    waiting = [(copy.top, "")]
+    ignoring = Ignoring(copy.top, copy.state.files)
+    waiting: list[tuple[Path, str, Rules | None, bool]] = [(copy.top, "", None, False)]
     while waiting:
-        folder, above = waiting.pop()
-        try:
-            entries = sorted(os.scandir(folder), key=lambda entry: entry.name)
-        except OSError as fault:
-            raise Trouble(f"{folder}: {fault.strerror}") from None
+        folder, above, rules, is_over = waiting.pop()
+        entries = entries_of(folder)
+        if not is_over:
+            rules = ignoring.rules_in(folder, above, (entry.name for entry in entries), rules)
         for entry in entries:
             path = above + entry.name
             if entry.name.lower() in OWN_NAMES:
                 continue
             if entry.is_dir(follow_symlinks=False):
-                waiting.append((Path(entry.path), f"{path}/"))
-            elif path in copy.state.files or not is_ignored(path, patterns):
+                passes = is_over or ignoring.passes_over(path, True, rules)
+                if not passes or path in ignoring.folders:
+                    waiting.append((Path(entry.path), f"{path}/", rules, passes))
+            elif path in copy.state.files or not (
+                is_over or ignoring.passes_over(path, False, rules)
+            ):
                 status = status_of(entry)
                 if status:
                     yield path, status
+
+
+def entries_of(folder: Path) -> list[os.DirEntry[str]]:
+    """What lies in a folder, by names."""
+    try:
+        return sorted(os.scandir(folder), key=lambda entry: entry.name)
+    except OSError as fault:
+        raise Trouble(f"{folder}: {fault.strerror}") from None
 
 
 def status_of(entry: os.DirEntry[str]) -> os.stat_result | None:
@@ -113,24 +128,6 @@ def status_of(entry: os.DirEntry[str]) -> os.stat_result | None:
     with suppress(FileNotFoundError):
         return entry.stat(follow_symlinks=False)
     return None
-
-
-def ignored(top: Path) -> list[str]:
-    """The patterns of what is ignored."""
-    try:
-        lines = (top / IGNORED).read_text(encoding="utf-8").splitlines()
-    except (OSError, UnicodeDecodeError):
-        return []
-    return [line.strip() for line in lines if line.strip() and not line.startswith("#")]
-
-
-def is_ignored(path: str, patterns: list[str]) -> bool:
-    """Whether a pattern fits a path, a folder above it, or one of its names."""
-    elements = path.split("/")
-    fronts = ["/".join(elements[:count]) for count in range(1, len(elements) + 1)]
-    return any(
-        fnmatchcase(one, pattern.rstrip("/")) for pattern in patterns for one in fronts + elements
-    )
 
 
 def is_in(path: str, under: list[str] | None) -> bool:

@@ -5,15 +5,17 @@ from __future__ import annotations
 from collections.abc import Iterable
 from dataclasses import dataclass, field
 
-from .. import drafts
-from ..changesets import Changeset, File
-from ..contents import Source, store_all
-from ..output import counted
-from ..paths import path_key
+from ..drafting import landing
+from ..formats.changesets import Changeset, CopySource, File
+from ..formats.paths import path_key
+from ..history.reads import file_at
+from ..net.contents import Source, store_all
+from ..net.server import Landed, Server, Trouble
 from ..refusals import Refused
-from ..server import Landed, Server, Trouble
-from ..trees import Tree, tree_of
+from ..terminal.output import counted, title
+from ..trees.tree import tree_of
 from .moves import Moved, move
+from .renamed import copies_of
 from .scan import Scan, is_in, look_into, scan, stamp_of
 from .state import Kept, WorkingCopy
 
@@ -34,11 +36,14 @@ class Taken:
 
     changes: dict[str, File | None] = field(default_factory=dict)
     contents: dict[str, Source] = field(default_factory=dict)
+    copies: dict[str, CopySource] = field(default_factory=dict)
 
 
-def need_settled(copy: WorkingCopy, under: list[str] | None = None) -> None:
-    """Refuses a rebase that isn't over, and conflicts."""
-    if copy.state.rebase:
+def need_settled(
+    copy: WorkingCopy, under: list[str] | None = None, *, edits: bool = False
+) -> None:
+    """Refuses a rebase that isn't over, unless it stopped for `edits`, and conflicts."""
+    if copy.state.rebase and not (edits and not copy.state.rebase.is_conflict):
         raise Trouble("a rebase isn't over: `jarrah rebase --continue`, or `--abort`")
     need_no_conflict(copy, under)
 
@@ -57,15 +62,18 @@ def need_no_conflict(copy: WorkingCopy, under: list[str] | None = None) -> None:
         raise Trouble(f"{left[0]} is a conflict: settle it, and say `jarrah resolve {left[0]}`")
 
 
-def take(copy: WorkingCopy, under: list[str] | None) -> Taken:
-    """The changes of the folder, or at and under some paths, each of which has to have one."""
+def take(copy: WorkingCopy, server: Server, under: list[str] | None) -> Taken:
+    """The changes of the folder, or at and under some paths, each of which has to have one, and
+    what new files among them were moved or copied from."""
     found = scan(copy, under)
     for path, why in found.faults.items():
         raise Trouble(f"{path} can't be committed: {why}")
     for top in under or []:
         if not any(is_in(path, [top]) for path in found.changes):
             raise Trouble(f"{top or 'the folder'} isn't changed")
-    return taken(copy, found)
+    result = taken(copy, found)
+    result.copies = copies_of(copy, server, found)
+    return result
 
 
 def taken(copy: WorkingCopy, found: Scan) -> Taken:
@@ -86,25 +94,54 @@ def upload(server: Server, changeset: Changeset, contents: dict[str, Source]) ->
     server.put_changeset(changeset)
 
 
-def made(parent: str | None, words: Words, changes: dict[str, File | None]) -> Changeset:
+def made(
+    parent: str | None,
+    words: Words,
+    changes: dict[str, File | None],
+    copies: dict[str, CopySource] = {},
+) -> Changeset:
     """A changeset with its changes by rising paths."""
     ordered = {path: changes[path] for path in sorted(changes, key=path_key)}
     parents = (parent,) if parent else ()
-    return Changeset(parents, words.author, words.seconds, words.offset, words.message, ordered)
+    who = (words.author, words.seconds, words.offset, words.message)
+    return Changeset(parents, *who, ordered, dict(copies))
 
 
-def commit(copy: WorkingCopy, server: Server, words: Words, under: list[str] | None) -> Changeset:
-    """Makes a draft of what is changed, onto the base."""
-    need_settled(copy, under)
-    found = take(copy, under)
+def prepare(copy: WorkingCopy, server: Server, under: list[str] | None) -> Taken:
+    """What a commit would have; trouble where there is nothing."""
+    need_settled(copy, under, edits=True)
+    found = take(copy, server, under)
     if not found.changes:
         raise Trouble("nothing is changed")
-    changeset = made(copy.state.base, words, found.changes)
+    return found
+
+
+def clashing(copy: WorkingCopy, server: Server, changes: Iterable[str]) -> list[str]:
+    """The paths that are changed here, or by a draft, and on the bookmark since."""
+    name, root = copy.state.bookmark, copy.state.root
+    head = server.head(name) if name else None
+    if head is None or head == root:
+        return []
+    paths = set(changes).union(*(server.changeset(id).changes for id in copy.state.drafts))
+    before, there = tree_of(server, root), tree_of(server, head)
+    ordered = sorted(paths, key=path_key)
+    return [path for path in ordered if file_at(before, path) != file_at(there, path)]
+
+
+def commit(copy: WorkingCopy, server: Server, words: Words, found: Taken) -> Changeset:
+    """Makes a draft of what is changed, onto the base."""
+    changeset = made(copy.state.base, words, found.changes, found.copies)
     upload(server, changeset, found.contents)
     copy.state.drafts.append(changeset.id)
+    know(copy, changeset)
     keep_all(copy, found.changes)
     copy.save()
     return changeset
+
+
+def know(copy: WorkingCopy, changeset: Changeset) -> None:
+    """Keeps a draft's title, so that it can be told without the server."""
+    copy.state.titles[changeset.id] = title(changeset.message)
 
 
 def keep_all(copy: WorkingCopy, changes: dict[str, File | None]) -> None:
@@ -114,16 +151,20 @@ def keep_all(copy: WorkingCopy, changes: dict[str, File | None]) -> None:
             copy.state.files.pop(path, None)
         else:
             copy.state.files[path] = Kept(file, stamp_of(copy.top, path))
+        copy.state.copied.pop(path, None)
 
 
-def land(copy: WorkingCopy, server: Server) -> tuple[Landed, Moved]:
+def land(
+    copy: WorkingCopy, server: Server, allows_empty: bool = False
+) -> tuple[Landed, Moved]:
     """Lands the drafts on the bookmark, and brings the folder to the new head."""
     need_settled(copy)
     draft, name = copy.state.base, need_bookmark(copy)
     if not copy.state.drafts:
         raise Trouble(f"there are no drafts to land on {name}")
     try:
-        landed = drafts.land(server, name, draft)
+        on = copy.state.root
+        landed = landing.land(server, name, draft, allows_empty=allows_empty, on=on)
     except Refused as refusal:
         if refusal.code == "already-in":
             copy.state.root, copy.state.drafts = draft, []
@@ -145,42 +186,47 @@ def need_bookmark(copy: WorkingCopy) -> str:
     return copy.state.bookmark
 
 
+def need_draft(copy: WorkingCopy) -> None:
+    """Refuses a base that is no draft."""
+    if not copy.state.drafts:
+        raise Trouble("the base has landed, and only a draft can be amended")
+
+
 def amend(
     copy: WorkingCopy, server: Server, words: dict[str, object], under: list[str] | None
 ) -> Changeset:
     """Puts what is changed into the last draft, and the new words over its own."""
-    need_settled(copy, under)
-    if not copy.state.drafts:
-        raise Trouble("the base has landed, and only a draft can be amended")
-    found = take(copy, under)
+    need_settled(copy, under, edits=True)
+    need_draft(copy)
+    found = take(copy, server, under)
     old = server.changeset(copy.state.base)
-    changes = old.changes | found.changes
-    before = tree_of(server, old.parent) if old.parent else None
-    plain = {path for path in found.changes if file_in(before, path) == found.changes[path]}
-    kept = {path: changes[path] for path in sorted(changes.keys() - plain, key=path_key)}
-    new = old.changing(kept, **words)
+    new = amended(server, old, found.changes, found.copies, **words)
     if new == old:
         raise Trouble("nothing is changed")
     upload(server, new, found.contents)
     copy.state.drafts[-1] = new.id
+    know(copy, new)
     keep_all(copy, found.changes)
     copy.save()
     return new
 
 
-def file_in(tree: Tree | None, path: str) -> File | None:
-    """The file at a path of a tree, or None."""
-    return files_at(tree, [path])[path] if tree else None
-
-
-def files_at(tree: Tree, paths: Iterable[str]) -> dict[str, File | None]:
-    """The files at some paths of a tree, None where none is."""
-    found: dict[str, File | None] = {}
-    for path in paths:
-        try:
-            found[path] = tree.file(path)
-        except Refused as refusal:
-            if refusal.code not in ("no-path", "not-a-file"):
-                raise
-            found[path] = None
-    return found
+def amended(
+    server: Server,
+    old: Changeset,
+    changes: dict[str, File | None],
+    copies: dict[str, CopySource],
+    **words: object,
+) -> Changeset:
+    """A changeset with further changes, made on it; what its parent has so already is left out."""
+    before = tree_of(server, old.parent) if old.parent else None
+    whole = old.changes | changes
+    was = {path: file_at(before, path) if before else None for path in changes}
+    plain = {path for path in changes if was[path] == changes[path]}
+    kept = {path: whole[path] for path in sorted(whole.keys() - plain, key=path_key)}
+    sources = dict(old.copies)
+    for path, source in copies.items():
+        earlier = old.copies.get(source.path)
+        if earlier or (before and file_at(before, source.path)):
+            sources[path] = earlier or source
+    return old.changing(kept, sources, **words)

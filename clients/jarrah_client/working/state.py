@@ -10,13 +10,15 @@ from dataclasses import dataclass, field
 from pathlib import Path
 from typing import Any
 
-from ..changesets import File, Kind
-from ..log_cache import lock
-from ..paths import is_id
-from ..server import Trouble
+from ..formats.changesets import File, Kind
+from ..formats.paths import is_id
+from ..history.log_cache import lock
+from ..net.server import Trouble
+from .sparse import Profile
 
 FOLDER = ".jarrah"
-VERSION = 1
+EARLIER, VERSION = 1, 2
+"""The versions that are read: the first lacks what the second has besides."""
 KINDS = {kind.word: kind for kind in Kind}
 GRAIN = 20_000_000
 """Nanoseconds within which a file system may give two writes the same time."""
@@ -47,14 +49,26 @@ class Kept:
     stamp: Stamp
 
 
+PICK, REWORD, FOLD, EDIT = "pick", "reword", "fold", "edit"
+"""What is done with a draft that is put onto another changeset: it stays one of its own, gets
+another message, goes into the one below it, or is one that is stopped at."""
+
+
 @dataclass
 class Rebase:
-    """A rebase that stopped at a conflict: its draft, those after it, and where it began."""
+    """A rebase that stopped: its draft, those after it, and where it began."""
 
     draft: str
     left: list[str]
+    """What comes after: a word and an id each, or an id alone, which is picked."""
     root: str
     drafts: list[str]
+    word: str = PICK
+    """What was to be done with the draft."""
+    is_conflict: bool = True
+    """Whether it stopped at a conflict, and not to have the draft edited."""
+    messages: dict[str, str] = field(default_factory=dict)
+    """What drafts get in place of their messages."""
 
 
 @dataclass
@@ -70,13 +84,26 @@ class State:
     drafts: list[str] = field(default_factory=list)
     conflicts: list[str] = field(default_factory=list)
     rebase: Rebase | None = None
+    titles: dict[str, str] = field(default_factory=dict)
+    """The first lines of drafts' messages."""
+    ours: dict[str, list[Any] | None] = field(default_factory=dict)
+    """What conflicts had here before: a file's kind, size and content, or None for nothing."""
+    copied: dict[str, str] = field(default_factory=dict)
+    """New files that a person moved or copied, each with the path that it was at."""
     files: dict[str, Kept] = field(default_factory=dict)
+    sparse: list[str] | None = None
+    """The directories of the tree that are in the folder; None where all are."""
     saved: int = 0
     """When it was written: a file with a stamp as late may have been changed unseen."""
 
     @property
     def base(self) -> str:
         return self.drafts[-1] if self.drafts else self.root
+
+    @property
+    def profile(self) -> Profile | None:
+        """What is in the folder of the tree; None for all of it."""
+        return None if self.sparse is None else Profile.of(self.sparse)
 
     def is_as_kept(self, path: str, stamp: Stamp) -> bool:
         """Whether a file's stamp shows that it is as it was kept."""
@@ -134,7 +161,14 @@ def header(state: State) -> dict[str, Any]:
     """The first line of a state."""
     document = {"version": VERSION, "server": state.server, "bookmark": state.bookmark}
     document |= {"root": state.root, "drafts": state.drafts, "conflicts": state.conflicts}
-    return document | {"rebase": vars(state.rebase) if state.rebase else None}
+    document |= {"titles": state.titles, "ours": state.ours, "copied": state.copied}
+    document |= {} if state.sparse is None else {"sparse": state.sparse}
+    return document | {"rebase": rebase_document(state.rebase) if state.rebase else None}
+
+
+def rebase_document(rebase: Rebase) -> dict[str, Any]:
+    """A rebase as it is kept; earlier versions of the client know of no messages."""
+    return {name: value for name, value in vars(rebase).items() if name != "messages" or value}
 
 
 def spelled(path: str, kept: Kept) -> str:
@@ -149,7 +183,7 @@ def load(place: Path) -> State:
     try:
         with place.open(encoding="utf-8", newline="\n") as file:
             document = json.loads(file.readline())
-            if document.pop("version") != VERSION:
+            if document.pop("version") not in (EARLIER, VERSION):
                 raise Trouble(f"{place} was written by another version of jarrah")
             if document["rebase"]:
                 document["rebase"] = Rebase(**document["rebase"])

@@ -1,0 +1,1 @@
+"""Making changesets, landing them, and backing them out."""

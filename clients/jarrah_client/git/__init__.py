@@ -1,0 +1,1 @@
+"""Histories in from git, and out to it."""

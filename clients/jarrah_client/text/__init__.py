@@ -1,0 +1,1 @@
+"""Lines of files: differences and merges, likeness, and who brought each."""
