@@ -1,0 +1,1 @@
+"""A remote of git's smart HTTP protocol, whose pushes are landed by the server."""
