@@ -2,24 +2,35 @@
 
 from __future__ import annotations
 
-from argparse import Namespace
 from collections.abc import Iterator
+from dataclasses import dataclass
 from pathlib import Path
 from typing import Any
 
-from ..annotate import Line, annotated, versions_of
-from ..names import resolve
-from ..output import Output, clean, date, day, person
+from ..net.server import Server
 from ..refusals import WrongWords, about
-from ..server import Server
-from .options import REVISION, Add, add_fold
+from ..terminal.colours import GREEN, YELLOW, Painted
+from ..terminal.output import Output, clean, date, day, person
+from ..text.annotate import Line, annotated, versions_of
+from .given import Command, FoldOptions
+from .options import REVISION, Add, add_fold, id_of
 
 ID_DIGITS = 12
 
 
+@dataclass(frozen=True)
+class AnnotateOptions(FoldOptions):
+    """What `annotate` is told."""
+
+    revision: str | None
+    path: str
+    follows: bool
+
+
 def add(add: Add) -> None:
     """Adds the subcommand."""
-    one = add("annotate", annotate, "tell which changeset brought each line of a file")
+    how = Command(AnnotateOptions, annotate, pages=True)
+    one = add("annotate", how, "tell which changeset brought each line of a file")
     one.add_argument(
         "revision",
         nargs="?",
@@ -36,7 +47,7 @@ def add(add: Add) -> None:
     add_fold(one)
 
 
-def annotate(options: Namespace, server: Server, out: Output) -> None:
+def annotate(options: AnnotateOptions, server: Server, out: Output) -> None:
     """Tells the lines of a file, each with the changeset that brought it."""
     id, path = place_of(options, server)
     with about(path):
@@ -46,10 +57,10 @@ def annotate(options: Namespace, server: Server, out: Output) -> None:
         out.tell(document, line)
 
 
-def place_of(options: Namespace, server: Server) -> tuple[str, str]:
+def place_of(options: AnnotateOptions, server: Server) -> tuple[str, str]:
     """The changeset and the path that are meant."""
     if options.revision is not None:
-        return resolve(server, options.revision), options.path.strip("/")
+        return id_of(options, server, options.revision), options.path.strip("/")
     if options.copy is None:
         raise WrongWords("name a changeset before the path, or work in a working copy")
     return options.copy.state.base, options.copy.path_of(Path(options.path))
@@ -63,13 +74,14 @@ def documents(lines: list[Line]) -> Iterator[dict[str, Any]]:
         yield document | {"line": number, "text": line.text}
 
 
-def columns(lines: list[Line]) -> Iterator[str]:
+def columns(lines: list[Line]) -> Iterator[Painted]:
     """The same for people."""
     names = [clean(person(line.changeset.author)) for line in lines]
     width = max(map(len, names), default=0)
     digits = len(str(len(lines)))
     for number, (name, line) in enumerate(zip(names, lines), 1):
         by = line.changeset
-        head = f"{by.id[:ID_DIGITS]}  {name:<{width}}  {day(by.seconds, by.offset):<10}"
+        id, at = by.id[:ID_DIGITS], f"{day(by.seconds, by.offset):<10}"
+        place = (GREEN, f"{number:>{digits}}")
         text = f"  {line.text}" if line.text else ""
-        yield f"{head}  {number:>{digits}}{text}"
+        yield Painted(((YELLOW, id), ("", f"  {name:<{width}}  {at}  "), place, ("", text)))

@@ -2,28 +2,40 @@
 
 from __future__ import annotations
 
-from argparse import Namespace
-from dataclasses import replace
+from dataclasses import dataclass
 from functools import partial
 
-from ..backout import Wanted, back_out, message_of
-from ..changesets import Changeset
-from ..drafts import land, need_name
-from ..log_cache import CachedLog
-from ..names import resolve
-from ..output import Output, changeset_document
+from ..drafting.backout import Wanted, back_out, message_of
+from ..drafting.drafts import need_name
+from ..drafting.landing import land, need_message
+from ..drafting.said import SaidWords
+from ..formats.changesets import Changeset
+from ..history.log_cache import CachedLog
+from ..history.repository import by_front
+from ..net.server import Server
 from ..refusals import WrongWords
-from ..repository import by_front
-from ..server import Server
+from ..terminal.output import Output, changeset_document
 from ..working.stack import Words, need_bookmark
-from .copies import words_of
-from .options import REVISION, Add, add_words
+from .committing import words_of
+from .given import Command, CopyOptions
+from .options import REVISION, Add, add_words, id_of
 from .writing import tell_landed
+
+
+@dataclass(frozen=True)
+class BackoutOptions(SaidWords, CopyOptions):
+    """What `backout` is told."""
+
+    revision: str
+    bookmark: str | None
+    parent: int | None
+    draft: bool
 
 
 def add(add: Add) -> None:
     """Adds the subcommand."""
-    one = add("backout", backout, "make a changeset that undoes what another did, and land it")
+    how = Command(BackoutOptions, backout)
+    one = add("backout", how, "make a changeset that undoes what another did, and land it")
     one.add_argument("revision", metavar="id", help=REVISION)
     one.add_argument("bookmark", nargs="?", help="which it is on; default: the working copy's")
     one.add_argument(
@@ -33,28 +45,29 @@ def add(add: Add) -> None:
         help="of a merge: the parent whose files come back, 0 for the first",
     )
     one.add_argument("--draft", action="store_true", help="make a draft, and don't land it")
-    add_words(one, None)
+    add_words(one)
 
 
-def backout(options: Namespace, server: Server, out: Output) -> None:
+def backout(options: BackoutOptions, server: Server, out: Output) -> None:
     """Makes a changeset that undoes what another did, and lands it."""
     name = bookmark_of(options)
     log = CachedLog(server)
-    target = server.changeset(resolve(server, options.revision, partial(by_front, log)))
+    target = server.changeset(id_of(options, server, options.revision, partial(by_front, log)))
     wanted = Wanted(target, options.parent, name)
-    made = back_out(server, log, wanted, backout_words(options, target))
+    made = back_out(server, log, wanted, backout_words(options, server, target))
     id = made.changeset.id
     merged = [f"merged {path}" for path in made.merged]
     if options.draft:
         out.tell(changeset_document(made.changeset) | made.told, [*merged, f"made the draft {id}"])
         return
-    landed = land(server, name, id)
+    allows, on = options.allows_empty, made.changeset.parent
+    landed = land(server, name, id, allows_empty=allows, on=on, made=made.changeset)
     follows = options.copy and options.copy.state.bookmark == name
     hint = ["`jarrah update` brings it into the working copy"] if follows else []
     tell_landed(landed, name, out, made.told, [*merged, *hint])
 
 
-def bookmark_of(options: Namespace) -> str:
+def bookmark_of(options: BackoutOptions) -> str:
     """The bookmark that is named, or that of the working copy."""
     if options.bookmark is not None:
         need_name(options.bookmark)
@@ -64,7 +77,9 @@ def bookmark_of(options: Namespace) -> str:
     return need_bookmark(options.copy)
 
 
-def backout_words(options: Namespace, target: Changeset) -> Words:
+def backout_words(options: BackoutOptions, server: Server, target: Changeset) -> Words:
     """Who backs out, when and why."""
-    words = words_of(options)
-    return replace(words, message=message_of(target)) if options.message is None else words
+    message = options.message
+    if message is None:
+        message = message_of(target)
+    return words_of(options, server, need_message(message, options.allows_empty or options.draft))

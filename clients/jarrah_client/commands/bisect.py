@@ -2,16 +2,17 @@
 
 from __future__ import annotations
 
-from argparse import ArgumentTypeError, Namespace
+from argparse import ArgumentTypeError
 from collections.abc import Iterator
+from dataclasses import dataclass
 from functools import partial
 from typing import Any
 
-from ..log_cache import CachedLog
-from ..names import resolve
-from ..output import Output, changeset_lines, counted, short_lines
-from ..repository import Log, by_front, line_between, need_head
-from ..server import Server, Trouble
+from ..history.log_cache import CachedLog
+from ..history.repository import Log, by_front, line_between, need_head
+from ..net.server import Server, Trouble
+from ..terminal.colours import Line
+from ..terminal.output import Output, changeset_lines, counted, short_lines
 from ..working.bisect import (
     MOST_STATUS,
     Command,
@@ -24,17 +25,29 @@ from ..working.bisect import (
 )
 from ..working.stack import need_bookmark
 from ..working.state import WorkingCopy
-from .copies import need_copy
-from .options import LEFT_OUT, REVISION, Add, add_connections, positive
+from . import given
+from .options import LEFT_OUT, REVISION, Add, add_connections, id_of, positive
+from .working_copy import need_copy
 
 SKIPS = 125
 STANDARD_ERROR = 2
 """Where the command's output goes while the standard output is a script's."""
 
 
+@dataclass(frozen=True)
+class BisectOptions(given.ConnectionsOptions):
+    """What `bisect` is told."""
+
+    good: str
+    bad: str | None
+    skips: int
+    words: list[str]
+
+
 def add(add: Add) -> None:
     """Adds the subcommand."""
-    one = add("bisect", bisect, "find the changeset that broke something, by trying some between")
+    how = given.Command(BisectOptions, bisect)
+    one = add("bisect", how, "find the changeset that broke something, by trying some between")
     one.add_argument(
         "--good", metavar="ID", required=True, help=f"where it worked still: {REVISION}"
     )
@@ -66,7 +79,7 @@ def verdict_status(text: str) -> int:
     return int(text)
 
 
-def bisect(options: Namespace, server: Server, out: Output) -> int:
+def bisect(options: BisectOptions, server: Server, out: Output) -> int:
     """Finds the first bad changeset after a good one, and brings the folder back."""
     copy, log = need_copy(options), CachedLog(server)
     command = Command(options.words, options.skips, STANDARD_ERROR if out.as_json else None)
@@ -80,11 +93,12 @@ def bisect(options: Namespace, server: Server, out: Output) -> int:
     return 0 if search.first_bad else LEFT_OUT
 
 
-def wanted(options: Namespace, copy: WorkingCopy, server: Server, log: Log) -> Search:
+def wanted(options: BisectOptions, copy: WorkingCopy, server: Server, log: Log) -> Search:
     """The search between what is said to be good and what is said to be bad."""
     bad = options.bad or need_head(server, need_bookmark(copy))
     front = partial(by_front, log)
-    good, bad = (server.changeset(resolve(server, one, front)).id for one in (options.good, bad))
+    ids = (id_of(options, server, one, front) for one in (options.good, bad))
+    good, bad = (server.changeset(id).id for id in ids)
     if good == bad:
         raise Trouble(f"{good} can't be good and bad")
     return Search(good, line_between(server, log, good, bad))
@@ -97,7 +111,7 @@ def tell_found(search: Search, server: Server, log: Log, out: Output) -> None:
     out.tell(document | {"left": search.left[::-1]}, found_lines(search, server, log))
 
 
-def found_lines(search: Search, server: Server, log: Log) -> Iterator[str]:
+def found_lines(search: Search, server: Server, log: Log) -> Iterator[Line]:
     """The same for people, as `log` tells changesets."""
     verdicts = list(search.tried.values())
     skipped = verdicts.count(Verdict.SKIPPED)

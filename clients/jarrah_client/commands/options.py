@@ -5,14 +5,24 @@ from __future__ import annotations
 import argparse
 from collections.abc import Callable
 
-from ..drafts import read_date
+from ..drafting.drafts import read_date
+from ..drafting.landing import ALLOW
+from ..history.names import resolve
+from ..net.server import Server
+from .given import CopyOptions, Subcommand
 
-REVISION = "a bookmark, a changeset's id, or the first 6 digits or more of one"
+REVISION = (
+    "a bookmark, a changeset's id, or the first 6 digits or more of one; `.` is a working copy's"
+    " base; `~N` and `^2` behind it lead to parents"
+)
+IN_A_COPY = "default: a working copy's base"
 LEFT_OUT = 3
 """The status of a command that did its work, but left something out."""
 
-Add = Callable[..., argparse.ArgumentParser]
-"""Makes the parser of a subcommand from its name, its function and what it does."""
+Front = Callable[[str], str]
+"""Finds the one id that begins so."""
+Add = Callable[[str, Subcommand, str], argparse.ArgumentParser]
+"""Makes the parser of a subcommand from its name, how it is called and what it does."""
 
 
 def add_changes(one: argparse.ArgumentParser) -> None:
@@ -39,12 +49,20 @@ def add_changes(one: argparse.ArgumentParser) -> None:
     add_words(one)
 
 
-def add_words(one: argparse.ArgumentParser, message: str | None = "") -> None:
+def add_words(one: argparse.ArgumentParser) -> None:
     """Options that say who made a changeset, when and why."""
-    one.add_argument("-m", "--message", default=message, help="what the changeset does")
+    one.add_argument("-m", "--message", help="what the changeset does")
+    add_allow(one)
     one.add_argument("--author", help="default: $JARRAH_AUTHOR, else git's user")
     one.add_argument(
         "--date", type=a_date, help="`@SECONDS +HHMM` or `2026-01-31T12:00:00+01:00`; default: now"
+    )
+
+
+def add_allow(one: argparse.ArgumentParser) -> None:
+    """The option that lets a message be empty."""
+    one.add_argument(
+        ALLOW, dest="allows_empty", action="store_true", help="land what has an empty message"
     )
 
 
@@ -58,6 +76,14 @@ def add_connections(one: argparse.ArgumentParser) -> None:
     one.add_argument(
         "--connections", type=positive, default=4, metavar="N", help="at a time; default: 4"
     )
+
+
+def id_of(
+    options: CopyOptions, server: Server, name: str | None, front: Front | None = None
+) -> str:
+    """The changeset that a person means; where nothing is said, what the working copy stands on."""
+    base = options.copy.state.base if options.copy else None
+    return resolve(server, name or "", front, base)
 
 
 def assignment(text: str) -> tuple[str, str]:
