@@ -6,9 +6,9 @@ from io import StringIO
 from itertools import groupby
 from typing import Any
 
-from ..annotate import FoldedVersions, NodeVersions, Versions, annotated
 from ..refusals import about
-from ..trees import FsnodeTree, whole_past
+from ..text.annotate import FoldedVersions, NodeVersions, Versions, annotated
+from ..trees.tree import FsnodeTree, whole_past
 from .library import Question, Visit, brief
 
 

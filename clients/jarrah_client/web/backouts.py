@@ -4,12 +4,13 @@ from __future__ import annotations
 
 from typing import Any
 
-from ..backout import Wanted, back_out, message_of
-from ..output import changeset_document
+from ..drafting.backout import Wanted, back_out, message_of
+from ..drafting.landing import need_author, need_message
+from ..terminal.output import changeset_document
 from .library import BadQuestion, Question, Visit
-from .uploads import members_of, put_on, words_of
+from .uploads import ALLOW, members_of, put_on, words_of
 
-MEMBERS = {"author", "message", "seconds", "offset"}
+MEMBERS = {"author", "message", "seconds", "offset", ALLOW}
 
 
 def backout(visit: Visit, question: Question, body: bytes) -> dict[str, Any]:
@@ -17,12 +18,15 @@ def backout(visit: Visit, question: Question, body: bytes) -> dict[str, Any]:
     members = members_of(body, MEMBERS)
     place, is_draft = place_of(question), question.number("draft", 0) > 0
     target = visit.changeset(visit.resolve(question.path))
+    allows = members.take(ALLOW, bool, False)
     words = words_of(members, message_of(target))
+    need_author(words.author)
+    need_message(words.message, allows or is_draft)
     wanted = Wanted(target, place, question.name)
     made = back_out(visit.server, visit.own_log(), wanted, words)
     if is_draft:
         return changeset_document(made.changeset) | made.told
-    return put_on(visit, question.name, made.changeset.id) | made.told
+    return put_on(visit, question.name, made.changeset.id, allows) | made.told
 
 
 def place_of(question: Question) -> int | None:

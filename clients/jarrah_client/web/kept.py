@@ -7,7 +7,7 @@ from collections import OrderedDict
 from collections.abc import Callable, Hashable
 from typing import Generic, TypeVar
 
-from ..changesets import Changeset
+from ..formats.changesets import Changeset
 
 Key = TypeVar("Key", bound=Hashable)
 Value = TypeVar("Value")
@@ -21,13 +21,17 @@ class Kept(Generic[Key, Value]):
         self.values: OrderedDict[Key, Value] = OrderedDict()
         self.turn = threading.Lock()
 
-    def get(self, key: Key, make: Callable[[], Value]) -> Value:
-        """The value of a key, which is made where it isn't there."""
+    def get(
+        self, key: Key, make: Callable[[], Value], keeps: Callable[[Value], bool] = lambda _: True
+    ) -> Value:
+        """The value of a key, which is made where it isn't there, and kept unless it isn't to be."""
         with self.turn:
             if key in self.values:
                 self.values.move_to_end(key)
                 return self.values[key]
         made = make()
+        if not keeps(made):
+            return made
         with self.turn:
             found = self.values.setdefault(key, made)
             if len(self.values) > self.most:

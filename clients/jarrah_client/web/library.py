@@ -3,28 +3,37 @@
 from __future__ import annotations
 
 import threading
-from collections.abc import Iterator
+from collections.abc import Iterator, Sequence
 from contextlib import contextmanager
 from dataclasses import dataclass, field
-from typing import Any
+from itertools import islice
+from pathlib import Path
+from typing import TYPE_CHECKING, Any
 
-from ..changesets import MOST_CONTENT_BYTES, Changeset, File
-from ..log_cache import CachedLog
-from ..names import resolve
-from ..output import changeset_document, file_document
+from ..formats.changesets import MOST_CONTENT_BYTES, Changeset, File
+from ..history.names import resolve
+from ..history.repository import Log, by_front
+from ..net.server import Server
 from ..refusals import Fault, Refused, about
-from ..repository import Log, by_front
-from ..server import Server
-from ..text_diff import text_of
-from ..trees import Tree, fate, history_of, last_changes, path_log_of, tree_of
+from ..terminal.output import changeset_document, file_document
+from ..text.diff import text_of
+from ..trees.tree import Tree, fate, followed_log, history_of, last_changes, tree_of
+from .events import Poll
 from .kept import Kept, Line
+from .review.index import UploadIndex, Window
+from .review.uploaded import Shown, UploadLog
+
+if TYPE_CHECKING:
+    from .review.comparing import Compared
 
 LOG_LENGTH = 30
 MOST_LOG_LENGTH = 200
 HISTORY_LENGTH = 50
 LISTING_LENGTH = 200
 """For so many entries of a directory the page asks at a time who touched them last."""
+MOST_DIGITS = 20
 KEPT_TREES = 16
+KEPT_COMPARED = 8
 KEPT_CHANGESETS = 4_096
 KEPT_LINES = 16
 
@@ -40,26 +49,40 @@ class Question:
     name: str = ""
     path: str = ""
     query: dict[str, str] = field(default_factory=dict)
+    pairs: tuple[tuple[str, str], ...] = ()
+    """The query's words as they stand, where one may stand there again."""
+    last_event: int | None = None
+    """The last event that was told over a connection that broke."""
+
+    def values(self, key: str) -> list[str]:
+        """All that the query says of a word."""
+        return [value for name, value in self.pairs if name == key]
 
     def number(self, key: str, default: int, most: int = 10**9) -> int:
         """A number of the query."""
         text = self.query.get(key, str(default))
-        if not (text.isascii() and text.isdigit()):
-            raise BadQuestion(f"{key} is {text!r}, and no number")
+        if not (text.isascii() and text.isdigit() and len(text) <= MOST_DIGITS):
+            raise BadQuestion(f"{key} is {text[:MOST_DIGITS]!r}, and no number")
         return min(int(text), most)
 
 
 class Library:
     """What is asked of one server, and what of it is kept."""
 
-    def __init__(self, server: Server, fold: bool):
+    def __init__(self, server: Server, fold: bool, folders: Sequence[Path] = ()):
         self.server = server
         self.fold = fold
-        self.log = CachedLog(server)
+        self.folders = list(folders)
+        """Working copies whose drafts are told."""
+        self.log = UploadLog(server)
+        self.uploads = UploadIndex()
         self.log_turn = threading.Lock()
         self.changesets: Kept[str, Changeset] = Kept(KEPT_CHANGESETS)
         self.trees: Kept[str, Tree] = Kept(KEPT_TREES)
         self.lines: Kept[str, Line] = Kept(KEPT_LINES)
+        self.compared: Kept[tuple[str, str, str], Compared] = Kept(KEPT_COMPARED)
+        """What two trees differ in."""
+        self.poll = Poll(server.another)
 
     @contextmanager
     def connected(self) -> Iterator[Visit]:
@@ -77,6 +100,7 @@ class Visit:
     def __init__(self, library: Library, server: Server):
         self.library = library
         self.server = server
+        self.shown: Shown | None = None
 
     def changeset(self, id: str) -> Changeset:
         return self.library.changesets.get(id, lambda: self.server.changeset(id))
@@ -93,7 +117,7 @@ class Visit:
         return line
 
     def resolve(self, name: str) -> str:
-        return resolve(self.server, name, self.by_front)
+        return resolve(self.server, name, self.by_front, hints=False)
 
     def by_front(self, front: str) -> str:
         with self.library.log_turn:
@@ -107,6 +131,18 @@ class Visit:
             log.server = self.server
             log.read_on()
             return dict(log.bookmarks), log.next
+
+    def shown_log(self) -> Shown:
+        """The log as it is now, with each upload; it isn't read on while this request lasts."""
+        if self.shown is None:
+            self.read_log()
+            with self.library.log_turn:
+                self.shown = self.library.log.shown()
+        return self.shown
+
+    def uploads(self) -> Window:
+        """The uploads that are known, and what became of them."""
+        return self.library.uploads.window(self.shown_log())
 
     def own_log(self) -> Log:
         """The log for this request alone, so that others may read theirs on meanwhile."""
@@ -147,10 +183,13 @@ class Visit:
         return changeset_document(changeset) | {"bookmarks": at}
 
     def directory(self, question: Question) -> dict[str, Any]:
-        """A directory of a changeset's tree."""
+        """A directory of a changeset's tree; with `recursive` all files under it, by paths."""
         id, path = self.place(question)
         with about(path or "the root"):
-            found = self.tree(id).list(path)
+            tree = self.tree(id)
+            found: dict[str, File | None] = tree.list(path)
+            if question.number("recursive", 0) > 0:
+                found = dict(tree.files(path))
         rows = [named(name, entry) for name, entry in found.items()]
         return {"id": id, "path": path, "entries": rows}
 
@@ -182,13 +221,15 @@ class Visit:
         return document | {"history": history, "older": len(past) - len(history)}
 
     def past(self, question: Question) -> dict[str, Any]:
-        """The changesets that set a file or took it away, also where none is now."""
+        """The changesets that set a file or took it away, also where none is now, and those of what
+        it was copied or renamed from."""
         id, path = self.place(question)
+        rows, older = [], 0
         with about(path):
-            ids = path_log_of(self.server, id, path, fold=self.library.fold)
-        shown = [self.changeset(one) for one in ids[:HISTORY_LENGTH]]
-        rows = [brief(one) | {"at_path": fate(one, path)} for one in shown]
-        return {"id": id, "path": path, "changesets": rows, "older": len(ids) - len(rows)}
+            found = followed_log(self.server, id, path, fold=self.library.fold)
+            for changeset, at, older in islice(found, HISTORY_LENGTH):
+                rows.append(past_row(changeset, at))
+        return {"id": id, "path": path, "changesets": rows, "older": older}
 
     def raw(self, question: Question) -> bytes:
         """A file's bytes."""
@@ -205,6 +246,13 @@ def brief(changeset: Changeset) -> dict[str, Any]:
     """A changeset without its changes, and how many there are."""
     document = changeset_document(changeset)
     return document | {"changes": len(changeset.changes)}
+
+
+def past_row(changeset: Changeset, path: str) -> dict[str, Any]:
+    """A changeset of a path's log, and what it did there."""
+    source = changeset.copies.get(path)
+    copied = {"copied": {"parent": source.parent, "path": source.path}} if source else {}
+    return brief(changeset) | {"at_path": fate(changeset, path), "path": path} | copied
 
 
 def named(name: str, entry: File | None) -> dict[str, Any]:

@@ -92,12 +92,18 @@ function changesetRow(changeset) {
     make("span", { class: "right soft" }, changeset.date.slice(0, 16)));
 }
 
-function searchForm(name) {
+// Searches paths, messages and authors; or what is in files, at and under a path.
+function searchForm(name, path) {
   const input = make("input", { type: "search", placeholder: "path, message or author", "aria-label": "search" });
-  const form = make("form", { role: "search", class: "end" }, input, make("button", { class: "button" }, "Search"));
+  const inside = make("button", { class: "button", type: "button" }, "In contents");
+  const form = make("form", { role: "search", class: "end" }, input, make("button", { class: "button" }, "Search"), inside);
+  const go = (kind, at, query) => {
+    if (Object.values(query)[0]) location.hash = kind(at, query);
+  };
   form.onsubmit = (event) => {
     event.preventDefault();
-    if (input.value.trim()) location.hash = place("search", name, "", { q: input.value.trim() });
+    go((at, query) => place("search", name, at, query), "", { q: input.value.trim() });
   };
+  inside.onclick = () => go((at, query) => place("grep", name, at, query), path || "", { text: input.value });
   return form;
 }

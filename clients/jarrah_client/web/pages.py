@@ -4,22 +4,37 @@ from __future__ import annotations
 
 import json
 import sys
+from collections.abc import Sequence
+from dataclasses import replace
 from http.server import BaseHTTPRequestHandler, ThreadingHTTPServer
 from pathlib import Path
 from typing import Any
 from urllib.parse import urlsplit
 
-from ..changesets import CannotSpell, SelfConflict
-from ..fields import BadEncoding
-from ..output import Output
+from ..formats.changesets import CannotSpell, SelfConflict
+from ..formats.fields import BadEncoding
+from ..net.server import BadAnswer, NotReached, Server, Trouble
 from ..refusals import Fault, Refused
-from ..server import BadAnswer, NotReached, Server, Trouble
+from ..terminal.output import Output, clean
+from .archives import TAR
+from .events import TooMany
 from .library import BadQuestion, Library
-from .routes import JSON, OPENAPI, OCTETS, answered, found, health
+from .routes import JSON, OCTETS, OPENAPI, answered, found, health
+from .streams import Chunked, Streamed
 
 HOST = "127.0.0.1"
 FOLDER = Path(__file__).parent
-SCRIPTS = ("make.js", "views.js", "diff.js", "lists.js", "show.js")
+SCRIPTS = (
+    "make.js",
+    "lists.js",
+    "diff.js",
+    "sides.js",
+    "files.js",
+    "views.js",
+    "review.js",
+    "keys.js",
+    "show.js",
+)
 IDLE_SECONDS = 60
 MOST_BODY_BYTES = 128 << 20
 POLICY = (
@@ -64,8 +79,10 @@ class Handler(BaseHTTPRequestHandler):
             self.fail(403, str(fault))
         except BadQuestion as fault:
             self.fail(400, str(fault))
+        except TooMany as fault:
+            self.fail(503, str(fault))
         except Refused as refusal:
-            members = {"code": refusal.code, **refusal.members}
+            members: dict[str, object] = {"code": refusal.code, **refusal.members}
             self.fail(refusal.status, str(refusal), members)
         except (CannotSpell, SelfConflict) as fault:
             self.fail(422, str(fault))
@@ -98,14 +115,43 @@ class Handler(BaseHTTPRequestHandler):
         elif method == "GET" and path == "/openapi.json":
             self.reply(200, JSON, OPENAPI.read_bytes())
         elif known := found(method, self.path):
-            answer = answered(self.server.library, *known, body)
-            if isinstance(answer, tuple):
-                self.reply(200, answer[1], answer[0])
-            else:
-                self.reply_json(200, answer)
+            asked, question = known
+            question = replace(question, last_event=self.last_event())
+            with self.server.library.connected() as visit:
+                self.give(answered(visit, asked, question, body))
         else:
             other = found("POST" if method == "GET" else "GET", self.path)
             self.fail(405 if other else 404, "no such page")
+
+    def last_event(self) -> int | None:
+        """The number that a listener says who comes again."""
+        text = self.headers.get("Last-Event-ID", "")
+        return int(text) if text.isascii() and text.isdigit() and len(text) < 20 else None
+
+    def give(self, answer: Any) -> None:
+        """Writes an answer: what is streamed, bytes with their type, or a document."""
+        if isinstance(answer, Streamed):
+            self.stream(answer)
+        elif isinstance(answer, tuple):
+            self.reply(200, answer[1], answer[0])
+        else:
+            self.reply_json(200, answer)
+
+    def stream(self, answer: Streamed) -> None:
+        """Writes an answer as it comes. Behind its head a fault cuts it off."""
+        in_chunks = self.request_version != "HTTP/1.0"
+        self.close_connection = self.close_connection or not in_chunks
+        headers = {"Transfer-Encoding": "chunked"} if in_chunks else {"Connection": "close"}
+        self.begin(200, answer.kind, headers)
+        if self.command == "HEAD":
+            return
+        out = Chunked(self.wfile, in_chunks)
+        try:
+            answer.write(out)
+            out.end()
+        except (Fault, SelfConflict, BadEncoding) as fault:
+            self.close_connection = True
+            print(f"jarrah: {clean(str(fault))}: {self.path} was cut off", file=sys.stderr)
 
     def tell_health(self) -> None:
         """Whether the server behind answers."""
@@ -124,17 +170,22 @@ class Handler(BaseHTTPRequestHandler):
 
     def reply(self, status: int, kind: str, data: bytes) -> None:
         """Writes a response."""
-        is_file = kind.startswith("image/") or kind == OCTETS
+        self.begin(status, kind, {"Content-Length": str(len(data))})
+        if self.command != "HEAD":
+            self.wfile.write(data)
+
+    def begin(self, status: int, kind: str, headers: dict[str, str]) -> None:
+        """Writes the head of a response."""
+        is_file = kind.startswith("image/") or kind in (OCTETS, TAR)
         self.send_response(status)
         self.send_header("Content-Type", kind)
-        self.send_header("Content-Length", str(len(data)))
+        for name, value in headers.items():
+            self.send_header(name, value)
         self.send_header("Content-Security-Policy", BARE_POLICY if is_file else POLICY)
         self.send_header("X-Content-Type-Options", "nosniff")
         self.send_header("Referrer-Policy", "same-origin")
         self.send_header("Cache-Control", "no-store")
         self.end_headers()
-        if self.command != "HEAD":
-            self.wfile.write(data)
 
     def log_message(self, format: str, *words: Any) -> None:
         """Keeps quiet."""
@@ -173,13 +224,19 @@ def page() -> bytes:
 
 
 def serve(
-    server: Server, port: int, fold: bool, names: list[str], writes: bool, out: Output
+    server: Server,
+    port: int,
+    fold: bool,
+    names: list[str],
+    writes: bool,
+    out: Output,
+    folders: Sequence[Path] = (),
 ) -> None:
-    """Serves until it is interrupted."""
+    """Serves until it is interrupted; the drafts of some working copies are told too."""
     server.log(0)
     server.close()
     try:
-        pages = Pages(Library(server, fold), port, names, writes)
+        pages = Pages(Library(server, fold, folders), port, names, writes)
     except OSError as fault:
         raise Trouble(f"port {port} of {HOST} can't be had: {fault.strerror}") from None
     out.tell({"url": pages.url}, f"look at {pages.url}  (Ctrl-C ends it)")

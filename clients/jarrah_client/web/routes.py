@@ -8,11 +8,17 @@ from pathlib import Path
 from typing import Any
 from urllib.parse import parse_qsl, unquote, urlsplit
 
-from ..server import Server
 from .annotations import annotate
+from .archives import archive
 from .backouts import backout
 from .diffs import diff
+from .events import events
 from .library import Library, Question, Visit
+from .review.comparing import compare
+from .review.drafts import drafts, stack
+from .review.folders import folders
+from .review.grep import grep
+from .review.interdiffs import interdiff
 from .search import search
 from .uploads import land, upload
 
@@ -44,17 +50,18 @@ class Route:
         """The path before its first word."""
         return self.path.partition("{")[0]
 
-    def question(self, path: str, query: dict[str, str]) -> Question | None:
+    def question(self, path: str, pairs: tuple[tuple[str, str], ...]) -> Question | None:
         """The question of a path that this route takes."""
+        query = dict(pairs)
         if "{" not in self.path:
-            return Question(query=query) if path == self.path else None
+            return Question(query=query, pairs=pairs) if path == self.path else None
         if not path.startswith(self.root):
             return None
         name, slash, rest = path.removeprefix(self.root).partition("/")
         takes_path = self.path.count("{") == 2
         if not name or (slash and rest and not takes_path):
             return None
-        return Question(name, rest.rstrip("/"), query)
+        return Question(name, rest.rstrip("/"), query, pairs)
 
 
 def raw(visit: Visit, question: Question) -> tuple[bytes, str]:
@@ -75,6 +82,14 @@ READS = (
     Route("GET", "/api/annotate/{revision}/{path}", annotate),
     Route("GET", "/api/diff/{revision}/{path}", diff),
     Route("GET", "/api/search/{revision}", search),
+    Route("GET", "/api/drafts", drafts),
+    Route("GET", "/api/folders", folders),
+    Route("GET", "/api/stack/{revision}", stack),
+    Route("GET", "/api/compare/{revision}/{path}", compare),
+    Route("GET", "/api/interdiff/{revision}/{path}", interdiff),
+    Route("GET", "/api/grep/{revision}/{path}", grep),
+    Route("GET", "/api/archive/{revision}/{path}", archive),
+    Route("GET", "/api/events", events),
     Route("GET", "/raw/{revision}/{path}", raw),
 )
 WRITES = (
@@ -87,24 +102,24 @@ WRITES = (
 def found(method: str, target: str) -> tuple[Route, Question] | None:
     """The route of a target, and its question."""
     parts = urlsplit(target)
-    path, query = unquote(parts.path), dict(parse_qsl(parts.query, keep_blank_values=True))
+    path, pairs = unquote(parts.path), tuple(parse_qsl(parts.query, keep_blank_values=True))
     for route in READS + WRITES:
-        question = route.question(path, query)
+        question = route.question(path, pairs)
         if question and route.method == method:
             return route, question
     return None
 
 
-def answered(library: Library, route: Route, question: Question, body: bytes) -> Any:
-    """What answers a question; of a change it has the body too."""
+def answered(visit: Visit, route: Route, question: Question, body: bytes) -> Any:
+    """What answers a question; of a change it has the body too. What is streamed comes later, over
+    the same connection."""
     bodies = (body,) if route.method == "POST" else ()
-    with library.connected() as visit:
-        return route.answer(visit, question, *bodies)
+    return route.answer(visit, question, *bodies)
 
 
 def health(library: Library) -> dict[str, Any]:
     """Whether the server answers, and how many entries it has."""
-    server = Server(library.server.url, HEALTH_SECONDS, library.server.caller)
+    server = library.server.another(HEALTH_SECONDS)
     try:
         total = server.log(0).total
     finally:

@@ -1,6 +1,6 @@
 // Showing the view of a place. Going back brings back what stood there, and where.
 
-const views = { "": bookmarks, log, changeset, tree, file, annotate, search };
+const views = { "": bookmarks, log, changeset, tree, file, annotate, search, drafts, stack, compare, versions, grep };
 const MOST_KEPT = 40;
 const kept = new Map();
 let here = null;
@@ -26,9 +26,9 @@ function leave() {
 async function partsOf(hash) {
   const [route, words] = hash.slice(1).split("?");
   const [, kind = "", id = "", ...rest] = route.split("/");
-  const path = rest.map(decodeURIComponent).join("/");
-  if (!views[kind]) return [heading("There is no such page")];
+  if (!Object.hasOwn(views, kind)) return [heading("There is no such page")];
   try {
+    const path = rest.map(decodeURIComponent).join("/");
     return await views[kind](decodeURIComponent(id), path, new URLSearchParams(words || ""));
   } catch (fault) {
     const again = button("Try again", () => {
@@ -44,6 +44,7 @@ async function partsOf(hash) {
 function put(entry) {
   main.replaceChildren(...entry.nodes);
   main.removeAttribute("aria-busy");
+  redrawAll();
   document.title = entry.title;
 }
 

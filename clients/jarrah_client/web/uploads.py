@@ -7,16 +7,19 @@ import binascii
 import json
 from typing import Any
 
-from ..changesets import MOST_SIZE_BYTES, Changeset, File, Kind
-from ..contents import Source, in_memory, store_all
-from ..drafts import deleted, now
-from ..paths import is_text
+from ..drafting import landing
+from ..drafting.drafts import deleted, now
+from ..drafting.landing import need_author, need_message
+from ..formats.changesets import MOST_SIZE_BYTES, Changeset, File, Kind
+from ..formats.paths import is_text
+from ..net.contents import Source, in_memory, store_all
 from ..refusals import Refused
 from ..working.stack import Words, made
 from .library import BadQuestion, Question, Visit, brief
 
 KINDS = {kind.word: kind for kind in Kind}
-MEMBERS = {"parent", "author", "message", "seconds", "offset", "changes", "land"}
+ALLOW = "allow_empty_message"
+MEMBERS = {"parent", "author", "message", "seconds", "offset", "changes", "land", ALLOW}
 
 
 class Members:
@@ -36,9 +39,9 @@ class Members:
         found = self.document.get(name)
         if found is None and default is not ...:
             return default
-        if not isinstance(found, kind) or isinstance(found, bool):
+        if not isinstance(found, kind) or isinstance(found, bool) != (kind is bool):
             raise BadQuestion(f"{self.where} lacks {name!r}, or it is no {kind.__name__}")
-        if kind is str and not is_text(found.encode(errors="surrogatepass")):
+        if isinstance(found, str) and not is_text(found.encode(errors="surrogatepass")):
             raise BadQuestion(f"{self.where} has half of a surrogate pair in {name!r}")
         return found
 
@@ -47,12 +50,17 @@ def upload(visit: Visit, _: Question, body: bytes) -> dict[str, Any]:
     """Stores a changeset with its contents, and lands it where that is asked for."""
     members = members_of(body, MEMBERS)
     name, land = members.take("parent", str, None), members.take("land", str, None)
+    allows = members.take(ALLOW, bool, False)
+    words = words_of(members, "")
+    need_author(words.author)
+    if land:
+        need_message(words.message, allows)
     parent = visit.resolve(name) if name else None
     changes, contents = read_changes(visit, members.take("changes", list), parent)
-    changeset = made(parent, words_of(members, ""), changes)
+    changeset = made(parent, words, changes)
     store(visit, changeset, contents)
     answer = brief(changeset) | {"landed": None}
-    return answer | {"landed": put_on(visit, land, changeset.id)} if land else answer
+    return answer | {"landed": put_on(visit, land, changeset.id, allows)} if land else answer
 
 
 def members_of(body: bytes, known: set[str]) -> Members:
@@ -110,7 +118,8 @@ def read_changes(
 def bytes_of(members: Members) -> bytes:
     """The bytes that a change sets."""
     if "text" in members.document:
-        data = members.take("text", str).encode()
+        text: str = members.take("text", str)
+        data = text.encode()
     else:
         try:
             data = base64.b64decode(members.take("base64", str), validate=True)
@@ -131,13 +140,14 @@ def kind_of(members: Members) -> Kind:
 
 def land(visit: Visit, question: Question, _: bytes) -> dict[str, Any]:
     """Lands a draft on a bookmark."""
-    return put_on(visit, question.name, visit.resolve(question.path))
+    allows = question.number(ALLOW, 0) > 0
+    return put_on(visit, question.name, visit.resolve(question.path), allows)
 
 
-def put_on(visit: Visit, bookmark: str, draft: str) -> dict[str, Any]:
+def put_on(visit: Visit, bookmark: str, draft: str, allows_empty: bool) -> dict[str, Any]:
     """The same by the draft's id, which a refusal names too."""
     try:
-        landed = visit.server.land(bookmark, draft)
+        landed = landing.land(visit.server, bookmark, draft, allows_empty=allows_empty)
     except Refused as refusal:
         refusal.members.setdefault("draft", draft)
         raise

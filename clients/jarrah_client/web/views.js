@@ -52,31 +52,24 @@ async function changeset(name) {
   fact("Id", make("span", { class: "mono" }, id));
   for (const parent of found.parents) fact("Parent", link(place("changeset", parent), make("span", { class: "mono" }, parent)));
   if (found.bookmarks.length) fact("Bookmarks", ...found.bookmarks.map((one) => make("a", { class: "label", href: place("log", one) }, one)));
-  const rows = new Map();
-  const row = (change) => {
-    rows.set(change.path, changeRow(change, id));
-    if (answer) fill(answer.files.find((file) => file.path === change.path));
-    return rows.get(change.path);
-  };
-  const fill = (file) => {
-    if (file && rows.has(file.path)) rows.get(file.path).fill(file, answer.parent);
-  };
-  let answer = null;
-  const { parts } = await longList({
-    load: stretches(found.changes), row, size: 200, none: "It changes no path.", newer: "Earlier paths", older: "Further paths",
+  const { changes } = found;
+  const copied = new Map(changes.filter((one) => one.copied).map((one) => [one.path, one.copied]));
+  const parent = found.parents[0] || null;
+  const bare = ({ path, change, kind, size, content }) => ({ path, change, why: "later", hunks: null, before: null, after: content ? { kind, size, content } : null });
+  const load = async (path) => (await ask(`diff/${id}`, path)).files[0];
+  const { parts, take } = await fileList({
+    known: changes.map(bare), total: changes.length, ids: { now: id, before: parent }, load, copied, none: "It changes no path.",
   });
   const told = make("span", { role: "status" });
-  // The paths stand before their lines are known, and without them.
-  ask(`diff/${id}`).then((lines) => {
-    answer = lines;
-    lines.files.forEach(fill);
-  }, (fault) => { told.textContent = ` (no lines: ${fault.message})`; });
+  // The paths stand before it is known what they were, and without it.
+  ask(`diff/${id}`, "", changes.length > MOST_UNFOLDED ? { lines: 0 } : null).then(({ files }) => files.forEach(take),
+    (fault) => { told.textContent = ` (no lines: ${fault.message})`; });
   return [make("nav", { "aria-label": "path" }, link("#/", "Bookmarks"), make("i", {}, "/"), link(place("log", id), "Log from here")),
     heading(firstLine(found.message)),
     rest.join("\n").trim() ? make("p", { class: "message" }, rest.join("\n").trim()) : null,
     facts,
-    make("div", { class: "actions" }, link(place("tree", id, ""), "All files at this changeset")),
-    make("h2", {}, "Paths ", make("small", {}, counted(found.changes.length, "change"), told)),
+    make("div", { class: "actions" }, link(place("tree", id, ""), "All files at this changeset"), link(place("stack", id), "Its stack and versions")),
+    make("h2", {}, "Paths ", make("small", {}, counted(changes.length, "change"), told)),
     ...parts];
 }
 
@@ -101,7 +94,7 @@ async function tree(id, path) {
     row: entry, size: 200, none: "There is no file.", newer: "Earlier entries", older: "Further entries",
   });
   return [crumbs(found.id, path), heading(path || "Files"),
-    make("div", { class: "actions" }, soft(counted(all.length, "entry", "entries")), searchForm(found.id)), ...parts];
+    make("div", { class: "actions" }, soft(counted(all.length, "entry", "entries")), searchForm(found.id, path)), ...parts];
 }
 
 // The listing stands before this is known, and without it.
@@ -162,11 +155,13 @@ async function annotate(id, path, query) {
   return parts;
 }
 
-// What set a file or took it away, also before it was deleted.
+// What set a file or took it away, also before it was deleted, and under the names that it had.
 function pastRows(past) {
   const row = (one) => {
-    const made = changesetRow(one);
-    if (one.at_path !== "set") made.querySelector(".title").prepend(`${one.at_path} it: `);
+    const made = changesetRow(one), title = made.querySelector(".title");
+    if (one.at_path !== "set") title.prepend(`${one.at_path} it: `);
+    if (one.path !== past.path) title.append(soft(`  as ${one.path}`));
+    if (one.copied) title.append(soft(`  from ${one.copied.path}`));
     return made;
   };
   return [make("h2", {}, "History ", make("small", {}, counted(past.changesets.length + past.older, "changeset"))),
@@ -200,7 +195,7 @@ async function search(name, _, query) {
   };
   tell(messages);
   return [make("nav", { "aria-label": "path" }, link("#/", "Bookmarks"), make("i", {}, "/"), link(place("log", name), isId(name) ? short(name) : name)),
-    heading(`\u201c${q}\u201d`), make("div", { class: "actions" }, searchForm(name)),
+    heading(`\u201c${q}\u201d`), make("div", { class: "actions" }, link(place("grep", name, "", { text: q }), "In the contents of files"), searchForm(name)),
     make("h2", {}, "Files ", make("small", {}, counted(paths.total, "path"))),
     list(paths.files.map(row), "No path has it."), rest ? make("p", { class: "soft" }, `and ${number(rest)} more`) : null,
     make("h2", {}, "Changesets"), card, below];
