@@ -24,8 +24,8 @@ from typing import Any
 from unittest import mock
 
 from jarrah_client.cli import main
+from jarrah_client.net.server import Server
 from jarrah_client.refusals import Refused
-from jarrah_client.server import Server
 
 from .stand_in.http import StandIn
 
@@ -39,11 +39,15 @@ PATIENCE = re.compile(r"jarrah: deriving, |[\d,]+(/[\d,]+)? [a-z ]+  [\d,]+/s")
 """Lines that a command writes from time to time while it goes on."""
 RUN = uuid.uuid4().hex[:8]
 COUNT = itertools.count()
-ENVIRONMENT = {name: value for name, value in os.environ.items() if name != "JARRAH_SERVER"}
+OWN = re.compile("JARRAH_|VISUAL$|EDITOR$")
+"""Variables that say what a command isn't told."""
+ENVIRONMENT = {name: value for name, value in os.environ.items() if not OWN.match(name)}
+ENVIRONMENT |= {"JARRAH_PAGER": "cat"}
 ENVIRONMENT |= {"JARRAH_AUTHOR": "A Tester <tester@example.org>", "LC_ALL": "C.UTF-8", "TZ": "UTC"}
 CACHE = tempfile.TemporaryDirectory(prefix="jarrah-cache-")
 ENVIRONMENT["XDG_CACHE_HOME"] = CACHE.name
 os.environ["XDG_CACHE_HOME"] = CACHE.name
+ENVIRONMENT["XDG_CONFIG_HOME"] = CACHE.name
 
 
 @dataclass(frozen=True)
@@ -85,6 +89,25 @@ def jarrah_process(
         cwd=folder,
     )
     return Ran(done.returncode, done.stdout.decode(), done.stderr.decode())
+
+
+def on_terminal(
+    *words: object, server: str | None = None, folder: Path | None = None, **variables: str
+) -> Ran:
+    """Runs the program on a terminal of its own; what it writes comes as one text."""
+    ours, theirs = os.openpty()
+    command = [sys.executable, str(PROGRAM), *(["--server", server] if server else [])]
+    streams = dict.fromkeys(("stdin", "stdout", "stderr"), theirs)
+    process = subprocess.Popen(
+        [*command, *map(str, words)], env=ENVIRONMENT | variables, cwd=folder, **streams
+    )
+    os.close(theirs)
+    written = b""
+    with contextlib.suppress(OSError):
+        while data := os.read(ours, 65_536):
+            written += data
+    os.close(ours)
+    return Ran(process.wait(100), written.decode().replace("\r\n", "\n"), "")
 
 
 def jarrah(*words: object, server: str, data: bytes = b"", binary: bool = False) -> Ran:
@@ -274,7 +297,8 @@ class Case(unittest.TestCase):
 
     def draft(self, parent: str, *words: object, data: bytes = b"") -> str:
         """Uploads a draft and gives its id."""
-        return self.ok("draft", "--parent", parent, *words, data=data).out.strip()
+        said = ("-m", "a draft", *words)
+        return self.ok("draft", "--parent", parent, *said, data=data).out.strip()
 
     def sparse(self, place: Path, size: int) -> Path:
         """Makes a file of so many bytes that takes no room."""

@@ -55,15 +55,17 @@ def spelled(
     version: int = 1,
 ) -> bytes:
     """The changeset at second 0 that docs/FORMATS.md lays out so."""
-    return b"".join([
-        bytes([0x43, version, len(parents)]),
-        *map(bytes.fromhex, parents),
-        len(author).to_bytes(2, "big") + author,
-        bytes(12),
-        len(message).to_bytes(4, "big") + message,
-        len(edits).to_bytes(4, "big"),
-        *edits,
-    ])
+    return b"".join(
+        [
+            bytes([0x43, version, len(parents)]),
+            *map(bytes.fromhex, parents),
+            len(author).to_bytes(2, "big") + author,
+            bytes(12),
+            len(message).to_bytes(4, "big") + message,
+            len(edits).to_bytes(4, "big"),
+            *edits,
+        ]
+    )
 
 
 def path_field(path: str) -> bytes:
@@ -420,8 +422,12 @@ pathlog/{all}/z
 def merges(script: Script, root: str) -> None:
     """Changesets with two parents, those that are refused, and landings with them and over them."""
     on_root = {"parents": (root,)}
-    x, other = script.commit(spelled(sets("x"), **on_root)), script.commit(spelled(sets("x", b""), **on_root))
-    y, z = script.commit(spelled(sets("y", b""), **on_root)), script.commit(spelled(sets("z"), **on_root))
+    x, other = script.commit(spelled(sets("x"), **on_root)), script.commit(
+        spelled(sets("x", b""), **on_root)
+    )
+    y, z = script.commit(spelled(sets("y", b""), **on_root)), script.commit(
+        spelled(sets("z"), **on_root)
+    )
     under = script.commit(spelled(sets("x/y"), **on_root))
     merge, back = script.commit(spelled(parents=(x, y))), script.commit(spelled(parents=(y, x)))
     marks = {

@@ -88,7 +88,7 @@ NAME_BYTES = b"ABCDEFGHIJKLMNOPQRSTUVWXYZabcdefghijklmnopqrstuvwxyz0123456789_.-
 
 
 def name_place(data: bytes) -> int | None:
-    """The place of the fault of a bookmark's or a caller's name: its first byte that isn't allowed, or 128."""
+    """Where a bookmark's or a caller's name is at fault: its first wrong byte, or 128."""
     fault = next((at for at, byte in enumerate(data[:128]) if byte not in NAME_BYTES), None)
     return 128 if fault is None and len(data) > 128 else fault
 
@@ -153,9 +153,7 @@ def read_changeset(data: bytes) -> Record:
     return Record(digest(data), data, tuple(p.hex() for p in parents), tuple(changes))
 
 
-def read_change(
-    reader: Reader, before: list, version: int, parents: int
-) -> tuple[str, Set | None]:
+def read_change(reader: Reader, before: list, version: int, parents: int) -> tuple[str, Set | None]:
     length = reader.number(2, 1, 4_096)
     path = reader.take(length, lambda p: path_place(p) is None and follows(p, before)).decode()
     if reader.number(1, 0, 1) == 0:

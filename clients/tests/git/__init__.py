@@ -1,0 +1,1 @@
+"""Tests of imports, exports and the remote for git."""

@@ -1,0 +1,1 @@
+"""Tests of logs, and of what is kept of them."""

@@ -1,0 +1,1 @@
+"""Tests of requests and their answers, connections and contents."""

@@ -1,0 +1,1 @@
+"""Tests of the server's program and its script."""

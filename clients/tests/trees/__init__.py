@@ -1,0 +1,1 @@
+"""Tests of trees, and of how they are written out."""
