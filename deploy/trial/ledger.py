@@ -13,8 +13,8 @@ from .programs import PATIENCE, TOP, Failed, wants
 
 sys.path.insert(0, str(TOP / "clients"))
 
-from jarrah_client.changesets import Changeset, File  # noqa: E402
-from jarrah_client.fields import digest  # noqa: E402
+from jarrah_client.formats.changesets import Changeset, File  # noqa: E402
+from jarrah_client.formats.fields import digest  # noqa: E402
 
 BOOKMARK = "main"
 PAUSE_SECONDS = 0.05
@@ -30,6 +30,8 @@ class Landing:
 
     draft: str
     ids: list[str]
+    paths: list[str]
+    """What each of them sets."""
     old: str
     sent: float
     answered: float
@@ -55,10 +57,10 @@ def begun(place: Place) -> str:
 
 
 class Landers:
-    """Clients at once, each with a connection, which land stacks until they are told to end."""
+    """Clients at once, each with a connection, which land stacks, and pause between two, until they are told to end."""
 
-    def __init__(self, place: Place, count: int, root: str):
-        self.place, self.root, self.name = place, root, next(LOADS)
+    def __init__(self, place: Place, count: int, root: str, pause: float = 0.0):
+        self.place, self.root, self.pause, self.name = place, root, pause, next(LOADS)
         self.ledgers = [Ledger() for _ in range(count)]
         self.ends = threading.Event()
         self.threads = [
@@ -77,6 +79,7 @@ class Landers:
                 ledger.unanswered.append(str(fault))
                 time.sleep(PAUSE_SECONDS)
             stack += 1
+            self.ends.wait(self.pause)
 
     def landed(self) -> int:
         return sum(len(it.landings) for it in self.ledgers)
@@ -90,7 +93,7 @@ class Landers:
 
 def land(link: Link, ledger: Ledger, client: str, stack: int, head: str) -> str:
     """Lands a stack of two changesets, each with a content and a path of its own, and gives the new head."""
-    parent = head
+    parent, paths = head, []
     for part in range(2):
         content = f"client {client} stack {stack} part {part}\n".encode()
         path = f"client-{client}/stack-{stack:05}/part-{part}"
@@ -99,9 +102,10 @@ def land(link: Link, ledger: Ledger, client: str, stack: int, head: str) -> str:
         draft = Changeset((parent,), AUTHOR, 0, 0, f"stack {stack} part {part}", files)
         told(ledger.changesets, ledger, link.done("PUT", "/changeset", draft.encoded)["id"])
         parent = draft.id
+        paths.append(path)
     sent = time.monotonic()
     answer = link.done("POST", f"/land/{BOOKMARK}/{parent}")
-    landing = Landing(parent, answer["ids"], answer["old"], sent, time.monotonic())
+    landing = Landing(parent, answer["ids"], paths, answer["old"], sent, time.monotonic())
     told(ledger.landings, ledger, landing)
     return answer["head"]
 

@@ -19,12 +19,14 @@ class Place:
     trusted: Path | None = None
     person: str | None = None
     """Whose certificate is shown."""
+    seconds: float = TIMEOUT_SECONDS
+    """How long an answer may take."""
 
     def connection(self) -> http.client.HTTPConnection:
         if not self.trusted:
-            return http.client.HTTPConnection("127.0.0.1", self.port, timeout=TIMEOUT_SECONDS)
+            return http.client.HTTPConnection("127.0.0.1", self.port, timeout=self.seconds)
         return http.client.HTTPSConnection(
-            "localhost", self.port, timeout=TIMEOUT_SECONDS, context=self.context()
+            "localhost", self.port, timeout=self.seconds, context=self.context()
         )
 
     def context(self) -> ssl.SSLContext:
@@ -33,6 +35,16 @@ class Place:
             names = (self.trusted / f"{self.person}.{it}" for it in ("crt", "key"))
             made.load_cert_chain(*names)
         return made
+
+
+@dataclass(frozen=True)
+class Answer:
+    """What a request was answered with."""
+
+    status: int
+    kind: str | None
+    """The media type of the body."""
+    body: bytes
 
 
 class NoAnswer(Exception):
@@ -47,10 +59,15 @@ class Link:
 
     def ask(self, method: str, target: str, body: bytes | None = None, **headers: str) -> tuple[int, bytes]:
         """The status and the body of the answer."""
+        told = self.answer(method, target, body, **headers)
+        return told.status, told.body
+
+    def answer(self, method: str, target: str, body: bytes | None = None, **headers: str) -> Answer:
+        """The answer."""
         try:
             self.connection.request(method, target, body=body, headers=headers)
             response = self.connection.getresponse()
-            return response.status, response.read()
+            return Answer(response.status, response.getheader("Content-Type"), response.read())
         except (OSError, http.client.HTTPException) as fault:
             self.connection.close()
             raise NoAnswer(str(fault) or type(fault).__name__) from None

@@ -18,6 +18,8 @@ SERVE = TOP / "scripts" / "serve"
 HAPROXY = TOP / "deploy" / "haproxy.cfg"
 PATIENCE = 60.0
 """Seconds after which something that is waited for has failed."""
+LANES = 1_024
+"""Of a server behind the proxy, as the unit has it."""
 
 
 class Failed(Exception):
@@ -129,11 +131,11 @@ def is_program(process: int) -> bool:
 class Proxy(Program):
     """haproxy with the file of this folder, before the servers at these addresses."""
 
-    def __init__(self, folder: Path, first: str, second: str, **more: object):
+    def __init__(self, folder: Path, first: str, second: str, *, file: Path = HAPROXY, **more: object):
         self.port, self.metrics_port = free_port(), free_port()
         super().__init__(
             folder / f"haproxy-{self.port}.log",
-            *("haproxy", "-db", "-f", HAPROXY),
+            *("haproxy", "-db", "-f", file),
             JARRAH_LISTEN=f"127.0.0.1:{self.port}",
             JARRAH_CERTIFICATE=folder / "server.pem",
             JARRAH_PEOPLE=folder / "people.crt",
