@@ -4,8 +4,10 @@ from __future__ import annotations
 
 from . import (
     answers,
+    beside,
     calls,
     following,
+    kept,
     landings,
     large,
     memory,
@@ -24,6 +26,7 @@ from .row import Row
 LISTED = (
     Row("landings", "stacks a second, beside the raw log of the same appends", landings.stacks),
     Row("seals", "landings of drafts that lie ready, and their syncs", seals.landings, 2),
+    Row("reads-beside", "reads while others land, at syncs of several lengths", beside.reads),
     Row("range", "landing over 9,990 changesets, beside one over 1", ranges.landing),
     Row("range-opening", "opening such landings, beside those over 1", ranges.opening),
     Row("names", "reads of one name in wide directories, beside the root", names.reads),
@@ -42,5 +45,6 @@ LISTED = (
     Row("calls", "calls of the system a small read, beside those it needs", calls.calls),
     Row("log", "log pages of 100, beside servers of the same bytes", answers.page),
     Row("memory", "bytes of an entry and of an idle connection", memory.rows),
+    Row("kept", "1,000 kept connections, and 2,000 silent ones", kept.rows),
 )
 ROWS = {row.name: row for row in LISTED}

@@ -4,8 +4,8 @@ from __future__ import annotations
 
 from pathlib import Path
 
-from jarrah_client.changesets import Changeset, File
-from jarrah_client.fields import digest
+from jarrah_client.formats.changesets import Changeset, File
+from jarrah_client.formats.fields import digest
 
 MARK = b"BONSAI\x00\x02"
 CAPACITY = 4_294_967_296

@@ -17,8 +17,8 @@ import time
 from collections.abc import Iterator
 from dataclasses import dataclass
 
-from jarrah_client.changesets import Changeset, File
-from jarrah_client.fields import digest
+from jarrah_client.formats.changesets import Changeset, File
+from jarrah_client.formats.fields import digest
 
 from .journal import CAPACITY, ROOT
 from .link import Failed, Link

@@ -6,7 +6,7 @@ import random
 from collections.abc import Iterator
 from contextlib import contextmanager
 
-from jarrah_client.fields import digest
+from jarrah_client.formats.fields import digest
 
 from .journal import Journal
 from .link import Link, opened

@@ -6,7 +6,7 @@ import time
 from collections.abc import Iterator
 from pathlib import Path
 
-from jarrah_client.changesets import Changeset, File
+from jarrah_client.formats.changesets import Changeset, File
 
 from .journal import ROOT, Journal, drafted
 from .link import Batch, Link, opened

@@ -5,7 +5,7 @@ from __future__ import annotations
 from collections.abc import Iterator
 from pathlib import Path
 
-from jarrah_client.changesets import Changeset
+from jarrah_client.formats.changesets import Changeset
 
 from .journal import ROOT, Journal, drafted
 from .link import opened

@@ -17,12 +17,12 @@ import shutil
 import statistics
 import struct
 import subprocess
-from collections.abc import Iterator
+from collections.abc import Iterable, Iterator
 from contextlib import ExitStack, contextmanager
 from dataclasses import dataclass
 from pathlib import Path
 
-from jarrah_client.changesets import Changeset, File
+from jarrah_client.formats.changesets import Changeset, File
 
 from .journal import ROOT, Journal, drafted
 from .landings import BOOKMARK, TURN_SECONDS
@@ -40,13 +40,16 @@ FEWEST_DRAFTS = 32
 """So many lie ready for each client at first, and twice as many after a turn that used them up."""
 FARTHEST = 8_000
 """So many lie ready at most for all: the last one may still be landed over the others."""
-FIRST_ENTRIES = 3
-"""The root, a content and the bookmark."""
 UNCOUNTED = (
     "doesn't sync by a call of the C library that a preloaded one can take the place of"
     " (ldd says whether it is linked to that), so its syncs can't be counted or made slower"
 )
-C_NAMES = {"landers": ["-pthread"], "appends": [], "syncs": ["-shared", "-fPIC", "-ldl"]}
+C_NAMES = {
+    "landers": ["-pthread"],
+    "readers": [],
+    "appends": [],
+    "syncs": ["-shared", "-fPIC", "-ldl"],
+}
 HEADING = (
     "                                               a  beside raw log  beside"
     "      syncs    ms of a landing      ms of\n"
@@ -142,16 +145,20 @@ class Tools:
         return Turn(whole, each)
 
 
-def compiled(folder: Path) -> Tools | None:
-    """None where there is no compiler."""
+def compiled(folder: Path, names: Iterable[str] = tuple(C_NAMES)) -> Tools | None:
+    """The helpers of these names. None where there is no compiler."""
     compiler = shutil.which("gcc") or shutil.which("cc")
     if not compiler:
         return None
-    for name, words in C_NAMES.items():
+    for name in names:
         source = Path(__file__).with_name(f"{name}.c")
-        command = [compiler, "-O2", "-D_GNU_SOURCE", "-o", folder / name, source, *words]
+        command = [compiler, "-O2", "-D_GNU_SOURCE", "-o", folder / name, source, *C_NAMES[name]]
         subprocess.run(command, check=True)
     return Tools(folder)
+
+
+def lines(ids: list[str]) -> str:
+    return "".join(it + "\n" for it in ids)
 
 
 def ready(number: int, client: int, count: int, head: str, content: File) -> list[Changeset]:
@@ -181,20 +188,30 @@ class Server(Side):
     def __init__(self, name: str, tools: Tools, file: Path, clients: int, syncs: Syncs, pause: int):
         super().__init__(name, syncs, pause)
         self.tools, self.file, self.clients = tools, file, clients
-        self.drafts, self.taken, self.entries = FEWEST_DRAFTS, 0, FIRST_ENTRIES
+        self.drafts, self.taken, self.entries = FEWEST_DRAFTS, 0, 0
 
     @contextmanager
     def serve(self, program: Program) -> Iterator[None]:
         """Serves a new file that has the bookmark, and checks in the end what was made of it."""
         with Journal(self.file) as journal:
-            self.content = journal.content(b"a file")
-            journal.bookmark(BOOKMARK, ROOT.id)
+            self.fill(journal)
+            self.entries = journal.count
         before = self.tools.preloaded(self.syncs)
-        with program.serve(self.file, lanes=self.clients, before=before) as self.served:
+        with program.serve(self.file, lanes=self.lanes, before=before) as self.served:
             self.warm(program)
             yield
             self.check()
         self.file.unlink()
+
+    @property
+    def lanes(self) -> int:
+        """So many connections at once are served."""
+        return self.clients
+
+    def fill(self, journal: Journal) -> None:
+        """What the file has at first."""
+        self.content = journal.content(b"a file")
+        journal.bookmark(BOOKMARK, ROOT.id)
 
     def warm(self, program: Program) -> None:
         """Turns that don't count, until there are drafts enough for one."""
@@ -209,14 +226,21 @@ class Server(Side):
 
     def take(self) -> None:
         ids = self.upload()
-        port = self.served.address[1]
-        words = (self.tools.folder / "landers", port, BOOKMARK, self.clients, TURN_MILLISECONDS)
         with self.counted(), self.cost.measure(self.served.pid):
-            turn = self.tools.turn(words, "".join(it + "\n" for it in ids))
+            turn = self.tools.turn(self.landers(TURN_MILLISECONDS), lines(ids))
         self.turns.append(turn)
+        self.count(ids, turn, TURN_SECONDS)
+
+    def landers(self, milliseconds: str) -> tuple:
+        """The words that land for so long."""
+        port = self.served.address[1]
+        return (self.tools.folder / "landers", port, BOOKMARK, self.clients, milliseconds)
+
+    def count(self, ids: list[str], turn: Turn, seconds: float) -> None:
+        """What a turn made. Where it didn't take so long, there are more drafts in the next."""
         self.taken += 1
         self.entries += len(ids) + len(turn.each)
-        if turn.seconds < TURN_SECONDS:
+        if turn.seconds < seconds:
             self.drafts = min(2 * self.drafts, FARTHEST // self.clients)
 
     def upload(self) -> list[str]:

@@ -5,7 +5,7 @@ from __future__ import annotations
 import random
 from collections.abc import Iterator
 
-from jarrah_client.changesets import Changeset, File
+from jarrah_client.formats.changesets import Changeset, File
 
 from .journal import ROOT, Journal, drafted
 from .link import Link, opened
