@@ -2,6 +2,7 @@
 #![tactic(auto)]
 
 pub mod alone;
+pub mod content_places;
 pub mod content_reads;
 pub mod counts;
 pub mod derived;
@@ -28,6 +29,7 @@ pub mod state;
 pub mod store;
 
 pub use alone::Alone;
+pub use content_places::ContentPlaces;
 pub use derived::settle_fault;
 pub use exchanged::Exchanged;
 pub use left::Left;

@@ -5,6 +5,7 @@
 
 mod calls;
 mod changes;
+mod contents;
 mod derivation;
 mod derivation_turns;
 mod landing;

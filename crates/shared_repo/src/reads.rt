@@ -1,30 +1,28 @@
-//! Reads of a repository that many seats share. A content's bytes are hashed, a changeset is encoded and its copies
-//! are told outside of the turn, and what a read of manifests lacks is derived before its turn.
+//! Reads of a repository that many seats share. A changeset is encoded and its copies are told outside of the turn, and
+//! what a read of manifests lacks is derived before its turn.
 ghost use Rattle.std.specs.Prelude.{◌≡◌, ◌≤◌, false, Some, IfOk, IfErr, IsTrue, None};
 ghost use Rattle.std.specs.Arc.{arc_value};
-ghost use Rattle.sha2.specs.Sha256.{sha256};
 ghost use Rattle.bookmark_lock.specs.Place.{moved};
 ghost use Rattle.bookmark_lock.specs.Turns.{IsTurn};
-ghost use Rattle.reply_model.specs.Reply.{HeadOf, SeenHead, ContentOf, ChangesetOf, CopiesOf};
+ghost use Rattle.reply_model.specs.Reply.{HeadOf, SeenHead, ChangesetOf, CopiesOf};
 ghost use Rattle.history_model.specs.Bookmark.{head};
 ghost use Rattle.history_model.specs.History.{changeset_of, known};
 ghost use Rattle.reply_model.specs.After.{After, Answer, Answers, Looks, Replies, Shows, nothing, SeesMore};
-ghost use Rattle.repo_calls.specs.Asking.{IsAnswer, bytes_answer, fault_answer, is_bad_bytes, question_seen};
+ghost use Rattle.repo_calls.specs.Asking.{IsAnswer, fault_answer, is_bad_bytes, question_seen};
 ghost use Rattle.repo_state.specs.State.{reach};
 ghost use Rattle.shared_repo.specs.Derivation.{AsksManifestOf};
 ghost use Rattle.shared_repo.specs.Front.{IsFront, history_of, opening_of, sealed_of, disk_of, most_waiting};
-ghost use Rattle.shared_repo.specs.Reading.{IsReadOf};
 
 use crate::repo::Repo;
 use crate::seat::RepoSeat;
-use crate::turns::{TurnRead, changeset_in, content_in, head_in};
+use crate::turns::{TurnRead, changeset_in, head_in};
 use blob_disk::Disk;
 use bonsai::{Commit, encode};
 use object_id::Id;
 use repo_calls::{AskFault, Question, Seen};
 use repo_machine::copied_paths;
 use repo_path::BookName;
-use repo_state::{ReadContent, RepoState, check_digest};
+use repo_state::RepoState;
 use std::alloc::Global;
 use std::sync::{Arc, Wait};
 
@@ -141,60 +139,6 @@ impl<D: Disk> Repo<D> {
         self.look_in_turn(rt, alloc, seat, question)
     }
 
-    // The bytes of a content. They are hashed outside of the turn, and where they have another id the bytes of its parts, too.
-    fn checked_content<R: Wait>(
-        &self,
-        rt: &R,
-        alloc: Global,
-        seat: &mut RepoSeat,
-        id: Id,
-    ) -> Result<Seen, AskFault>
-        requires place { seat.old.lock ≡ self.now }
-        ensures seat { seat.new ≡ moved seat.old seat.new }
-        ensures seals { seat.old.sealed ≤ seat.new.sealed }
-        ensures after { (answer : Answer) × IsAnswer result answer × After self.now.opening.header seat.old.front seat.old.number (Looks (ContentOf id)) answer seat.new.front }
-        ensures honest { IsTrue self.now.opening.honest → is_bad_bytes result ≡ false }
-        ensures front { IsFront self.now.opening seat.new.front }
-    {
-        let read = match self.content_unchecked(rt, alloc, seat, id) {
-            Ok(read) => read,
-            Err(fault) => return Err(fault),
-        };
-        seen(check_digest(read, id))
-    }
-
-    // The turn of a content's read.
-    fn content_unchecked<R: Wait>(
-        &self,
-        rt: &R,
-        alloc: Global,
-        seat: &mut RepoSeat,
-        id: Id,
-    ) -> Result<ReadContent, AskFault>
-        requires place { seat.old.lock ≡ self.now }
-        ensures seat { seat.new ≡ moved seat.old seat.new }
-        ensures seals { seat.old.sealed ≤ seat.new.sealed }
-        ensures ok { IfOk result (λ read. SeesMore seat.old.front seat.old.number seat.new.front × IsReadOf seat.new.front id read) }
-        ensures err { IfErr result (λ fault. After self.now.opening.header seat.old.front seat.old.number (Looks (ContentOf id)) (fault_answer fault) seat.new.front) }
-        ensures honest { IsTrue self.now.opening.honest → IfOk result (λ read. sha256 read.bytes.items ≡ id) }
-        ensures unchecked { is_bad_bytes result ≡ false }
-        ensures front { IsFront self.now.opening seat.new.front }
-    {
-        let who = seat.inner.number();
-        self.lock.enter(
-            rt,
-            &mut seat.inner,
-            |state: &mut RepoState<D>| -> (bool, Result<ReadContent, AskFault>)
-                ensures ok { IfOk result.1 (λ read. (state.new.history ≡ state.old.history) × IsReadOf state.old.history id read) }
-                ensures err { IfErr result.1 (λ fault. Replies state.old.opening.header state.old.history who (Looks (ContentOf id)) (fault_answer fault) state.new.history) }
-                ensures honest { IsTrue state.old.opening.honest → IfOk result.1 (λ read. sha256 read.bytes.items ≡ id) }
-                ensures unchecked { is_bad_bytes result.1 ≡ false }
-                ensures turn { IsTurn history_of opening_of sealed_of reach disk_of most_waiting who None state.old state.new result.0 }
-                ensures front { IsFront state.new.opening state.new.history }
-            { content_in(state, alloc, who, id) },
-        )
-    }
-
     // The encoding of a changeset, which is made outside of the turn.
     #[tactic(auto, using(crate::proofs::Fronts::after_nothing))]
     fn encoded_changeset<R: Wait>(
@@ -280,16 +224,5 @@ impl<D: Disk> Repo<D> {
                 ensures front { IsFront state.new.opening state.new.history }
             { (false, changeset_in(state, id)) },
         )
-    }
-}
-
-// The bytes that a read sees, if it sees some.
-fn seen(bytes: Result<Vec<u8>, AskFault>) -> Result<Seen, AskFault>
-    ensures answer { IsAnswer result (bytes_answer bytes) }
-    ensures bad { is_bad_bytes result ≡ is_bad_bytes bytes }
-{
-    match bytes {
-        Ok(bytes) => Ok(Seen::Bytes(bytes)),
-        Err(fault) => Err(fault),
     }
 }

@@ -1,8 +1,10 @@
 //! Repositories over memory that seats share: landings between which a gate moves the bookmark, their moments by a clock,
-//! roots that are derived, contents that are joined, a disk that fails, and threads that store at once. Helpers have no contract beyond what their
-//! calls need, so that a test's proof doesn't carry what they call.
+//! roots that are derived, contents that are joined, second handles of a disk, a disk that fails, and threads that store at
+//! once. Helpers have no contract beyond what their calls need, so that a test's proof doesn't carry what they call.
 #![tactic(auto)]
 
+#[cfg(test)]
+mod cold_reads;
 #[cfg(test)]
 mod derivation;
 #[cfg(test)]
@@ -17,6 +19,8 @@ mod looks;
 mod meanwhile;
 #[cfg(test)]
 mod moments;
+#[cfg(test)]
+mod peered;
 #[cfg(test)]
 mod repository;
 #[cfg(test)]

@@ -67,12 +67,19 @@ pub(crate) fn repository_on<D: Disk>(alloc: Global, disk: D) -> Result<RepoState
 {
     let mut disk = disk;
     make_file(&mut disk)?;
+    opened_on(alloc, disk)
+}
+
+/// The repository in a file.
+pub(crate) fn opened_on<D: Disk>(alloc: Global, disk: D) -> Result<RepoState<D>, Fail>
+    ensures { IfOk result (λ state. IsAllSealed state.history state.sealed) }
+{
     open_file(alloc, keys()?, disk)
 }
 
 /// How many entries the repository in a file has.
 pub(crate) fn entries_in<D: Disk>(alloc: Global, disk: D) -> Result<u64, Fail> {
-    let state = open_file(alloc, keys()?, disk)?;
+    let state = opened_on(alloc, disk)?;
     Ok(state.stored_length())
 }
 
