@@ -7,19 +7,21 @@ use mathlib.Core.List.{IsPrefix}
 use Rattle.history_model.specs.History.{Body, Content, Whole, Change, Book, Land, Policy, Fault, Entry, bodies, stored, unnumbered, is_breaking, is_down, is_stored}
 use Rattle.history_model.specs.Journal.{Header}
 use Rattle.http_model.specs.Stream.{Request}
-use Rattle.reply_model.specs.After.{Call, Asks, Joins, Looks, Derives, Answer, entry_by, entries_of}
-use Rattle.reply_model.specs.Reply.{PutContent, PutWhole, PutChangeset, SetBookmark, LandDraft, SetPolicy}
+use Rattle.reply_model.specs.After.{Relation, Call, Asks, Joins, Looks, Derives, Answer, Grants, Memory, entry_by, entries_of}
+use Rattle.reply_model.specs.Reply.{LogFrom, PutContent, PutWhole, PutChangeset, SetBookmark, LandDraft, SetPolicy}
 use Rattle.session_model.specs.Asking as asking
 use Rattle.session_model.specs.Asking.{Asked, asked}
+use Rattle.stacked_calls.specs.Chain.{OnWay, AreGranted, SeesOn, Chained}
 use Rattle.session_model.specs.Dating.{Dated}
 use Rattle.session_model.specs.Session.{Answers, AnswersAsked, Serves}
 use Rattle.http_front.specs.declared.ended.Ended.{Ended}
 use Rattle.http_front.specs.declared.ended.Ended.TheVariants as ends
+use Rattle.http_front.specs.Dating.{DatedBy}
 use Rattle.http_front.specs.Serving.{EndsAs, Finished, Start}
 use Rattle.repo_calls.specs.Replying.{Honestly}
 use Rattle.repo_state.specs.Alone.{SealedAlone}
 use Rattle.repo_state.specs.State.{faults_in}
-use Rattle.command_line.specs.Sessions.{IsOfSeat}
+use Rattle.command_line.specs.Sessions.{EntersNone, IsOfSeat}
 
 -- the later history is the one before, and entries of the seat
 pub record Adds (who : ℕ) (h after : List Entry) : Type 0 where
@@ -69,22 +71,41 @@ dated_add tells honest n header h who (Joins body) answer after r = replies_add 
 dated_add tells honest n header h who (Looks question) answer after r = replies_add n header h who (Looks question) answer after r.answered
 dated_add tells honest n header h who (Derives x) answer after r = replies_add n header h who (Derives x) answer after r.answered
 
-asked_adds : (tells : ℕ → Type 0) (honest : Bool) (n : ℕ) (header : Header) (who : ℕ) (h : List Entry) (a : Asked) (q : Request) (out : List ℕ) (after : List Entry) → AnswersAsked (Dated tells (Honestly honest (SealedAlone n))) header who h a q out after → Adds who h after
+-- also the calls of a list, of which each is sealed by itself
+granted_add : (tells : ℕ → Type 0) (honest : Bool) (n : ℕ) (end : Answer) (header : Header) (who : ℕ) (h : List Entry) (calls : List Call) (new : List Entry) → AreGranted (OnWay (DatedBy tells (Honestly honest (SealedAlone n)) EntersNone) end) header who h calls new → Adds who h new
+granted_add tells honest n end header who h [] new is = nothing_added who h new is
+granted_add tells honest n end header who h (call ∷ calls) new is = adds_then who h is.1 new (by is.2) (granted_add tells honest n end header who is.1 calls new is.3)
+  where
+    by : OnWay (DatedBy tells (Honestly honest (SealedAlone n)) EntersNone) end header h who call (Grants is.0) is.1 → Adds who h is.1
+    by (inl r) = dated_add tells honest n header h who call (Grants is.0) is.1 r
+    by (inr none) = absurd none.1
+
+sees_add : (tells : ℕ → Type 0) (honest : Bool) (n : ℕ) (header : Header) (who : ℕ) (h new : List Entry) → SeesOn (Dated tells (Honestly honest (SealedAlone n))) header who h new → Adds who h new
+sees_add tells honest n header who h new (inl same) = nothing_added who h new same
+sees_add tells honest n header who h new (inr r) = dated_add tells honest n header h who (Looks (LogFrom 0)) Memory new r
+
+chained_add : (tells : ℕ → Type 0) (honest : Bool) (n : ℕ) (header : Header) (who : ℕ) (h : List Entry) (calls : List Call) (at : ℕ) (answer : Answer) (after : List Entry) → Chained (DatedBy tells (Honestly honest (SealedAlone n)) EntersNone) header who h calls at answer after → Adds who h after
+chained_add tells honest n header who h calls at answer after c =
+    adds_then who h c.between after (granted_add tells honest n answer header who h c.earlier c.between c.granted)
+    (adds_then who c.between c.then after (dated_add tells honest n header c.between who c.call answer c.then c.answered) (sees_add tells honest n header who c.then after c.sees))
+
+asked_adds : (tells : ℕ → Type 0) (honest : Bool) (n : ℕ) (header : Header) (who : ℕ) (h : List Entry) (a : Asked) (q : Request) (out : List ℕ) (after : List Entry) → AnswersAsked (DatedBy tells (Honestly honest (SealedAlone n)) EntersNone) header who h a q out after → Adds who h after
 asked_adds tells honest n header who h (asking.Calls call) q out after answers = dated_add tells honest n header h who call answers.answer after answers.answered
+asked_adds tells honest n header who h (asking.Lists calls) q out after answers = chained_add tells honest n header who h calls answers.at answers.answer after answers.chained
 asked_adds tells honest n header who h (asking.Fails r) q out after answers = nothing_added who h after answers.same
 
-answers_add : (tells : ℕ → Type 0) (honest : Bool) (n : ℕ) (header : Header) (who : ℕ) (h : List Entry) (q : Request) (out : List ℕ) (after : List Entry) → Answers (Dated tells (Honestly honest (SealedAlone n))) header who h q out after → Adds who h after
+answers_add : (tells : ℕ → Type 0) (honest : Bool) (n : ℕ) (header : Header) (who : ℕ) (h : List Entry) (q : Request) (out : List ℕ) (after : List Entry) → Answers (DatedBy tells (Honestly honest (SealedAlone n)) EntersNone) header who h q out after → Adds who h after
 answers_add tells honest n header who h q out after (inl answers) = asked_adds tells honest n header who h (asked q) q out after answers
 answers_add tells honest n header who h q out after (inr alone) = nothing_added who h after alone.same
 
-serves_add : (tells : ℕ → Type 0) (honest : Bool) (n : ℕ) (header : Header) (who : ℕ) (h : List Entry) (requests : List Request) (texts : List (List ℕ)) (after : List Entry) → Serves (Dated tells (Honestly honest (SealedAlone n))) header who h requests texts after → Adds who h after
+serves_add : (tells : ℕ → Type 0) (honest : Bool) (n : ℕ) (header : Header) (who : ℕ) (h : List Entry) (requests : List Request) (texts : List (List ℕ)) (after : List Entry) → Serves (DatedBy tells (Honestly honest (SealedAlone n)) EntersNone) header who h requests texts after → Adds who h after
 serves_add tells honest n header who h [] [] after same = nothing_added who h after same
 serves_add tells honest n header who h (q ∷ requests) (text ∷ texts) after serves =
     adds_then who h serves.0 after (answers_add tells honest n header who h q text serves.0 serves.1) (serves_add tells honest n header who serves.0 requests texts after serves.2)
 serves_add tells honest n header who h [] (text ∷ texts) after serves = absurd serves
 serves_add tells honest n header who h (q ∷ requests) [] after serves = absurd serves
 
-ends_add : (tells : ℕ → Type 0) (honest : Bool) (n : ℕ) (header : Header) (who : ℕ) (h : List Entry) (s out : List ℕ) (after : List Entry) (end : Ended) → EndsAs (Dated tells (Honestly honest (SealedAlone n))) header who h s out after end → Adds who h after
+ends_add : (tells : ℕ → Type 0) (honest : Bool) (n : ℕ) (header : Header) (who : ℕ) (h : List Entry) (s out : List ℕ) (after : List Entry) (end : Ended) → EndsAs (DatedBy tells (Honestly honest (SealedAlone n)) EntersNone) header who h s out after end → Adds who h after
 ends_add tells honest n header who h s out after ends.Whole session = serves_add tells honest n header who h session.requests session.texts after session.serves
 ends_add tells honest n header who h s out after ends.Closed session = serves_add tells honest n header who h session.requests session.texts after session.serves
 ends_add tells honest n header who h s out after (ends.Cut read) session = serves_add tells honest n header who h session.requests session.texts after session.serves
@@ -93,7 +114,7 @@ ends_add tells honest n header who h s out after ends.Spent session = serves_add
 ends_add tells honest n header who h s out after ends.LinkFault broken = serves_add tells honest n header who h broken.requests broken.texts after broken.serves
 ends_add tells honest n header who h s out after ends.Memory began = nothing_added who h after began.same
 
-pub session_adds : (tells : ℕ → Type 0) (honest : Bool) (n : ℕ) (from : Start) (h : List Entry) (rest written : Option (List ℕ)) (end : Ended) → Finished (Dated tells (Honestly honest (SealedAlone n))) from h rest written end → Adds from.who from.history h
+pub session_adds : (tells : ℕ → Type 0) (honest : Bool) (n : ℕ) (from : Start) (h : List Entry) (rest written : Option (List ℕ)) (end : Ended) → Finished (DatedBy tells (Honestly honest (SealedAlone n)) EntersNone) from h rest written end → Adds from.who from.history h
 session_adds tells honest n from h rest written end finished = ends_add tells honest n from.header from.who from.history finished.read finished.out h end finished.ends
 
 pub adds_prefix : (who : ℕ) (h after : List Entry) → Adds who h after → IsPrefix h after

@@ -17,7 +17,7 @@ use Rattle.http_front.specs.declared.ended.Ended.{Ended}
 use Rattle.http_front.specs.declared.ended.Ended.TheVariants as ends
 use Rattle.http_front.specs.Serving.{Finished}
 use Rattle.repo_calls.specs.Replying.{Honestly}
-use Rattle.session_model.specs.Dating.{Dated}
+use Rattle.http_front.specs.Dating.{DatedBy}
 use Rattle.repo_state.specs.Alone.{SealedAlone}
 use Rattle.repo_state.specs.Images.{Leaves, sealed_part}
 use Rattle.repo_state.specs.State.{State, Covers, HasNoFault, IsAllSealed, IsSealedAlone, IsSound, faults_in, opening_of, reach}
@@ -32,7 +32,7 @@ use Rattle.command_line.specs.Opening.{IsSettled, Opens, OpensIn}
 use Rattle.command_line.specs.declared.came.Came.{Came}
 use Rattle.command_line.specs.Outside.{Told}
 use Rattle.command_line.specs.declared.status.Status.{Status}
-use Rattle.command_line.specs.Sessions.{IsCalm, LeavesFile, Serves, ServesFile, session_status}
+use Rattle.command_line.specs.Sessions.{EntersNone, IsCalm, LeavesFile, Serves, ServesFile, session_status}
 use Rattle.command_line.specs.Serving.{ClosesFile}
 use Rattle.command_line.proofs.Entries.{session_adds, adds_prefix, adds_own, of_seat-stored, down_has_fault}
 
@@ -113,7 +113,7 @@ closes_file header opened h n upto journal first read m whole opens begins seale
 -- a repository that is served alone, from its opening to the end of its session
 pub session_serves : {D : Type 0} (meaning : D → Meaning) (tells : ℕ → Type 0) (header : Header) (opened : List Entry) (journal : JournalView) (read : Meaning) (old new : Told) (first seat after last : State) (end : Ended) (disk : D) (status : Status)
     → first.header ≡ header → first.history ≡ opened → first.opening ≡ opening_of header journal.opening read → seat ≡ first
-    → Finished (Dated tells (Honestly seat.opening.honest (SealedAlone after.sealed))) (record { header = seat.header; who = 0; history = seat.history; rest = old.rest; written = old.written }) after.history new.rest new.written end
+    → Finished (DatedBy tells (Honestly seat.opening.honest (SealedAlone after.sealed)) EntersNone) (record { header = seat.header; who = 0; history = seat.history; rest = old.rest; written = old.written }) after.history new.rest new.written end
     → after.opening ≡ seat.opening → last ≡ after → (end ≡ ends.LinkFault → Rose old.faults new.faults)
     → status ≡ session_status (is_down last.history) end → IsSealedAlone last.history last.sealed
     → meaning disk ≡ last.disk → IsSound last.opening last.history last.sealed (reach last) last.disk
@@ -127,10 +127,10 @@ session_serves meaning tells header opened journal read old new first seat after
       disk_is = refl;
       history = last.history;
       end = end;
-      session = subst (λ (s : State). Finished (Dated tells (Honestly read.honest (SealedAlone s.sealed))) (record { header = header; who = 0; history = opened; rest = old.rest; written = old.written }) s.history new.rest new.written end) (sym last_is)
-          (subst (λ b. Finished (Dated tells (Honestly b (SealedAlone after.sealed))) (record { header = header; who = 0; history = opened; rest = old.rest; written = old.written }) after.history new.rest new.written end) honest
-          (subst (λ (h : List Entry). Finished (Dated tells (Honestly seat.opening.honest (SealedAlone after.sealed))) (record { header = header; who = 0; history = h; rest = old.rest; written = old.written }) after.history new.rest new.written end) (ap (λ (s : State). s.history) seat_is ∙ history_is)
-          (subst (λ (x : Header). Finished (Dated tells (Honestly seat.opening.honest (SealedAlone after.sealed))) (record { header = x; who = 0; history = seat.history; rest = old.rest; written = old.written }) after.history new.rest new.written end) (ap (λ (s : State). s.header) seat_is ∙ header_is) finished)));
+      session = subst (λ (s : State). Finished (DatedBy tells (Honestly read.honest (SealedAlone s.sealed)) EntersNone) (record { header = header; who = 0; history = opened; rest = old.rest; written = old.written }) s.history new.rest new.written end) (sym last_is)
+          (subst (λ b. Finished (DatedBy tells (Honestly b (SealedAlone after.sealed)) EntersNone) (record { header = header; who = 0; history = opened; rest = old.rest; written = old.written }) after.history new.rest new.written end) honest
+          (subst (λ (h : List Entry). Finished (DatedBy tells (Honestly seat.opening.honest (SealedAlone after.sealed)) EntersNone) (record { header = header; who = 0; history = h; rest = old.rest; written = old.written }) after.history new.rest new.written end) (ap (λ (s : State). s.history) seat_is ∙ history_is)
+          (subst (λ (x : Header). Finished (DatedBy tells (Honestly seat.opening.honest (SealedAlone after.sealed)) EntersNone) (record { header = x; who = 0; history = seat.history; rest = old.rest; written = old.written }) after.history new.rest new.written end) (ap (λ (s : State). s.header) seat_is ∙ header_is) finished)));
       status_is = status_is;
       link_fault = link_fault;
       sealed = last.sealed;
@@ -158,7 +158,7 @@ serves_file meaning tells whole file shelf old new ran header opened journal dis
       opens = opens.opens;
       history = serves.history;
       end = serves.end;
-      session = subst (λ honest. Finished (Dated tells (Honestly honest (SealedAlone serves.sealed))) (record { header = header; who = 0; history = opened; rest = old.rest; written = old.written }) serves.history new.rest new.written serves.end) opens.opens.unharmed.kept.honest serves.session;
+      session = subst (λ honest. Finished (DatedBy tells (Honestly honest (SealedAlone serves.sealed)) EntersNone) (record { header = header; who = 0; history = opened; rest = old.rest; written = old.written }) serves.history new.rest new.written serves.end) opens.opens.unharmed.kept.honest serves.session;
       status_is = serves.status_is;
       link_fault = serves.link_fault;
       legal = closes.legal;

@@ -2,6 +2,7 @@
 --     status_of end, session_status down end      the status that the end of a session gives, and that of a run where the history holds a breaking fault or not
 --     IsOfSeat who h      the seat made all entries
 --     LeavesFile header opened h n reach moment first m      what a crash leaves of the file, where the first n stored entries are sealed, and the first reach are left at most
+--     EntersNone      of a list each change is sealed before the next is made
 --     Serves meaning tells header opened journal read old new ran      one connection is served on an opened repository, whose disk was told so once all was read, by a clock that tells such moments
 --     ServesFile meaning tells file shelf old new ran      one is served on the repository in the file that an opener tells for the name
 use Rattle.std.specs.Prelude.{◌≡◌, ℕ, ◌≤◌, Bool, true, false, if◌then◌else◌, IsTrue, List, length, Option, Some}
@@ -15,10 +16,11 @@ use Rattle.disk_model.specs.Meaning.{Meaning, LeftSince}
 use Rattle.disk_model.specs.Calls.{Kept, LeavesOnly}
 use Rattle.history_model.specs.History.{Entry, bodies, is_down}
 use Rattle.history_model.specs.Journal.{Header, Stands}
+use Rattle.reply_model.specs.After.{Relation}
 use Rattle.reply_model.specs.Legal.{IsLegal}
 use Rattle.repo_journal.specs.View.{JournalView}
 use Rattle.repo_calls.specs.Replying.{Honestly}
-use Rattle.session_model.specs.Dating.{Dated}
+use Rattle.http_front.specs.Dating.{DatedBy}
 use Rattle.repo_state.specs.Alone.{SealedAlone}
 use Rattle.repo_state.specs.Images.{StandsNow, StandsSince}
 use Rattle.repo_state.specs.State.{Covers, HasNoFault, IsSealedAlone, IsSound, faults_in, opening_of}
@@ -58,6 +60,10 @@ pub record LeavesFile (header : Header) (opened h : List Entry) (n reach moment 
 abbrev pub IsCalm : Header → List Entry → Meaning → Type 0
 IsCalm header h m = ForSome m.quiet (λ most. header.capacity ≤ most → HasNoFault h)
 
+-- no change of a list waits for the seal of another one
+abbrev pub EntersNone : Relation
+EntersNone header h who call answer new = ⊥
+
 -- from the opened repository to the end
 pub record Serves {D : Type 0} (meaning : D → Meaning) (tells : ℕ → Type 0) (header : Header) (opened : List Entry) (journal : JournalView) (read : Meaning) (old new : Told) (ran : Came D) : Type 0 where
   pub disk : D
@@ -67,7 +73,7 @@ pub record Serves {D : Type 0} (meaning : D → Meaning) (tells : ℕ → Type 0
   -- all that was granted is sealed: only the entry of a change that the disk failed may not be
   pub sealed : ℕ
   pub all_sealed : IsSealedAlone history sealed
-  pub session : Finished (Dated tells (Honestly read.honest (SealedAlone sealed))) (record { header = header; who = 0; history = opened; rest = old.rest; written = old.written }) history new.rest new.written end
+  pub session : Finished (DatedBy tells (Honestly read.honest (SealedAlone sealed)) EntersNone) (record { header = header; who = 0; history = opened; rest = old.rest; written = old.written }) history new.rest new.written end
   pub status_is : ran.status ≡ session_status (is_down history) end
   pub link_fault : end ≡ ends.LinkFault → Rose old.faults new.faults
   pub sound : IsSound (opening_of header journal.opening read) history sealed (length (bodies history)) (meaning disk)
@@ -90,7 +96,7 @@ pub record ServesFile {D : Type 0} (meaning : D → Meaning) (tells : ℕ → Ty
   pub sealed_first : length opened ≤ sealed
   -- the session, whose landings are made at moments that the clock tells, and whose grants stand among what is sealed
   pub end : Ended
-  pub session : Finished (Dated tells (Honestly (meaning first).honest (SealedAlone sealed))) (record { header = header; who = 0; history = opened; rest = old.rest; written = old.written }) history new.rest new.written end
+  pub session : Finished (DatedBy tells (Honestly (meaning first).honest (SealedAlone sealed)) EntersNone) (record { header = header; who = 0; history = opened; rest = old.rest; written = old.written }) history new.rest new.written end
   pub status_is : ran.status ≡ session_status (is_down history) end
   pub link_fault : end ≡ ends.LinkFault → Rose old.faults new.faults
   pub legal : IsLegal header history

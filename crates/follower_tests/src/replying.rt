@@ -3,8 +3,8 @@ use crate::repository::new_alone;
 use blob_disk::Disk;
 use http_front::session::serve_session;
 use ports::{FixedClock, Link, MemLink};
-use repo_calls::Seat;
 use repo_state::Alone;
+use stacked_calls::StackSeat;
 use std::alloc::{AllocError, Global};
 use std::test::Fail;
 
@@ -101,20 +101,20 @@ pub(crate) fn link_with(
 }
 
 // Serves a link.
-fn serve<T: Seat, L: Link>(alloc: Global, seat: &mut T, link: &mut L) {
+fn serve<T: StackSeat, L: Link>(alloc: Global, seat: &mut T, link: &mut L) {
     let clock = FixedClock { moment: 1_000 };
     let _ended = serve_session(alloc, seat, link, &clock);
 }
 
 // What is replied to these requests.
-fn session<T: Seat>(alloc: Global, seat: &mut T, requests: Vec<u8>) -> Result<Vec<u8>, Fail> {
+fn session<T: StackSeat>(alloc: Global, seat: &mut T, requests: Vec<u8>) -> Result<Vec<u8>, Fail> {
     let mut link = link_with(alloc, requests, Vec::new(alloc), Vec::new(alloc))?;
     serve(alloc, seat, &mut link);
     Ok(Vec::from_slice(alloc, link.written())?)
 }
 
 // What is replied to a follower that asks for these targets, after these changes.
-fn told<T: Seat>(
+fn told<T: StackSeat>(
     alloc: Global,
     seat: &mut T,
     changes: &str,

@@ -20,6 +20,7 @@ use Rattle.repo_calls.specs.declared.calls.Seen.TheVariants as seen
 use Rattle.repo_calls.specs.Asking.{fault_answer, question_seen, copies_seen, IsAnswer}
 use Rattle.repo_calls.specs.Replying as replying
 use Rattle.repo_calls.specs.Replying.{MakesNothing, SeenKind, HeadKind, BytesKind, PageKind, IdsKind, CopiesKind, kind_of, IsReplying}
+use Rattle.stacked_calls.specs.Chain.{Answering}
 use Rattle.session_model.specs.declared.status.Status.TheVariants.{Fine}
 use Rattle.session_model.specs.Responses.{Response, text_of}
 use Rattle.session_model.specs.Bodies.{json, octets, log_body, memory}
@@ -32,13 +33,13 @@ use Rattle.routes.specs.declared.route_refusal.RouteRefusal.TheVariants as route
 use Rattle.routes.specs.Failed.{failed, unless_memory}
 use Rattle.repo_text.specs.Refusing.{response_to}
 use Rattle.repo_text.proofs.Answered.{change_response-refused}
-use Rattle.http_front.specs.Answered.{IsPut, Replied}
+use Rattle.http_front.specs.Answered.{IsPut, Replied, RepliedAll}
 use Rattle.http_front.specs.Reading as reading
 use Rattle.http_front.specs.Reading.{seen_response, Suits, SuitsKind}
 use Rattle.http_front.proofs.Uploads.{content_is_body}
 
 -- a refusal makes nothing
-makes_nothing : (refusal : calls.Refusal) → MakesNothing (refused refusal)
+pub makes_nothing : (refusal : calls.Refusal) → MakesNothing (refused refusal)
 makes_nothing refusals.Down = tt
 makes_nothing (refusals.TooLong n) = tt
 makes_nothing (refusals.BadEncoding at) = tt
@@ -223,31 +224,37 @@ module _ (replies : Relation) (header : Header) (h : List Entry) (who : ℕ) whe
   fault_answers question fault answer close head_only text after is answered e =
       record { answer = answer; answered = answered; text = e (question_seen question) ∙ ap (λ a. text_of (read_response (question_seen question) a) close head_only) (sym is) }
 
+module _ (answering : Answering) (header : Header) (h : List Entry) (who : ℕ) where
   -- a request is answered by the change that it asks for
   pub change_answers : (q : Request) (ask : Ask) (text : List ℕ) (after : List Entry) → asked q ≡ model.Calls (call_seen ask)
-      → Replied replies header who h (call_seen ask) (change_response (call_seen ask)) q.close (is_head_only q) text after → Answers replies header who h q text after
+      → Replied answering.replies header who h (call_seen ask) (change_response (call_seen ask)) q.close (is_head_only q) text after → Answers answering header who h q text after
   change_answers q ask text after is r =
       let same = r.text ∙ ap (λ x. text_of x q.close (is_head_only q)) (response_to_change ask r.answer) in
-      inl (subst (λ b. AnswersAsked replies header who h b q text after) (sym is) (record { answer = r.answer; answered = r.answered; text = same }))
+      inl (subst (λ b. AnswersAsked answering header who h b q text after) (sym is) (record { answer = r.answer; answered = r.answered; text = same }))
 
   -- or by a content, where it's the body that is stored
   pub content_answers : (q : Request) (bytes : List ℕ) (text : List ℕ) (after : List Entry) → asked q ≡ model.Calls (Asks (reply.PutContent bytes))
-      → Replied replies header who h (Asks (reply.PutContent q.body)) (change_response (Asks (reply.PutContent q.body))) q.close (is_head_only q) text after → Answers replies header who h q text after
+      → Replied answering.replies header who h (Asks (reply.PutContent q.body)) (change_response (Asks (reply.PutContent q.body))) q.close (is_head_only q) text after → Answers answering header who h q text after
   content_answers q bytes text after asks r =
       let stored = asks ∙ ap (λ b. model.Calls (Asks (reply.PutContent b))) (content_is_body q bytes asks) in
-      inl (subst (λ b. AnswersAsked replies header who h b q text after) (sym stored) (record { answer = r.answer; answered = r.answered; text = r.text }))
+      inl (subst (λ b. AnswersAsked answering header who h b q text after) (sym stored) (record { answer = r.answer; answered = r.answered; text = r.text }))
 
   -- or by the read
   pub read_answers : (q : Request) (question : reply.Question) (text : List ℕ) (after : List Entry) → asked q ≡ model.Calls (Looks question)
-      → Replied replies header who h (Looks question) (read_response question) q.close (is_head_only q) text after → Answers replies header who h q text after
-  read_answers q question text after asks r = inl (subst (λ b. AnswersAsked replies header who h b q text after) (sym asks) (record { answer = r.answer; answered = r.answered; text = r.text }))
+      → Replied answering.replies header who h (Looks question) (read_response question) q.close (is_head_only q) text after → Answers answering header who h q text after
+  read_answers q question text after asks r = inl (subst (λ b. AnswersAsked answering header who h b q text after) (sym asks) (record { answer = r.answer; answered = r.answered; text = r.text }))
 
-  fails_by : (q : Request) (r : Response) (text : List ℕ) → asked q ≡ model.Fails r → text ≡ text_of r q.close (is_head_only q) → Answers replies header who h q text h
-  fails_by q r text asks e = inl (subst (λ b. AnswersAsked replies header who h b q text h) (sym asks) (record { same = refl; text = e }))
+  -- or by the calls of a list
+  pub list_answers : (q : Request) (calls : List Call) (text : List ℕ) (after : List Entry) → asked q ≡ model.Lists calls → RepliedAll answering header who h calls q.close (is_head_only q) text after → Answers answering header who h q text after
+  list_answers q calls text after asks r =
+      inl (subst (λ b. AnswersAsked answering header who h b q text after) (sym asks) (record { at = r.at; answer = r.answer; chained = r.chained; text = r.text }))
+
+  fails_by : (q : Request) (r : Response) (text : List ℕ) → asked q ≡ model.Fails r → text ≡ text_of r q.close (is_head_only q) → Answers answering header who h q text h
+  fails_by q r text asks e = inl (subst (λ b. AnswersAsked answering header who h b q text h) (sym asks) (record { same = refl; text = e }))
 
   -- a request that asks for nothing is answered by why
   pub route_refusal_answers : (q : Request) (refusal : RouteRefusal) (text : List ℕ)
-      → unless_memory refusal (asked q ≡ model.Fails (failed refusal)) → text ≡ text_of (failed refusal) q.close (is_head_only q) → Answers replies header who h q text h
+      → unless_memory refusal (asked q ≡ model.Fails (failed refusal)) → text ≡ text_of (failed refusal) q.close (is_head_only q) → Answers answering header who h q text h
   route_refusal_answers q route_refusals.BadTarget text asks e = fails_by q (failed route_refusals.BadTarget) text asks e
   route_refusal_answers q route_refusals.NoRoute text asks e = fails_by q (failed route_refusals.NoRoute) text asks e
   route_refusal_answers q (route_refusals.Method m) text asks e = fails_by q (failed (route_refusals.Method m)) text asks e
@@ -255,5 +262,6 @@ module _ (replies : Relation) (header : Header) (h : List Entry) (who : ℕ) whe
   route_refusal_answers q (route_refusals.BadId at) text asks e = fails_by q (failed (route_refusals.BadId at)) text asks e
   route_refusal_answers q (route_refusals.BadPath at) text asks e = fails_by q (failed (route_refusals.BadPath at)) text asks e
   route_refusal_answers q route_refusals.BadNumber text asks e = fails_by q (failed route_refusals.BadNumber) text asks e
+  route_refusal_answers q (route_refusals.BadList at) text asks e = fails_by q (failed (route_refusals.BadList at)) text asks e
   route_refusal_answers q route_refusals.BadCaller text asks e = fails_by q (failed route_refusals.BadCaller) text asks e
   route_refusal_answers q route_refusals.Memory text asks e = inr (record { same = refl; text = e })

@@ -11,7 +11,7 @@ use Rattle.http_front.specs.Answered.{Replied}
 use Rattle.http_front.specs.Dating.{IsDated}
 
 -- the body of a landing's response doesn't tell when it was
-granted_at : (caller name draft : List ℕ) (t u : ℕ) (g : Granted) → granted (Asks (LandDraft caller name draft t)) g ≡ granted (Asks (LandDraft caller name draft u)) g
+pub granted_at : (caller name draft : List ℕ) (t u : ℕ) (g : Granted) → granted (Asks (LandDraft caller name draft t)) g ≡ granted (Asks (LandDraft caller name draft u)) g
 granted_at caller name draft t u (ContentPut x) = refl
 granted_at caller name draft t u (WholePut x n) = refl
 granted_at caller name draft t u (ChangesetPut x) = refl

@@ -58,8 +58,8 @@ pub(crate) fn store<T: Seat>(
     }
 }
 
-// The same change, where it's a landing at the moment that the clock tells.
-fn dated<'a, C: Clock>(clock: &C, ask: &Ask<'a>) -> Ask<'a>
+/// The same change, where it's a landing at the moment that the clock tells.
+pub(crate) fn dated<'a, C: Clock>(clock: &C, ask: &Ask<'a>) -> Ask<'a>
     ensures { IsDated (C.tells clock.now) (call_seen ask.now) (call_seen result) }
 {
     match ask {
@@ -145,8 +145,13 @@ fn put_stored(buffer: &mut ResponseBuffer, granted: &Granted, size: usize, form:
     buffer.put_body(Status::Fine, &Body::Content { id: *id, size }, form)
 }
 
-// Puts the response to a change that is granted, which takes no memory.
-fn put_granted(buffer: &mut ResponseBuffer, ask: &Ask<'_>, granted: &Granted, form: ResponseForm)
+/// Puts the response to a change that is granted, which takes no memory.
+pub(crate) fn put_granted(
+    buffer: &mut ResponseBuffer,
+    ask: &Ask<'_>,
+    granted: &Granted,
+    form: ResponseForm,
+)
     requires { Fits (call_seen ask.now) (granted_seen granted.now) }
     ensures { buffer.new ≡ text_of (granted_response (call_seen ask.now) (granted_seen granted.now)) form.close form.head_only }
 {

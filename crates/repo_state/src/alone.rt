@@ -24,6 +24,7 @@ use blob_disk::Disk;
 use bonsai::MOST_CONTENT;
 use repo_calls::{Ask, AskFault, ChangeFault, Granted, Question, Refusal, Seat, Seen};
 use repo_machine::FramedContent;
+use stacked_calls::StackSeat;
 use std::alloc::Global;
 use std::marker::Model;
 
@@ -226,4 +227,10 @@ impl<D: Disk> Seat for Alone<D> {
     ghost lawful = { λ opening n. honestly opening.honest (SealedAlone n) (sealed_alone n) };
 
     ghost widens = { λ opening m n le. honestly_wider opening.honest (SealedAlone m) (SealedAlone n) (alone_wider m n le) };
+}
+
+/// Each change is sealed by itself.
+impl<D: Disk> StackSeat for Alone<D> {
+    // None waits for the seal of another one.
+    ghost enters = { λ _ _ _ _ _ _. ⊥ };
 }

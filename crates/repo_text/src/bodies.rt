@@ -2,7 +2,7 @@
 ghost use Rattle.std.specs.Prelude.{◌≡◌, ◌+◌, ◌*◌, ◌≤◌, ◌++◌, [], length, vec_len, vec_capacity, codes, flat_map, map, ◌∷◌};
 ghost use Rattle.std.specs.List.{join_with_byte};
 ghost use Rattle.session_model.specs.Bodies.{coded, content_body, whole_body, bookmark_body, landed_body, policy_body, id_text, ids_text, maybe_id_text, name_text};
-ghost use Rattle.repo_text.specs.Short.{body_text, coded_id, coded_place, bad_bytes, IsShort};
+ghost use Rattle.repo_text.specs.Short.{body_text, coded_id, coded_place, bad_bytes, placed_body, IsShort};
 
 use crate::response::put;
 use itoa::Buffer;
@@ -17,6 +17,9 @@ pub const MOST_CODE: usize = 64;
 
 /// The most ids of a landing's body.
 pub const MOST_LANDED: usize = 100;
+
+/// Room for a place behind the other members of a body.
+pub const PLACE_ROOM: usize = 27;
 
 /// Room for an id in quotes, with its comma.
 pub(crate) const ID_ROOM: usize = 67;
@@ -247,4 +250,18 @@ pub fn put_body(out: &mut Vec<u8>, body: &Body<'_>)
         Body::Policy { number } => put_policy(out, *number),
         Body::BadBytes { wanted, found } => put_bad_bytes(out, wanted, found),
     }
+}
+
+/// Adds a place behind the other members of a body, whose last byte closes it.
+pub fn add_place(body: &mut Vec<u8>, at: usize)
+    requires { vec_len body.old + PLACE_ROOM ≤ vec_capacity body.old }
+    ensures items { body.new.items ≡ placed_body at body.old.items }
+    ensures short { vec_len body.new ≤ vec_len body.old + PLACE_ROOM }
+    ensures room { vec_capacity body.old ≤ vec_capacity body.new }
+{
+    let mut digits = Buffer::new();
+    body.pop();
+    put(body, b",\"at\":");
+    put(body, digits.format(at).as_bytes());
+    put(body, b"}");
 }

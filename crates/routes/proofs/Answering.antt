@@ -8,7 +8,7 @@ use Rattle.session_model.specs.Routes.{Route, is_target, route_of}
 use Rattle.session_model.specs.Asking.{Asked, Fails, asked, asked_or, by_route}
 use Rattle.routes.specs.declared.asking.Call.{Call}
 use Rattle.routes.specs.declared.route_refusal.RouteRefusal.{RouteRefusal}
-use Rattle.routes.specs.declared.route_refusal.RouteRefusal.TheVariants.{BadTarget, NoRoute, Method, BadName, BadId, BadPath, BadNumber, BadCaller, Memory}
+use Rattle.routes.specs.declared.route_refusal.RouteRefusal.TheVariants.{BadTarget, NoRoute, Method, BadName, BadId, BadPath, BadNumber, BadCaller, BadList, Memory}
 use Rattle.routes.specs.Failed.{failed, unless_memory, Reads}
 use Rattle.routes.specs.Asked.{Asks, call_seen}
 
@@ -21,6 +21,7 @@ fails (BadId at) read h = ap asked_or h
 fails (BadPath at) read h = ap asked_or h
 fails BadNumber read h = ap asked_or h
 fails BadCaller read h = ap asked_or h
+fails (BadList at) read h = ap asked_or h
 fails Memory read h = tt
 
 asks : (r : Result Call RouteRefusal) (read : Result Asked Response) → Reads call_seen r read → Asks r (asked_or read)

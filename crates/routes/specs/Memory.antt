@@ -1,11 +1,11 @@
 -- What needs memory.
 --     HasEscape raw      a parameter that may have an escape
---     TakesMemory route      a route with a bookmark's or a caller's name or a path, which is copied, or with an escape
+--     TakesMemory route      a route with a bookmark's or a caller's name or a path, which is copied, or of a list of changesets, or with an escape
 use Rattle.std.specs.Prelude.{ℕ, ◌==◌, List, IsTrue}
 use Rattle.std.specs.List.{list_any}
 use Rattle.percent_encoding.specs.Percent.{percent_sign}
 use Rattle.session_model.specs.declared.route_name.RouteName.{RouteName}
-use Rattle.session_model.specs.declared.route_name.RouteName.TheVariants.{Contents, Content, Wholes, Changesets, Changeset, Head, Move, Land, Policy, NumberedPolicy, Log, RootFsnode, Fsnode, RootUnode, Unode, RootDeleted, Deleted, History, PathLog, Copies}
+use Rattle.session_model.specs.declared.route_name.RouteName.TheVariants.{Contents, Content, Wholes, Changesets, Changeset, ChangesetList, Head, Move, Land, Stack, Policy, NumberedPolicy, Log, RootFsnode, Fsnode, RootUnode, Unode, RootDeleted, Deleted, History, PathLog, Copies}
 use Rattle.session_model.specs.Routes.{Route, value}
 
 abbrev pub HasEscape : List ℕ → Type 0
@@ -17,9 +17,11 @@ NeedsMemory Content value = HasEscape (value 0)
 NeedsMemory Wholes value = ⊥
 NeedsMemory Changesets value = ⊥
 NeedsMemory Changeset value = HasEscape (value 0)
+NeedsMemory ChangesetList value = Unit {0}
 NeedsMemory Head value = Unit {0}
 NeedsMemory Move value = Unit {0}
 NeedsMemory Land value = Unit {0}
+NeedsMemory Stack value = Unit {0}
 NeedsMemory Policy value = Unit {0}
 NeedsMemory NumberedPolicy value = HasEscape (value 0)
 NeedsMemory Log value = HasEscape (value 0)

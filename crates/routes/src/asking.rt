@@ -1,5 +1,5 @@
 //! What a request asks for.
-ghost use Rattle.std.specs.Prelude.{◌≡◌, IsTrue, IsSome, IfSome, IsSomeAnd, IsErrOf, ◌↔◌, ℕ, List, nat_eq, codes};
+ghost use Rattle.std.specs.Prelude.{◌≡◌, IsTrue, IsSome, IfSome, IsSomeAnd, IfOk, IsErrOf, ◌↔◌, ℕ, List, nat_eq, codes};
 ghost use Rattle.std.specs.List.{starts_with};
 ghost use Rattle.http_wire.specs.Seen.{seen};
 ghost use Rattle.http_model.specs.Head.{path_of};
@@ -11,9 +11,10 @@ ghost use Rattle.matchit.specs.Params.{named, AllText};
 ghost use Rattle.routes.specs.Taken.{taken, part_of, route_taken, Takes};
 ghost use Rattle.routes.specs.Failed.{Reads};
 ghost use Rattle.routes.specs.Memory.{HasEscape, TakesMemory};
-ghost use Rattle.routes.specs.Asked.{Asks, call_seen};
+ghost use Rattle.routes.specs.Asked.{Asks, HasCalls, call_seen};
 
 use crate::arguments::{Arguments, keep};
+use crate::changeset_list::{changesets_of, last_of, puts};
 use crate::parameters::{
     caller_name, id_parameter, maybe_id_parameter, name_parameter, number_parameter, path_parameter,
 };
@@ -30,12 +31,14 @@ use std::str;
 
 /// What a request asks the repository for. It borrows the request's body, and what its arguments stand in. The moment of a
 /// landing is left open, as 0.
-#[derive(Clone, Copy, Debug)]
+#[derive(Debug, Drop)]
 pub enum Call<'a> {
     /// To make a change.
     Change(Ask<'a>),
     /// To answer a read.
     Read(Question<'a>),
+    /// To make changes one after another, up to the first that isn't granted.
+    List(Vec<Ask<'a>>),
 }
 
 fn begins_with_slash(path: &[u8]) -> bool
@@ -126,7 +129,8 @@ fn move_from<'a>(
     arguments: &'a mut Arguments,
 ) -> Result<Call<'a>, RouteRefusal>
     requires { Takes RouteName.Move params.now }
-    ensures { Reads call_seen result (by_route (route_taken RouteName.Move (taken params.now)) (seen request.now)) }
+    ensures call { Reads call_seen result (by_route (route_taken RouteName.Move (taken params.now)) (seen request.now)) }
+    ensures some { IfOk result HasCalls }
 {
     let name = name_from(alloc, params, &mut arguments.name)?;
     let from = maybe_id_parameter(alloc, part(params, "from"))?;
@@ -148,7 +152,8 @@ fn landing_from<'a>(
     arguments: &'a mut Arguments,
 ) -> Result<Call<'a>, RouteRefusal>
     requires { Takes RouteName.Land params.now }
-    ensures { Reads call_seen result (by_route (route_taken RouteName.Land (taken params.now)) (seen request.now)) }
+    ensures call { Reads call_seen result (by_route (route_taken RouteName.Land (taken params.now)) (seen request.now)) }
+    ensures some { IfOk result HasCalls }
 {
     let name = name_from(alloc, params, &mut arguments.name)?;
     let draft = id_from(alloc, params)?;
@@ -162,13 +167,48 @@ fn landing_from<'a>(
     }))
 }
 
+// Changesets that are stored one after another.
+fn list_from<'a>(alloc: Global, request: &'a Request) -> Result<Call<'a>, RouteRefusal>
+    ensures call { (value : ℕ → List ℕ) → Reads call_seen result (by_name RouteName.ChangesetList value (seen request.now)) }
+    ensures some { IfOk result HasCalls }
+{
+    let changesets = changesets_of(alloc, request.body.as_slice())?;
+    Ok(Call::List(puts(alloc, &changesets)?))
+}
+
+// Changesets that are stored one after another, and then landed as one stack.
+fn stack_from<'a>(
+    alloc: Global,
+    params: &Params<'_, '_>,
+    request: &'a Request,
+    arguments: &'a mut Arguments,
+) -> Result<Call<'a>, RouteRefusal>
+    requires { Takes RouteName.Stack params.now }
+    ensures call { Reads call_seen result (by_route (route_taken RouteName.Stack (taken params.now)) (seen request.now)) }
+    ensures some { IfOk result HasCalls }
+{
+    let name = name_from(alloc, params, &mut arguments.name)?;
+    let caller = caller_from(alloc, request, &mut arguments.caller)?;
+    let changesets = changesets_of(alloc, request.body.as_slice())?;
+    let mut asks = puts(alloc, &changesets)?;
+    asks.push_reserved(Ask::Land {
+        caller,
+        name,
+        draft: Id::of(last_of(&changesets)),
+        // a request tells none
+        moment: 0,
+    });
+    Ok(Call::List(asks))
+}
+
 // The policy that is held, or a new one.
 fn policy_from<'a>(
     alloc: Global,
     request: &'a Request,
     arguments: &'a mut Arguments,
 ) -> Result<Call<'a>, RouteRefusal>
-    ensures { (value : ℕ → List ℕ) → Reads call_seen result (by_name RouteName.Policy value (seen request.now)) }
+    ensures call { (value : ℕ → List ℕ) → Reads call_seen result (by_name RouteName.Policy value (seen request.now)) }
+    ensures some { IfOk result HasCalls }
 {
     if request.method.as_str() != Method::Put.text() {
         return Ok(Call::Read(Question::Policy(None)));
@@ -189,6 +229,7 @@ fn call_from<'a>(
 ) -> Result<Call<'a>, RouteRefusal>
     requires { Takes name params.now }
     ensures call { Reads call_seen result (by_route (route_taken name (taken params.now)) (seen request.now)) }
+    ensures some { IfOk result HasCalls }
     ensures memory { IsErrOf result RouteRefusal.Memory → TakesMemory (route_taken name (taken params.now)) }
 {
     let body = request.body.as_slice();
@@ -198,6 +239,7 @@ fn call_from<'a>(
         RouteName::Wholes => Call::Change(Ask::PutWhole(body)),
         RouteName::Changesets => Call::Change(Ask::PutChangeset(body)),
         RouteName::Changeset => Call::Read(Question::Changeset(id_from(alloc, params)?)),
+        RouteName::ChangesetList => return list_from(alloc, request),
         RouteName::Head => Call::Read(Question::Head(name_from(
             alloc,
             params,
@@ -205,6 +247,7 @@ fn call_from<'a>(
         )?)),
         RouteName::Move => return move_from(alloc, params, request, arguments),
         RouteName::Land => return landing_from(alloc, params, request, arguments),
+        RouteName::Stack => return stack_from(alloc, params, request, arguments),
         RouteName::Policy => return policy_from(alloc, request, arguments),
         RouteName::NumberedPolicy => {
             Call::Read(Question::Policy(Some(number_from(alloc, params, "number")?)))
@@ -247,6 +290,7 @@ impl Routes {
         arguments: &'a mut Arguments,
     ) -> Result<Call<'a>, RouteRefusal>
         ensures asks { Asks result (what_is_asked (seen request.now)) }
+        ensures some { IfOk result HasCalls }
         ensures memory { IsErrOf result RouteRefusal.Memory → IsSomeAnd (route_of (path_of (seen request.now).target)) TakesMemory }
     {
         let Some(path) = target(request.path()) else {

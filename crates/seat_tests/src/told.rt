@@ -9,6 +9,7 @@ use repo_calls::{
     Seen,
 };
 use repo_path::{BookName, RepoPath};
+use stacked_calls::StackSeat;
 use std::alloc::Global;
 
 /// A seat that knows one changeset, whose id is that of `abc`, and tells of two landings. Each content has the bytes of
@@ -78,6 +79,11 @@ impl Seat for Told {
     ghost lawful = { λ _ _. lawful };
 
     ghost widens = { λ _ _ _ _. widens };
+}
+
+impl StackSeat for Told {
+    // It stores nothing.
+    ghost enters = { λ _ _ _ _ _ _. ⊥ };
 }
 
 fn path_of(alloc: Global, text: &str) -> Result<RepoPath, AskFault> {

@@ -3,11 +3,12 @@ ghost use Rattle.std.specs.Prelude.{◌≡◌};
 
 use crate::permits::Bounds;
 use repo_calls::{Ask, AskFault, ChangeFault, Granted, Question, Seat, Seen};
+use stacked_calls::{StackFault, StackSeat};
 use std::alloc::Global;
 use std::marker::Model;
 use std::sync::Wait;
 
-/// A seat each call of which takes a permit, and gives it back before it answers: one for a change, or one for a read. Nothing is
+/// A seat each call of which takes a permit, and gives it back before it answers: one for a change or a list of changes, or one for a read. Nothing is
 /// written to a connection meanwhile, so that no permit waits for a client. Contracts see the seat.
 #[derive(Drop)]
 pub(crate) struct Bounded<'a, R: Wait, T> {
@@ -88,4 +89,15 @@ impl<'a, R: Wait, T: Seat> Seat for Bounded<'a, R, T> {
     ghost lawful = { T.lawful };
 
     ghost widens = { T.widens };
+}
+
+impl<'a, R: Wait, T: StackSeat> StackSeat for Bounded<'a, R, T> {
+    ghost enters = { T.enters };
+
+    fn change_all(&mut self, alloc: Global, asks: &[Ask]) -> Result<Granted, StackFault> {
+        self.bounds.changes.take(self.rt);
+        let answer = self.seat.change_all(alloc, asks);
+        self.bounds.changes.give_back(self.rt);
+        answer
+    }
 }

@@ -6,8 +6,8 @@ use crate::door::Door;
 use crate::run::Run;
 use http_front::connection::{ServedLinks, serve_link};
 use ports::{Accept, Clock, Link};
-use repo_calls::Seat;
 use routes::Routes;
+use stacked_calls::StackSeat;
 use std::alloc::Global;
 use std::marker::Model;
 use std::sync::ledger::{Ledger, Share};
@@ -75,7 +75,7 @@ impl<L: Link, K: Run, E: Ledger> Tally<L, K, E> {
     }
 
     /// Takes a link of the door, serves it at this seat to its end and counts it; or is told that no more will come.
-    pub(crate) fn serve_next<R: Wait, A: Accept<L>, T: Seat, C: Clock>(
+    pub(crate) fn serve_next<R: Wait, A: Accept<L>, T: StackSeat, C: Clock>(
         &mut self,
         rt: &R,
         alloc: Global,

@@ -1,5 +1,5 @@
 -- Worked examples of requests and of their responses, which hold by computing.
-use Rattle.std.specs.Prelude.{◌≡◌, ℕ, false, List, [], ◌∷◌, ◌++◌, codes, Some, None, refl}
+use Rattle.std.specs.Prelude.{◌≡◌, ℕ, false, List, [], ◌∷◌, ◌++◌, codes, Some, None, Err, refl}
 use Rattle.std.specs.Fmt.{digits}
 use Rattle.std.specs.List.{concat}
 use Rattle.std.specs.Str.{is_utf8, chars}
@@ -7,18 +7,22 @@ use Rattle.hex.specs.Hex.{encode_with, decode_pairs}
 use Rattle.json.specs.Print.{escape_byte}
 use Rattle.percent_encoding.specs.Percent.{percent_decode}
 use Rattle.byte_fields.specs.Bytes.{Id}
+use Rattle.byte_fields.specs.Reading.{read}
+use Rattle.sha2.specs.Sha256.{sha256}
 use Rattle.reply_model.specs.Log.{BookmarkLine, PolicyLine}
 use Rattle.reply_model.specs.Opening.{nobody}
-use Rattle.reply_model.specs.Reply.{SetPolicy, SetBookmark, PolicySet, WholePut, BadParts, OldFormat, NoPiece, Unresolved, MergeInRange, Denied, BadPolicy, PathLogOf, DeletedOf, PolicyOf, SeenIds, SeenBytes, NoPolicy}
+use Rattle.reply_model.specs.Reply.{PutChangeset, SetPolicy, SetBookmark, LandDraft, PolicySet, WholePut, BadParts, OldFormat, NoPiece, Unresolved, MergeInRange, Denied, BadPolicy, PathLogOf, DeletedOf, PolicyOf, SeenIds, SeenBytes, NoPolicy}
 use Rattle.reply_model.specs.After.{Asks, Joins, Looks, Grants, Refuses, Shows, Lacks}
 use Rattle.http_model.specs.Head.{CallerField, Absent, Given, Several}
 use Rattle.http_model.specs.Stream.{Request}
 use Rattle.session_model.specs.declared.status.Status.TheVariants.{Fine, BadRequest, Forbidden, NotFound, Conflict, UnprocessableContent}
-use Rattle.session_model.specs.declared.method.Methods.TheVariants.{GetAndPut}
+use Rattle.session_model.specs.declared.method.Method.TheVariants.{Post}
+use Rattle.session_model.specs.declared.method.Methods.TheVariants.{One, GetAndPut}
 use Rattle.session_model.specs.Responses.{crlf, text_of}
 use Rattle.session_model.specs.Bodies.{json, octets, of_code, line_text}
 use Rattle.session_model.specs.Parameters.{bad_caller}
-use Rattle.session_model.specs.Asking.{Calls, Fails, asked, refused, response, not_allowed}
+use Rattle.session_model.specs.Stacks.{listed}
+use Rattle.session_model.specs.Asking.{Calls, Lists, Fails, asked, refused, response, not_allowed}
 
 -- ---- requests
 
@@ -93,6 +97,50 @@ a_path_log = refl
 a_root_deleted : asked (ask_by (codes "GET") (codes "/deleted/" ++ zeros) Absent []) ≡ Calls (Looks (DeletedOf zero_id []))
 unfolding decode_pairs ask_by zeros zero_id is_utf8 chars lib.Utf8.encode percent_decode
 a_root_deleted = refl
+
+-- ---- lists of changesets
+
+two_listed : List ℕ
+two_listed = 0 ∷ 0 ∷ 0 ∷ 2 ∷ codes "ab" ++ 0 ∷ 0 ∷ 0 ∷ 1 ∷ codes "c"
+
+two_changesets : asked (ask_by (codes "PUT") (codes "/changesets") Several two_listed) ≡ Lists (Asks (PutChangeset (codes "ab")) ∷ Asks (PutChangeset (codes "c")) ∷ [])
+unfolding listed two_listed ask_by is_utf8 chars lib.Utf8.encode
+two_changesets = refl
+
+a_stack_of_one : asked (ask_by (codes "POST") (codes "/stack/main") (Given (codes "ann")) (0 ∷ 0 ∷ 0 ∷ 1 ∷ codes "c"))
+    ≡ Lists (Asks (PutChangeset (codes "c")) ∷ Asks (LandDraft (codes "ann") (codes "main") (sha256 (codes "c")) 0) ∷ [])
+unfolding listed ask_by is_utf8 chars lib.Utf8.encode percent_decode
+a_stack_of_one = refl
+
+-- the draft is the last of them
+a_stack_of_two : asked (ask_by (codes "POST") (codes "/stack/main") (Given (codes "ann")) two_listed)
+    ≡ Lists (Asks (PutChangeset (codes "ab")) ∷ Asks (PutChangeset (codes "c")) ∷ Asks (LandDraft (codes "ann") (codes "main") (sha256 (codes "c")) 0) ∷ [])
+unfolding listed two_listed ask_by is_utf8 chars lib.Utf8.encode percent_decode
+a_stack_of_two = refl
+
+-- the second one has two bytes of three
+cut_short : asked (ask_by (codes "PUT") (codes "/changesets") Absent (0 ∷ 0 ∷ 0 ∷ 1 ∷ codes "a" ++ 0 ∷ 0 ∷ 0 ∷ 3 ∷ codes "bc"))
+    ≡ Fails (json UnprocessableContent (codes "{\"code\":\"bad-encoding\",\"place\":9}"))
+unfolding digits listed ask_by is_utf8 chars lib.Utf8.encode
+cut_short = refl
+
+none_listed : asked (ask_by (codes "PUT") (codes "/changesets") Absent []) ≡ Fails (json UnprocessableContent (codes "{\"code\":\"bad-encoding\",\"place\":0}"))
+unfolding digits listed ask_by is_utf8 chars lib.Utf8.encode
+none_listed = refl
+
+-- where the one too many begins
+one_too_many : read (listed 1) two_listed ≡ Err 6
+unfolding listed two_listed
+one_too_many = refl
+
+-- the name and the caller are refused before the list is
+caller_before_list : asked (ask_by (codes "POST") (codes "/stack/main") Several []) ≡ Fails bad_caller
+unfolding ask_by is_utf8 chars lib.Utf8.encode percent_decode
+caller_before_list = refl
+
+no_put_of_stacks : asked (ask_by (codes "PUT") (codes "/stack/main") Absent two_listed) ≡ Fails (not_allowed (One Post))
+unfolding ask_by is_utf8 chars lib.Utf8.encode
+no_put_of_stacks = refl
 
 -- ---- refusals
 

@@ -1,9 +1,10 @@
 -- What a request asks for, and the response to each answer.
---     asked q      the call that a request asks for, or the response to one that asks for nothing
+--     asked q      the call that a request asks for, or the calls of a list, or the response to one that asks for nothing
 --     granted call g, refused refusal      the response to a change that is granted and that is refused
 --     seen question s, absent a      the response to a read that shows something, and to one that doesn't
 --     change_response call answer, read_response question answer      the response to each answer
 --     response call answer      the response to the answer of any call that a request asks for
+--     list_response call at answer      the response to a list of calls that ended with this one, at this place, which was answered so
 use Rattle.std.specs.Prelude.{ℕ, if◌then◌else◌, List, [], ◌∷◌, length, bytes_eq, codes, decimal, Option, None, Some, Result, Ok, Err}
 use Rattle.byte_fields.specs.Bytes.{Id}
 use Rattle.changeset_model.specs.Path.{Path}
@@ -16,17 +17,20 @@ use Rattle.session_model.specs.declared.status.Status.TheVariants.{Fine, BadRequ
 use Rattle.session_model.specs.declared.method.Method.TheVariants.{Put}
 use Rattle.session_model.specs.declared.method.Methods.{Methods}
 use Rattle.session_model.specs.declared.route_name.RouteName.{RouteName}
-use Rattle.session_model.specs.declared.route_name.RouteName.TheVariants.{Contents, Content, Wholes, Changesets, Changeset, Head, Move, Land, Policy, NumberedPolicy, Log, RootFsnode, Fsnode, RootUnode, Unode, RootDeleted, Deleted, History, PathLog, Copies}
+use Rattle.session_model.specs.declared.route_name.RouteName.TheVariants.{Contents, Content, Wholes, Changesets, Changeset, ChangesetList, Head, Move, Land, Stack, Policy, NumberedPolicy, Log, RootFsnode, Fsnode, RootUnode, Unode, RootDeleted, Deleted, History, PathLog, Copies}
 use Rattle.session_model.specs.Methods.{method_text, methods_text, has_method, methods_of}
 use Rattle.session_model.specs.Responses.{Response, Json}
 use Rattle.session_model.specs.Bodies.{coded, id_text, maybe_id_text, maybe_number_text, path_text, content_body, whole_body, changeset_body, bookmark_body, landed_body, policy_body, log_body, history_body, path_log_body, copies_body, json, of_code, octets, memory}
 use Rattle.session_model.specs.Routes.{Route, value, is_target, route_of}
 use Rattle.session_model.specs.Parameters.{name_parameter, id_parameter, maybe_id_parameter, number_parameter, path_parameter, caller_named}
+use Rattle.session_model.specs.Stacks.{stack_of, puts, lands, placed}
 
 -- ---- requests
 
 pub data Asked : Type 0 where
   Calls : Call → Asked
+  -- one after another, until one isn't granted
+  Lists : List Call → Asked
   Fails : Response → Asked
 
 -- a read of what has the id in the path
@@ -58,6 +62,9 @@ by_name Content value q = by_id ContentOf value
 by_name Wholes value q = Ok (Calls (Joins q.body))
 by_name Changesets value q = Ok (Calls (Asks (PutChangeset q.body)))
 by_name Changeset value q = by_id ChangesetOf value
+by_name ChangesetList value q = do
+  changesets ← stack_of q.body
+  Ok (Lists (puts changesets))
 by_name Head value q = do
   m ← name_parameter (value 0)
   Ok (Calls (Looks (HeadOf m)))
@@ -72,6 +79,11 @@ by_name Land value q = do
   d ← id_parameter (value 1)
   caller ← caller_named q.caller
   Ok (Calls (Asks (LandDraft caller m d 0)))
+by_name Stack value q = do
+  m ← name_parameter (value 0)
+  caller ← caller_named q.caller
+  changesets ← stack_of q.body
+  Ok (Lists (lands caller m changesets))
 by_name Policy value q = if bytes_eq q.method (method_text Put) then sets_policy q else Ok (Calls (Looks (PolicyOf None)))
 by_name NumberedPolicy value q = do
   n ← number_parameter (value 0)
@@ -216,3 +228,17 @@ response (Joins body) answer = change_response (Joins body) answer
 response (Looks question) answer = read_response question answer
 -- no request asks for it
 response (Derives x) answer = memory
+
+-- what isn't granted tells at which place of the list it was. Where memory ran out, the response is fixed
+abbrev pub list_response : Call → ℕ → Answer → Response
+list_response call at (Grants g) = granted call g
+list_response call at (Refuses refusal) = placed at (refused refusal)
+list_response call at DiskFault = placed at (of_code InternalServerError (codes "disk-fault"))
+list_response call at ReadFault = placed at read_fault
+list_response call at (BadBytes wanted found) = placed at (bad_bytes wanted found)
+list_response call at Memory = memory
+-- no other answer is given to a change
+list_response call at (Shows s) = memory
+list_response call at (Lacks a) = memory
+list_response call at (Roots fs un gone) = memory
+list_response call at (NodeCollision x) = memory

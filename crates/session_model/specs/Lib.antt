@@ -4,6 +4,7 @@ pub mod Responses
 pub mod Bodies
 pub mod Routes
 pub mod Parameters
+pub mod Stacks
 pub mod Asking
 pub mod Session
 pub mod Dating

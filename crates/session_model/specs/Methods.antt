@@ -8,7 +8,7 @@ use Rattle.session_model.specs.declared.method.Method.TheVariants.{Get, Post, Pu
 use Rattle.session_model.specs.declared.method.Methods.{Methods}
 use Rattle.session_model.specs.declared.method.Methods.TheVariants.{One, GetAndPut}
 use Rattle.session_model.specs.declared.route_name.RouteName.{RouteName}
-use Rattle.session_model.specs.declared.route_name.RouteName.TheVariants.{Contents, Content, Wholes, Changesets, Changeset, Head, Move, Land, Policy, NumberedPolicy, Log, RootFsnode, Fsnode, RootUnode, Unode, RootDeleted, Deleted, History, PathLog, Copies}
+use Rattle.session_model.specs.declared.route_name.RouteName.TheVariants.{Contents, Content, Wholes, Changesets, Changeset, ChangesetList, Head, Move, Land, Stack, Policy, NumberedPolicy, Log, RootFsnode, Fsnode, RootUnode, Unode, RootDeleted, Deleted, History, PathLog, Copies}
 
 abbrev pub method_text : Method → List ℕ
 method_text Get = codes "GET"
@@ -29,9 +29,11 @@ methods_of Content = One Get
 methods_of Wholes = One Put
 methods_of Changesets = One Put
 methods_of Changeset = One Get
+methods_of ChangesetList = One Put
 methods_of Head = One Get
 methods_of Move = One Put
 methods_of Land = One Post
+methods_of Stack = One Post
 methods_of Policy = GetAndPut
 methods_of NumberedPolicy = One Get
 methods_of Log = One Get

@@ -10,7 +10,7 @@ use Rattle.std.specs.List.{starts_with}
 use Rattle.byte_fields.specs.Bytes.{is_text, first_some}
 use Rattle.changeset_model.specs.Path.{elements, text_of}
 use Rattle.session_model.specs.declared.route_name.RouteName.{RouteName}
-use Rattle.session_model.specs.declared.route_name.RouteName.TheVariants.{Contents, Content, Wholes, Changesets, Changeset, Head, Move, Land, Policy, NumberedPolicy, Log, RootFsnode, Fsnode, RootUnode, Unode, RootDeleted, Deleted, History, PathLog, Copies}
+use Rattle.session_model.specs.declared.route_name.RouteName.TheVariants.{Contents, Content, Wholes, Changesets, Changeset, ChangesetList, Head, Move, Land, Stack, Policy, NumberedPolicy, Log, RootFsnode, Fsnode, RootUnode, Unode, RootDeleted, Deleted, History, PathLog, Copies}
 
 pub record Pattern : Type 0 where
   pub word : List ℕ
@@ -30,9 +30,11 @@ pattern_of Content = of_word (codes "content") (codes "id" ∷ [])
 pattern_of Wholes = of_word (codes "whole") []
 pattern_of Changesets = of_word (codes "changeset") []
 pattern_of Changeset = of_word (codes "changeset") (codes "id" ∷ [])
+pattern_of ChangesetList = of_word (codes "changesets") []
 pattern_of Head = of_word (codes "bookmark") (codes "name" ∷ [])
 pattern_of Move = of_word (codes "bookmark") (codes "name" ∷ codes "from" ∷ codes "to" ∷ [])
 pattern_of Land = of_word (codes "land") (codes "name" ∷ codes "id" ∷ [])
+pattern_of Stack = of_word (codes "stack") (codes "name" ∷ [])
 pattern_of Policy = of_word (codes "policy") []
 pattern_of NumberedPolicy = of_word (codes "policy") (codes "number" ∷ [])
 pattern_of Log = of_word (codes "log") (codes "from" ∷ [])
@@ -48,7 +50,7 @@ pattern_of Copies = of_word (codes "copies") (codes "id" ∷ [])
 
 -- a router keeps its routes in this order
 abbrev pub order : List RouteName
-order = Move ∷ Head ∷ Changeset ∷ Changesets ∷ Content ∷ Contents ∷ Copies ∷ Deleted ∷ RootDeleted ∷ Fsnode ∷ RootFsnode ∷ History ∷ Land ∷ Log ∷ PathLog ∷ NumberedPolicy ∷ Policy ∷ Unode ∷ RootUnode ∷ Wholes ∷ []
+order = Move ∷ Head ∷ Changeset ∷ ChangesetList ∷ Changesets ∷ Content ∷ Contents ∷ Copies ∷ Deleted ∷ RootDeleted ∷ Fsnode ∷ RootFsnode ∷ History ∷ Land ∷ Log ∷ PathLog ∷ NumberedPolicy ∷ Policy ∷ Stack ∷ Unode ∷ RootUnode ∷ Wholes ∷ []
 
 pub record Route : Type 0 where
   pub name : RouteName

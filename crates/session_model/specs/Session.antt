@@ -1,8 +1,8 @@
 -- A session: what goes out and what the history is then, for the bytes that came in.
---     Answers replies header who h q out after      the request q is answered at h by these bytes, and the history is then `after`
---     Serves replies header who h requests texts after      so are these requests in order, each by its text
---     Session replies header who h s out after end      for all bytes read, where the session came to this end
---     Broken replies header who h s out after      where the link failed: what went out lacks at most an end of the last text
+--     Answers answering header who h q out after      the request q is answered at h by these bytes, and the history is then `after`
+--     Serves answering header who h requests texts after      so are these requests in order, each by its text
+--     Session answering header who h s out after end      for all bytes read, where the session came to this end
+--     Broken answering header who h s out after      where the link failed: what went out lacks at most an end of the last text
 --     closing refusal, closing_memory      what is written last where the session is refused, and where there was no memory to begin
 use Rattle.std.specs.Prelude.{◌≡◌, ◌≤◌, ◌⊎◌, ℕ, true, false, List, [], ◌∷◌, ◌++◌, length}
 use Rattle.std.specs.List.{concat}
@@ -10,6 +10,7 @@ use mathlib.Core.List.{IsPrefix}
 use Rattle.history_model.specs.History.{Entry}
 use Rattle.history_model.specs.Journal.{Header}
 use Rattle.reply_model.specs.After.{Relation, Answer, Call}
+use Rattle.stacked_calls.specs.Chain.{Answering, Chained}
 use Rattle.http_model.specs.declared.head_refusal.HeadRefusal.{HeadRefusal}
 use Rattle.http_model.specs.declared.head_refusal.HeadRefusal.TheVariants as refusals
 use Rattle.http_model.specs.Refusals.{code_of, status_of}
@@ -20,7 +21,7 @@ use Rattle.session_model.specs.declared.status.Status.TheVariants.{BadRequest, L
 use Rattle.session_model.specs.Responses.{Response, text_of}
 use Rattle.session_model.specs.Bodies.{of_code, memory}
 use Rattle.session_model.specs.Asking as asking
-use Rattle.session_model.specs.Asking.{Asked, asked, response}
+use Rattle.session_model.specs.Asking.{Asked, asked, response, list_response}
 
 -- ---- one request
 
@@ -37,21 +38,29 @@ pub record AnswersAlone (h : List Entry) (q : Request) (r : Response) (out : Lis
   pub same : after ≡ h
   pub text : out ≡ text_for q r
 
-abbrev pub AnswersAsked : Relation → Header → ℕ → List Entry → Asked → Request → List ℕ → List Entry → Type 0
-AnswersAsked replies header who h (asking.Calls call) q out after = AnswersCall replies header who h call q out after
-AnswersAsked replies header who h (asking.Fails r) q out after = AnswersAlone h q r out after
+-- a list is answered by its calls, in their order, up to the first that isn't granted, and is told what came of that or of the last
+pub record AnswersList (answering : Answering) (header : Header) (who : ℕ) (h : List Entry) (calls : List Call) (q : Request) (out : List ℕ) (after : List Entry) : Type 0 where
+  pub at : ℕ
+  pub answer : Answer
+  pub chained : Chained answering header who h calls at answer after
+  pub text : out ≡ text_for q (list_response chained.call at answer)
+
+abbrev pub AnswersAsked : Answering → Header → ℕ → List Entry → Asked → Request → List ℕ → List Entry → Type 0
+AnswersAsked answering header who h (asking.Calls call) q out after = AnswersCall answering.replies header who h call q out after
+AnswersAsked answering header who h (asking.Lists calls) q out after = AnswersList answering header who h calls q out after
+AnswersAsked answering header who h (asking.Fails r) q out after = AnswersAlone h q r out after
 
 -- where there is no memory to tell what is asked for, that is told, and nothing changes
-abbrev pub Answers : Relation → Header → ℕ → List Entry → Request → List ℕ → List Entry → Type 0
-Answers replies header who h q out after = AnswersAsked replies header who h (asked q) q out after ⊎ AnswersAlone h q memory out after
+abbrev pub Answers : Answering → Header → ℕ → List Entry → Request → List ℕ → List Entry → Type 0
+Answers answering header who h q out after = AnswersAsked answering header who h (asked q) q out after ⊎ AnswersAlone h q memory out after
 
 -- ---- a session
 
-abbrev pub Serves : Relation → Header → ℕ → List Entry → List Request → List (List ℕ) → List Entry → Type 0
-Serves replies header who h [] [] after = after ≡ h
-Serves replies header who h (q ∷ requests) (text ∷ texts) after = (between : List Entry) × Answers replies header who h q text between × Serves replies header who between requests texts after
-Serves replies header who h [] (text ∷ texts) after = ⊥
-Serves replies header who h (q ∷ requests) [] after = ⊥
+abbrev pub Serves : Answering → Header → ℕ → List Entry → List Request → List (List ℕ) → List Entry → Type 0
+Serves answering header who h [] [] after = after ≡ h
+Serves answering header who h (q ∷ requests) (text ∷ texts) after = (between : List Entry) × Answers answering header who h q text between × Serves answering header who between requests texts after
+Serves answering header who h [] (text ∷ texts) after = ⊥
+Serves answering header who h (q ∷ requests) [] after = ⊥
 
 abbrev pub status_for : HeadRefusal → Status
 status_for refusals.HeadTooLarge = HeaderFieldsTooLarge
@@ -76,11 +85,11 @@ Closes s requests (Cut read) last = last ≡ []
 Closes s requests (Refused status) last = (refusal : HeadRefusal) × Leaves s requests (Refuses refusal) × (status_of refusal ≡ status) × (last ≡ closing refusal ∷ [])
 Closes s requests Spent last = last ≡ []
 
-pub record Session (replies : Relation) (header : Header) (who : ℕ) (h : List Entry) (s out : List ℕ) (after : List Entry) (end : End) : Type 0 where
+pub record Session (answering : Answering) (header : Header) (who : ℕ) (h : List Entry) (s out : List ℕ) (after : List Entry) (end : End) : Type 0 where
   pub requests : List Request
   pub told : Requests s requests end
   pub texts : List (List ℕ)
-  pub serves : Serves replies header who h requests texts after
+  pub serves : Serves answering header who h requests texts after
   pub last : List (List ℕ)
   pub closes : Closes s requests end last
   pub out_is : out ≡ concat (texts ++ last)
@@ -104,12 +113,12 @@ abbrev pub MayClose : List ℕ → List Request → List (List ℕ) → Type 0
 MayClose s requests last =
     (last ≡ []) ⊎ ((refusal : HeadRefusal) × Leaves s requests (Refuses refusal) × (last ≡ closing refusal ∷ [])) ⊎ ((s ≡ []) × (requests ≡ []) × (last ≡ closing_memory ∷ []))
 
-pub record Broken (replies : Relation) (header : Header) (who : ℕ) (h : List Entry) (s out : List ℕ) (after : List Entry) : Type 0 where
+pub record Broken (answering : Answering) (header : Header) (who : ℕ) (h : List Entry) (s out : List ℕ) (after : List Entry) : Type 0 where
   pub requests : List Request
   pub took : Took s requests
   pub few : length s ≤ most_read
   pub texts : List (List ℕ)
-  pub serves : Serves replies header who h requests texts after
+  pub serves : Serves answering header who h requests texts after
   pub last : List (List ℕ)
   pub closes : MayClose s requests last
   pub cut : CutOff (texts ++ last) out

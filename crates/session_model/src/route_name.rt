@@ -16,12 +16,16 @@ pub enum RouteName {
     Changesets,
     /// A changeset.
     Changeset,
+    /// A list of changesets, to store them.
+    ChangesetList,
     /// A bookmark, to tell where it stands.
     Head,
     /// A bookmark with two heads, to move it from the one to the other.
     Move,
     /// A bookmark with a draft, to land it there.
     Land,
+    /// A bookmark, to store a stack and land it there.
+    Stack,
     /// The policy that is held, to read it or to set one.
     Policy,
     /// The policy of a number in the log.
@@ -56,10 +60,12 @@ impl RouteName {
         ensures { result ≡ methods_of self }
     {
         match self {
-            RouteName::Contents | RouteName::Wholes | RouteName::Changesets | RouteName::Move => {
-                Methods::One(Method::Put)
-            }
-            RouteName::Land => Methods::One(Method::Post),
+            RouteName::Contents
+            | RouteName::Wholes
+            | RouteName::Changesets
+            | RouteName::ChangesetList
+            | RouteName::Move => Methods::One(Method::Put),
+            RouteName::Land | RouteName::Stack => Methods::One(Method::Post),
             RouteName::Policy => Methods::GetAndPut,
             RouteName::Content
             | RouteName::Changeset

@@ -10,6 +10,7 @@ use crate::seat::RepoSeat;
 use blob_disk::Disk;
 use ports::Gate;
 use repo_calls::{Ask, AskFault, ChangeFault, Granted, Question, Seat, Seen};
+use stacked_calls::{StackFault, StackSeat};
 use std::alloc::Global;
 use std::marker::Model;
 use std::sync::Wait;
@@ -95,4 +96,27 @@ impl<'a, R: Wait, D: Disk, G: Gate> Seat for Served<'a, R, D, G> {
     ghost lawful = { λ place n. lawful place.lock.opening.honest n };
 
     ghost widens = { λ place m n. widens place.lock.opening.honest m n };
+}
+
+/// Each change of a list is sealed by itself.
+impl<'a, R: Wait, D: Disk, G: Gate> StackSeat for Served<'a, R, D, G> {
+    // None waits for the seal of another one.
+    ghost enters = { λ _ _ _ _ _ _. ⊥ };
+
+    fn change_all(&mut self, alloc: Global, asks: &[Ask]) -> Result<Granted, StackFault> {
+        let Some((last, earlier)) = asks.split_last() else {
+            unreachable!()
+        };
+        let mut at = 0;
+        for ask in earlier {
+            if let Err(fault) = self.change(alloc, ask) {
+                return Err(StackFault { at, fault });
+            }
+            at += 1;
+        }
+        match self.change(alloc, last) {
+            Ok(granted) => Ok(granted),
+            Err(fault) => Err(StackFault { at, fault }),
+        }
+    }
 }

@@ -12,9 +12,9 @@ use blob_disk::Disk;
 use http_front::ended::Ended;
 use http_front::session::serve_session;
 use ports::{Clock, Gate, MemLink, NoGate};
-use repo_calls::Seat;
 use repo_state::RepoState;
 use shared_repo::{Repo, RepoSeat, Served};
+use stacked_calls::StackSeat;
 use std::alloc::{AllocError, Global};
 use std::process::Abort;
 use std::sync::Wait;
@@ -48,7 +48,7 @@ fn link_of(alloc: Global, requests: &str) -> Result<MemLink, AllocError> {
 }
 
 // Serves the requests at a seat.
-fn serve<S: Seat>(
+fn serve<S: StackSeat>(
     rt: &impl Abort,
     alloc: Global,
     seat: &mut S,
