@@ -91,6 +91,8 @@ class RefusalMembers(TypedDict, total=False):
     found: int | str | None
     """A size, an id, or where a bookmark is; None where there is none."""
     wanted: int | str
+    at: int
+    """The place in a list of changesets; that of a landing is behind them."""
     draft: str
     """What the gateway tells besides: the draft that it made and couldn't land."""
 

@@ -49,7 +49,7 @@ def answered(data: bytes, repository: Repository, starved: int | None = None) ->
 
     For one request, by its place, there is no memory: it is answered so and leaves all as it was.
     """
-    service = Service(repository, has_manifests=True)
+    service = Service(repository)
     session = Session.__new__(Session)
     session.wfile = io.BytesIO()
     status = FINE

@@ -188,6 +188,19 @@ def has_copies(url: str) -> bool:
 
 
 @functools.cache
+def has_lists(url: str) -> bool:
+    """Whether a server takes several changesets in one request."""
+    server = Server(url)
+    try:
+        server.ask("PUT", "/changesets", b"")
+    except Refused as refusal:
+        return refusal.code != "no-route"
+    finally:
+        server.close()
+    return True
+
+
+@functools.cache
 def has_wholes(url: str) -> bool:
     """Whether a server joins contents, as each does whose file has version 2."""
     server = Server(url)
@@ -260,6 +273,10 @@ class Case(unittest.TestCase):
     def needs_copies(self) -> None:
         if not has_copies(self.server):
             self.skipTest("a server with copies")
+
+    def needs_lists(self) -> None:
+        if not has_lists(self.server):
+            self.skipTest("a server with lists of changesets")
 
     def needs_wholes(self) -> None:
         if not has_wholes(self.server):

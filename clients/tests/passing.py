@@ -10,6 +10,10 @@ from http.server import BaseHTTPRequestHandler, ThreadingHTTPServer
 from pathlib import Path
 
 
+LISTS = ("/changesets", "/stack/")
+"""What an older server has no routes for."""
+
+
 class Handler(BaseHTTPRequestHandler):
     """One connection."""
 
@@ -18,7 +22,8 @@ class Handler(BaseHTTPRequestHandler):
 
     def answer(self) -> None:
         body = self.rfile.read(int(self.headers.get("Content-Length", 0)))
-        is_lost = self.path.startswith("/land/") and self.server.loses
+        self.server.asked.append(f"{self.command} {self.path}")
+        is_lost = self.path.startswith(("/land/", "/stack/")) and self.server.loses
         if is_lost == "before":
             self.close_connection = True
             return
@@ -35,6 +40,8 @@ class Handler(BaseHTTPRequestHandler):
 
     def passed(self, body: bytes) -> tuple[int, bytes]:
         """What the server behind answers; the caller is the name in the certificate."""
+        if self.server.is_older and self.path.startswith(LISTS):
+            return 404, b'{"code":"no-route"}'
         behind = http.client.HTTPConnection(self.server.behind)
         behind.request(self.command, self.path, body, headers=self.caller())
         response = behind.getresponse()
@@ -52,12 +59,22 @@ class Handler(BaseHTTPRequestHandler):
 
 
 class Passing(ThreadingHTTPServer):
-    """The server. `loses` the answers of landings: `before` they are passed on, or `after`."""
+    """The server. `loses` the answers of landings: `before` they are passed on, or `after`. One
+    that `is_older` has no lists of changesets."""
 
     daemon_threads = True
 
-    def __init__(self, url: str, loses: str = "", certificates: Path | None = None):
+    def __init__(
+        self,
+        url: str,
+        loses: str = "",
+        certificates: Path | None = None,
+        is_older: bool = False,
+    ):
         super().__init__(("127.0.0.1", 0), Handler)
+        self.is_older = is_older
+        self.asked: list[str] = []
+        """Each request's method and target."""
         self.behind = url.removeprefix("http://")
         self.loses = loses
         self.is_tls = certificates is not None

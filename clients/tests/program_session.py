@@ -99,7 +99,7 @@ class Script:
         self.repository.put_content(b"abc")
         assert self.repository.size == len(file) and digest(b"abc") == ABC
         assert file[7] == self.repository.version
-        self.service = Service(self.repository, has_manifests=True)
+        self.service = Service(self.repository)
         self.read = b""
         self.written = b""
 
@@ -564,6 +564,32 @@ def wholes(script: Script, root: str) -> None:
     script.ask(f"GET /fsnode/{first}", f"GET /unode/{first}/w", f"GET /log/{number}")
 
 
+def listed(*spellings: bytes) -> bytes:
+    """A list of changesets: each behind its length."""
+    return b"".join(len(one).to_bytes(4, "big") + one for one in spellings)
+
+
+def lists(script: Script, root: str) -> None:
+    """Lists of changesets that are stored, and landed, and those that are refused at some place."""
+    one = spelled(sets("l/1"), parents=(root,))
+    two = spelled(sets("l/2"), parents=(digest(one),))
+    lacking = spelled(sets("l/3", b"none"), parents=(digest(two),))
+    clash = spelled(sets("l"), parents=(root,))
+    script.ask(f"PUT /bookmark/listed/none/{root}", "GET /changesets", "PUT /stack/listed")
+    stack, cut = listed(one, two), listed(one, two)[:-1]
+    for body in (listed(one), stack, listed(one, lacking, two), listed(b""), listed(one, b"C")):
+        script.say(request("PUT /changesets", body))
+    for body in (stack, stack, listed(clash), listed(lacking), cut, b"", b"\0\0\0", listed(two)):
+        script.say(request("POST /stack/listed", body))
+    script.say(b"PUT /changesets HTTP/1.1\r\n\r\nPOST /stack/listed HTTP/1.1\r\n\r\n")
+    hundred = [spelled(message=b"%d" % number, parents=(root,)) for number in range(100)]
+    script.say(request("POST /stack/listed", listed(*hundred, one)))
+    script.say(request("POST /stack/none", listed(one)))
+    script.by("ann", line="POST /stack/a%20b", body=cut)
+    script.by("a b", line="POST /stack/listed", body=cut)
+    script.by("ann", "ann", line="POST /stack/listed", body=stack)
+
+
 def pages(script: Script) -> None:
     """The log as it passes a hundred entries."""
     while len(script.repository.entries) < 101:
@@ -621,6 +647,7 @@ def made() -> Script:
     copied_files(script, root)
     manifests(script, root)
     merges(script, root)
+    lists(script, root)
     policies(script, root)
     wholes(script, root)
     for head in HEADS:

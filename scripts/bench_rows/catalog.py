@@ -17,6 +17,7 @@ from . import (
     opening,
     paths,
     policies,
+    pushing,
     ranges,
     seals,
     upload,
@@ -45,6 +46,8 @@ LISTED = (
     Row("calls", "calls of the system a small read, beside those it needs", calls.calls),
     Row("log", "log pages of 100, beside servers of the same bytes", answers.page),
     Row("memory", "bytes of an entry and of an idle connection", memory.rows),
+    Row("push", "20 contents and 5 changesets landed, by one request and by many", pushing.pushes),
+    Row("import", "import of 3,000 commits, beside git's own and Mercurial's", pushing.imports),
     Row("kept", "1,000 kept connections, and 2,000 silent ones", kept.rows),
 )
 ROWS = {row.name: row for row in LISTED}

@@ -58,10 +58,11 @@ def backout(options: BackoutOptions, server: Server, out: Output) -> None:
     id = made.changeset.id
     merged = [f"merged {path}" for path in made.merged]
     if options.draft:
+        server.put_changeset(made.changeset)
         out.tell(changeset_document(made.changeset) | made.told, [*merged, f"made the draft {id}"])
         return
     allows, on = options.allows_empty, made.changeset.parent
-    landed = land(server, name, id, allows_empty=allows, on=on, made=made.changeset)
+    landed = land(server, name, id, allows_empty=allows, on=on, new=[made.changeset])
     follows = options.copy and options.copy.state.bookmark == name
     hint = ["`jarrah update` brings it into the working copy"] if follows else []
     tell_landed(landed, name, out, made.told, [*merged, *hint])

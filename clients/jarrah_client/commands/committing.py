@@ -17,6 +17,7 @@ from ..refusals import Fault
 from ..terminal.editor import edited
 from ..terminal.output import Output, changeset_document, counted, some_of, source_words, told_id
 from ..working import stack, stacks
+from ..working.moves import Moved
 from ..working.stack import Taken, Words
 from ..working.state import FOLDER, WorkingCopy
 from .given import Command, CopyOptions, PathsOptions
@@ -94,11 +95,13 @@ def commit_folder(options: CommitOptions, server: Server, out: Output) -> None:
         tell_clash(copy, server, found, options.land)
         place = copy.top / FOLDER / MESSAGE
         words = words_of(options, server, message_of(options, lambda: listed(copy, found), place))
+        if options.land:
+            done = stack.commit_and_land(copy, server, words, found, options.allows_empty)
+            place.unlink(missing_ok=True)
+            tell_landed(copy, out, *done)
+            return
         changeset = stack.commit(copy, server, words, found)
         place.unlink(missing_ok=True)
-        if options.land:
-            land_folder(copy, server, out, options.allows_empty)
-            return
     count = counted(len(copy.state.drafts), "draft")
     line = f"made the draft {told_id(changeset.id)}: `jarrah land` lands {count}"
     out.tell(changeset_document(changeset), line)
@@ -128,7 +131,11 @@ def tell_clash(copy: WorkingCopy, server: Server, found: Taken, lands: bool) -> 
 
 def land_folder(copy: WorkingCopy, server: Server, out: Output, allows_empty: bool) -> None:
     """Lands the drafts of a working copy, and tells."""
-    landed, moved = stack.land(copy, server, allows_empty)
+    tell_landed(copy, out, *stack.land(copy, server, allows_empty))
+
+
+def tell_landed(copy: WorkingCopy, out: Output, landed: Landed, moved: Moved) -> None:
+    """Tells what landed, and what that brought into the folder."""
     document, line = told_landing(copy, landed)
     out.tell(document | moved_document(moved), [line, *moved_lines(moved)])
 

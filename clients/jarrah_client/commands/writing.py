@@ -194,12 +194,12 @@ def commit_named(options: CommitOptions, name: str, server: Server, out: Output)
         refuse_stale(server, name, base, written.changes)
     told = lambda: [f"to land on {name}", *written.changes]  # noqa: E731
     message = message_of(options, told, None)
-    changeset = drafts.upload(server, options, base, written, message)
+    changeset = drafts.prepared(server, options, base, written, message)
     tell_deleted(options, changeset, out)
     allows = options.allows_empty
     on = None if options.base else base
     landed = landing.land(
-        server, name, changeset.id, allows_empty=allows, on=on, made=changeset
+        server, name, changeset.id, allows_empty=allows, on=on, new=[changeset]
     )
     gone = [path for path, file in changeset.changes.items() if not file]
     tell_landed(landed, name, out, {"deleted": gone} if options.recursive else {})

@@ -13,7 +13,7 @@ from ..net.server import Server, Trouble
 from ..terminal.output import some_of, title
 from ..trees.differences import Difference, differences
 from ..trees.tree import Tree, tree_of
-from ..working.onto import Onto, put_onto, store
+from ..working.onto import Onto, put_onto, store_contents
 from ..working.stack import Words, made
 
 
@@ -41,7 +41,8 @@ class Backout:
 
 
 def back_out(server: Server, log: Log, wanted: Wanted, words: Words) -> Backout:
-    """Uploads a changeset onto the bookmark's head that undoes what another did."""
+    """A changeset onto the bookmark's head that undoes what another did; its contents are stored,
+    and it isn't yet."""
     id, parent = wanted.target.id, parent_of(wanted)
     head = need_head(server, wanted.bookmark)
     if not is_reached(server, log, head, id):
@@ -54,7 +55,7 @@ def back_out(server: Server, log: Log, wanted: Wanted, words: Words) -> Backout:
     if not onto.changes:
         raise Trouble(f"there is nothing to back out: {wanted.bookmark} is as it was before {id}")
     changeset = made(head, words, onto.changes)
-    store(server, changeset, onto)
+    store_contents(server, changeset, onto)
     merged = [path for path, file in changeset.changes.items() if file != undone[path]]
     return Backout(changeset, id, merged)
 

@@ -102,6 +102,15 @@ def upload(
     server: Server, said: SaidChanges, parent: str | None, written: Written, message: str
 ) -> Changeset:
     """Uploads the contents of a draft, each once, and then the draft."""
+    changeset = prepared(server, said, parent, written, message)
+    server.put_changeset(changeset)
+    return changeset
+
+
+def prepared(
+    server: Server, said: SaidChanges, parent: str | None, written: Written, message: str
+) -> Changeset:
+    """A draft whose contents are stored, and it isn't yet."""
     author = author_of(said, server)
     seconds, offset = said.date or now()
     parents = (parent,) if parent else ()
@@ -112,7 +121,6 @@ def upload(
     changeset = Changeset(parents, author, seconds, offset, message, ordered)
     refuse_faulty(changeset)
     store_all(server, written.contents.values())
-    server.put_changeset(changeset)
     return changeset
 
 

@@ -4,14 +4,15 @@ from __future__ import annotations
 
 import sys
 import time
-from collections.abc import Iterator
+from collections.abc import Iterator, Sequence
+from contextlib import contextmanager
 from typing import TypeGuard
 
 from ..formats.changesets import Changeset
 from ..history.log_cache import CachedLog
 from ..net.answers import Entry, LandingEntry
 from ..net.server import BadAnswer, Landed, NotReached, Server, Trouble
-from ..refusals import about
+from ..refusals import Fault, Refused, about
 
 ALLOW = "--allow-empty-message"
 FEW = 4
@@ -50,31 +51,54 @@ def land(
     *,
     allows_empty: bool = False,
     on: str | None = None,
-    made: Changeset | None = None,
+    new: Sequence[Changeset] = (),
 ) -> Landed:
     """Lands a draft, of which each changeset says who made it and why.
 
-    `on` is what the stack stands on, and `made` the draft, where they are known.
+    `on` is what the stack stands on, where that is known, and `new` are its last changesets,
+    parents first, which aren't stored yet: the same request stores them.
     """
-    for changeset in stack_of(server, bookmark, draft, on, made):
+    for changeset in stack_of(server, bookmark, draft, on, new):
         with about(f"changeset {changeset.id}"):
             need_author(changeset.author)
             need_message(changeset.message, allows_empty)
-    with about(f"draft {draft}"):
-        return answered(server, bookmark, draft)
+    with about_stack(draft, new):
+        return answered(server, bookmark, draft, new)
+
+
+@contextmanager
+def about_stack(draft: str, new: Sequence[Changeset]) -> Iterator[None]:
+    """Has a fault say which draft was to land, or which changeset of it was refused."""
+    try:
+        yield
+    except Fault as fault:
+        refused = refused_one(fault, new)
+        fault.about = f"changeset {refused.id}" if refused else f"draft {draft}"
+        raise
+
+
+def refused_one(fault: Fault, new: Sequence[Changeset]) -> Changeset | None:
+    """The changeset that was refused itself, and so isn't stored, nor what stands on it."""
+    at = fault.members.get("at") if isinstance(fault, Refused) else None
+    return None if at is None or at >= len(new) else new[at]
 
 
 def stack_of(
-    server: Server, bookmark: str, draft: str, on: str | None, made: Changeset | None = None
+    server: Server,
+    bookmark: str,
+    draft: str,
+    on: str | None,
+    new: Sequence[Changeset] = (),
 ) -> Iterator[Changeset]:
     """The changesets of a draft that haven't landed, the last first."""
     end = on or server.head(bookmark)
+    known = {changeset.id: changeset for changeset in new}
     landed: set[str] | None = None
     id: str | None = draft
     for number in range(MOST_STACK):
         if id is None or id == end or (landed and id in landed):
             return
-        changeset = made if made and made.id == id else server.changeset(id)
+        changeset = known.get(id) or server.changeset(id)
         if changeset.parent is None:
             return
         if on is None and landed is None and (number == FEW or says_too_little(changeset)):
@@ -97,10 +121,10 @@ def landed_by_log(server: Server) -> set[str]:
     return {*log.landings, *log.parents.values(), *log.bookmarks.values()}
 
 
-def answered(server: Server, bookmark: str, draft: str) -> Landed:
+def answered(server: Server, bookmark: str, draft: str, new: Sequence[Changeset]) -> Landed:
     """Lands a draft. Where the answer is lost, the log tells what became of it."""
     try:
-        return server.land(bookmark, draft)
+        return server.land_stack(bookmark, new) if new else server.land(bookmark, draft)
     except (NotReached, BadAnswer) as fault:
         if isinstance(fault, NotReached) and not fault.was_sent:
             raise
@@ -130,9 +154,11 @@ def looked_up(server: Server, bookmark: str, draft: str, fault: Trouble) -> Land
 def landing_entry(server: Server, bookmark: str, draft: str) -> tuple[int, LandingEntry | None]:
     """How many entries there are, and the last one that landed a draft, if any did.
 
-    It is looked for from the end back to where the draft came to be known.
+    It is looked for from the end back to where the draft came to be known, if it ever did.
     """
     total = end = server.log(FAR).total
+    if not is_known(server, draft):
+        return total, None
     while end > 0:
         start = max(0, end - PAGE)
         for entry in reversed(server.log(start).entries[: end - start]):
@@ -142,6 +168,17 @@ def landing_entry(server: Server, bookmark: str, draft: str) -> tuple[int, Landi
                 return total, None
         end = start
     return total, None
+
+
+def is_known(server: Server, id: str) -> bool:
+    """Whether a changeset is stored."""
+    try:
+        server.changeset(id)
+    except Refused as refusal:
+        if refusal.code != "no-changeset":
+            raise
+        return False
+    return True
 
 
 def is_landing(entry: Entry, bookmark: str, draft: str) -> TypeGuard[LandingEntry]:

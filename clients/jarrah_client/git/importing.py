@@ -6,21 +6,22 @@ import queue
 import threading
 import time
 from collections import deque
-from collections.abc import Iterator
+from collections.abc import Callable, Iterator
 from concurrent.futures import Future
-from contextlib import closing, contextmanager
+from contextlib import closing, contextmanager, suppress
 from dataclasses import dataclass, field
-from functools import cached_property
+from functools import cached_property, partial
 from hashlib import sha256
 from pathlib import Path
 
 from ..formats.changesets import MOST_CHANGES, MOST_SIZE_BYTES, SECOND, Changeset, CopySource, File
 from ..formats.fields import digest
+from ..formats.lists import Batch
 from ..formats.paths import own_name, path_fault, path_key
 from ..net.contents import PIECE_BYTES, join
 from ..net.pool import Pool
 from ..net.server import Server, Trouble
-from ..refusals import Refused, about
+from ..refusals import Fault, Refused, about
 from ..terminal.output import counted
 from ..terminal.progress import Progress
 from ..trees.tree import tree_of
@@ -37,8 +38,10 @@ from .merges import (
 )
 from .source import GitChange, GitCommit, GitRepository, GitSource
 
-AHEAD_COMMITS = 64
+AHEAD_COMMITS = 128
 AHEAD_BYTES = 64 << 20
+FILL_SECONDS = 1.0
+"""So long at most a request of several changesets is waited for until it is full."""
 MOST_MESSAGE_BYTES = 262_144
 DONE: Future[None] = Future()
 """Stands for the upload of a change that sends nothing."""
@@ -472,36 +475,117 @@ def upload_all(
     """Uploads the commits to come, each changeset after its contents and its parents."""
     with Progress("commits", len(going.oids)) as progress:
         reader = Reader(source, going, pool, report, progress)
-        threading.Thread(target=reader.read, daemon=True).start()
-        while step := reader.steps.get():
-            if isinstance(step, Exception):
-                raise step
-            upload(step, pool, report, progress)
+
+        def finish(step: Step) -> None:
             marks.add(step.commit.oid, step.changesets[-1].id)
             report.commits += 1
             reader.uploaded.end()
             progress.step()
 
+        sender = Sender(pool, report, progress, finish, stopped_at)
+        threading.Thread(target=reader.read, daemon=True).start()
+        while step := next_step(reader, sender):
+            if isinstance(step, Exception):
+                sender.send()
+                raise step
+            sender.add(step)
+        sender.send()
 
-def upload(step: Step, pool: Pool, report: Report, progress: Progress) -> None:
-    """Uploads the changesets of one commit; a fault says where the import stopped."""
-    with about(f"stopped at commit {step.commit.oid[:12]} (run again to go on)"):
-        send(step, pool, report, progress)
+
+def next_step(reader: Reader, sender: Sender) -> Step | Exception | None:
+    """What the reader has next. Where that takes long, what is gathered is sent meanwhile."""
+    if sender.steps:
+        with suppress(queue.Empty):
+            return reader.steps.get(timeout=sender.patience)
+        sender.send()
+    return reader.steps.get()
 
 
-def send(step: Step, pool: Pool, report: Report, progress: Progress) -> None:
-    """Uploads the changesets of one commit, once their contents are there."""
+class Sender:
+    """Has changesets uploaded, those of several commits by one request."""
+
+    def __init__(
+        self,
+        pool: Pool,
+        report: Report,
+        progress: Progress,
+        finish: Callable[[Step], None],
+        named: Callable[[GitCommit], str],
+    ):
+        self.pool = pool
+        self.report = report
+        self.progress = progress
+        self.finish = finish
+        """What is done once all changesets of a commit are stored."""
+        self.named = named
+        """What a commit is called where a fault stopped at it."""
+        self.steps: list[Step] = []
+        self.batch = Batch()
+        self.begun = 0.0
+
+    @property
+    def patience(self) -> float:
+        """How long the next commit may be waited for."""
+        return max(self.begun + FILL_SECONDS - time.monotonic(), 0.001)
+
+    def add(self, step: Step) -> None:
+        """Takes a commit in once its contents are there. What is full is sent before."""
+        if self.steps and not self.batch.has_room(step.changesets):
+            self.send()
+        try:
+            with about(self.named(step.commit)):
+                await_contents(step, self.pool, self.progress)
+        except Fault:
+            self.send()
+            raise
+        if not self.steps:
+            self.begun = time.monotonic()
+        self.steps.append(step)
+        self.batch.add(step.changesets)
+
+    def send(self) -> None:
+        """Has the changesets stored that were taken in; a fault says where that stopped."""
+        steps, changesets = self.steps, self.batch.changesets
+        self.steps, self.batch = [], Batch()
+        if not steps:
+            return
+        try:
+            call = partial(Server.put_changesets, changesets=changesets)
+            self.pool.ask(call, urgent=True).result()
+        except Fault as fault:
+            stored = fault.members.get("at", 0) if isinstance(fault, Refused) else 0
+            rest = self.take_up_to(steps, stored)
+            with about(self.named(rest[0].commit)), advised(changesets[stored]):
+                raise
+        self.take_up_to(steps, len(changesets))
+
+    def take_up_to(self, steps: list[Step], stored: int) -> list[Step]:
+        """Finishes the commits whose changesets are among so many, and gives the others."""
+        for number, step in enumerate(steps):
+            count = min(stored, len(step.changesets))
+            self.report.changesets += count
+            if count:
+                self.report.head = step.changesets[count - 1].id
+            if count < len(step.changesets):
+                return steps[number:]
+            stored -= count
+            self.finish(step)
+        return []
+
+
+def stopped_at(commit: GitCommit) -> str:
+    """What is said of the commit at which an import stopped."""
+    return f"stopped at commit {commit.oid[:12]} (run again to go on)"
+
+
+def await_contents(step: Step, pool: Pool, progress: Progress) -> None:
+    """Waits for the contents of a commit, and has the large ones joined."""
     for content in step.uploads:
         content.result()
         progress.tick()
     for id, pieces in step.wholes.items():
         pool.ask(lambda server: join(server, id, pieces), urgent=True).result()
         progress.tick()
-    for changeset in step.changesets:
-        with advised(changeset):
-            pool.ask(lambda server: server.put_changeset(changeset), urgent=True).result()
-        report.changesets += 1
-        report.head = changeset.id
 
 
 @contextmanager

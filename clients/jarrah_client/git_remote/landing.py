@@ -13,7 +13,7 @@ from ..terminal.output import clean, counted
 from .branches import FOR, HEADS, bookmark_of, in_the_way
 from .git import NOTHING, git, is_git_fine
 from .keeper import Keeper, Look, tell
-from .pushed import Pushed, PushRefused, drafted, pushed
+from .pushed import Drafts, How, Pushed, PushRefused, drafted, pushed
 
 MOST_STACK = 100
 MOST_REASON = 900
@@ -113,16 +113,16 @@ class Lander:
         new = self.pushed(command)
         refuse_stack(new)
         self.refuse_unsaid(command)
-        draft = self.drafted(new)
-        if id := self.keeper.landed(name, draft):
+        drafts = self.drafted(new, lands=True)
+        if id := self.keeper.landed(name, drafts.id):
             return self.told(command, id, "landed before on", "")
         try:
-            landed = self.landed(name, draft)
+            landed = self.landed(name, drafts)
         except Refused as refusal:
-            if id := self.keeper.landed(name, draft):
+            if id := self.keeper.landed(name, drafts.id):
                 return self.told(command, id, "landed before on", "")
             if refusal.code == "already-in":
-                return self.told(command, draft, "there is nothing new for", "")
+                return self.told(command, drafts.id, "there is nothing new for", "")
             if refusal.code == "clash":
                 refusal.advice = "`git pull --rebase`, settle it, and push again"
             raise
@@ -140,16 +140,16 @@ class Lander:
             if not title.strip() and not self.rules.allows_empty:
                 raise PushRefused(f"commit {oid[:12]}: its message is empty: {REWORD}")
 
-    def landed(self, name: str, draft: str) -> Landed:
-        """Lands a draft; where the answer is lost, the log is asked what became of it."""
+    def landed(self, name: str, drafts: Drafts) -> Landed:
+        """Lands drafts; where the answer is lost, the log is asked what became of them."""
         try:
-            return self.server.land(name, draft)
+            return drafts.land(self.server, name)
         except Refused:
             raise
         except Fault as fault:
             for seconds in LOST_SECONDS:
                 time.sleep(seconds)
-                if id := self.found_in_log(name, draft):
+                if id := self.found_in_log(name, drafts.id):
                     return Landed(id, [id], "")
             raise PushRefused(
                 f"the server's answer was lost ({fault}): push again, which lands it or tells that"
@@ -170,7 +170,7 @@ class Lander:
         other = in_the_way(branch(command.ref), branches)
         if other:
             raise PushRefused(f"git can't have it beside the branch {other}")
-        draft = self.drafted(self.pushed(command))
+        draft = self.drafted(self.pushed(command)).id
         self.move_bookmark(name, None, draft)
         return self.told(command, draft, "made", FETCH)
 
@@ -179,7 +179,7 @@ class Lander:
         if not self.is_onward(command) and not self.rules.with_force:
             raise PushRefused("it isn't a fast-forward, and branches aren't moved back here")
         old = self.changeset_of(command)
-        draft = self.drafted(self.pushed(command))
+        draft = self.drafted(self.pushed(command)).id
         self.move_bookmark(bookmark(command.ref), old, draft)
         return self.told(command, draft, "moved", FETCH)
 
@@ -218,9 +218,9 @@ class Lander:
     def pushed(self, command: Command) -> Pushed:
         return pushed(self.folder, command.new, self.look.changesets)
 
-    def drafted(self, new: Pushed) -> str:
-        rules = self.rules
-        return drafted(self.server, self.folder, new, rules.with_copies, rules.connections)
+    def drafted(self, new: Pushed, *, lands: bool = False) -> Drafts:
+        how = How(self.rules.with_copies, self.rules.connections, lands)
+        return drafted(self.server, self.folder, new, how)
 
     def told(self, command: Command, id: str, what: str, advice: str) -> Outcome:
         """What a push did, once the mirror has it; a mirror that is behind takes nothing back."""

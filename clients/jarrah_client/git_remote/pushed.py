@@ -7,13 +7,14 @@ from dataclasses import dataclass
 from pathlib import Path
 
 from ..formats.changesets import CannotSpell, SelfConflict
+from ..formats.lists import MOST_LISTED
 from ..git.commit_graph import GitGraph
 from ..git.fast_import import date_of, person_of
-from ..git.importing import Plan, Reader, Report, Step, send
+from ..git.importing import Plan, Reader, Report, Sender, Step, await_contents
 from ..git.source import GitChange, GitCommit, GitRepository, text
 from ..net.pool import Pool
-from ..net.server import Server
-from ..refusals import Fault, about
+from ..net.server import Landed, Server
+from ..refusals import Fault, Refused, about
 from ..terminal.progress import Progress
 from .git import git
 
@@ -105,16 +106,62 @@ def pushed(folder: Path, tip: str, known: dict[str, str]) -> Pushed:
     return Pushed(tip, graph, known, oids)
 
 
-def drafted(server: Server, folder: Path, new: Pushed, with_copies: bool, connections: int) -> str:
-    """Uploads the drafts of commits, and gives that of the last."""
+@dataclass(frozen=True)
+class Drafts:
+    """What commits became: the changeset of the last, and those that aren't stored yet."""
+
+    id: str
+    steps: list[Step]
+
+    def land(self, server: Server, name: str) -> Landed:
+        """Lands them by one request; a refusal of one of them says of which commit."""
+        if not self.steps:
+            return server.land(name, self.id)
+        try:
+            return server.land_stack(name, [step.changesets[0] for step in self.steps])
+        except Refused as refusal:
+            at = refusal.members.get("at", len(self.steps))
+            if at < len(self.steps):
+                refusal.about = named(self.steps[at].commit)
+            raise
+
+
+@dataclass(frozen=True)
+class How:
+    """How commits become drafts."""
+
+    with_copies: bool
+    connections: int
+    lands: bool
+    """Whether their changesets are stored by the landing only."""
+
+
+def drafted(server: Server, folder: Path, new: Pushed, how: How) -> Drafts:
+    """Uploads the contents of commits, and their drafts unless those are to be landed."""
     if not new.oids:
-        return new.known[new.tip]
+        return Drafts(new.known[new.tip], [])
     report, quiet = Report(""), Progress("commits", None, io.StringIO())
     going = Plan(new.graph, new.known, None, (), new.oids)
-    with GitRepository(folder, with_copies) as source, Pool(server, connections) as pool:
+    with GitRepository(folder, how.with_copies) as source, Pool(server, how.connections) as pool:
         reader = PushReader(source, going, pool, report, quiet)
+        sender = Sender(pool, report, quiet, lambda _: None, named)
+        steps: list[Step] = []
         for commit in source.commits(new.graph, new.oids):
-            step = reader.step(commit)
-            with about(named(commit)):
-                send(step, pool, report, quiet)
-        return reader.made[new.tip]
+            steps.append(reader.step(commit))
+            if not how.lands and len(steps) == MOST_LISTED:
+                store(sender, steps)
+                steps = []
+        for step in steps:
+            with about(named(step.commit)):
+                await_contents(step, pool, quiet)
+        if not how.lands:
+            store(sender, steps)
+            steps = []
+        return Drafts(reader.made[new.tip], steps)
+
+
+def store(sender: Sender, steps: list[Step]) -> None:
+    """Stores the changesets of commits."""
+    for step in steps:
+        sender.add(step)
+    sender.send()

@@ -18,10 +18,16 @@ from ..formats.changesets import MOST_CONTENT_BYTES, MOST_SIZE_BYTES, File
 from ..formats.fields import digest
 from ..refusals import about
 from ..terminal.progress import Progress
+from .pool import Pool
 from .server import BadAnswer, Server, Trouble, writing
 
 PIECE_BYTES = MOST_CONTENT_BYTES
 """What one request stores. A content of more is stored in pieces of so many bytes."""
+
+FEW = 2
+"""So many contents go up one after another: connections of their own would be no faster."""
+CONNECTIONS = 8
+"""More go up side by side, over so many connections at most."""
 
 Data = bytes | IO[bytes]
 """A content that was read: its bytes, or of a large one a file of them, at its beginning."""
@@ -120,17 +126,50 @@ def refuse_large(name: str, size: int) -> None:
 # Storing
 
 
-def store_all(server: Server, sources: Iterable[Source], *, quietly: bool = False) -> None:
+def store_all(
+    server: Server,
+    sources: Iterable[Source],
+    *,
+    quietly: bool = False,
+    connections: int = CONNECTIONS,
+) -> None:
     """Stores contents, and tells how far that is.
 
     Large ones come first, so that a server which can't have them says so before anything is sent.
     """
     ordered = sorted(sources, key=lambda source: not source.is_large)
+    small = [source for source in ordered if not source.is_large]
     with Progress("contents", len(ordered), io.StringIO() if quietly else None) as progress:
-        for source in ordered:
+        for source in ordered[: len(ordered) - len(small)]:
             store(server, source, progress)
             progress.detail = ""
             progress.step()
+        if len(small) <= FEW or connections == 1:
+            for source in small:
+                store(server, source, progress)
+                progress.step()
+        else:
+            store_side_by_side(server, small, progress, connections)
+
+
+def store_side_by_side(
+    server: Server, sources: Sequence[Source], progress: Progress, connections: int
+) -> None:
+    """Stores contents of a piece each over several connections, so that syncs are shared."""
+    pool = Pool(server, min(connections, len(sources)))
+    try:
+        with pool:
+            coming = [pool.ask(partial(put_small, source=source)) for source in sources]
+            for future in coming:
+                future.result()
+                progress.step()
+    finally:
+        pool.join()
+
+
+def put_small(server: Server, source: Source) -> None:
+    """Stores a content of one piece."""
+    server.put_content(source.id, source.piece(0))
 
 
 def store(server: Server, source: Source, progress: Progress) -> None:
@@ -140,7 +179,7 @@ def store(server: Server, source: Source, progress: Progress) -> None:
     each time, so that a new file takes few questions, and one with a new end few pieces.
     """
     if not source.is_large:
-        server.put_content(source.id, source.piece(0))
+        put_small(server, source)
         return
     sent: set[str] = set()
     count = 1

@@ -16,6 +16,7 @@ from urllib.parse import SplitResult, quote, urlsplit
 
 from ..formats.changesets import Changeset, CopySource, decode
 from ..formats.fields import READ_BYTES, BadEncoding, digest, digest_of
+from ..formats.lists import batches, encode_list, fits
 from ..formats.nodes import Fsnode, Unode, decode_fsnode, decode_unode
 from ..formats.policies import rule_text
 from ..refusals import Fault, RefusalMembers, Refused
@@ -41,7 +42,7 @@ PASSING = (502, 503, 504)
 """Statuses of a server, or of a proxy before it, after which a read is tried again."""
 SESSION_BYTES = 1_000_000_000
 """After so many sent bytes a connection is made anew, before the server's bound ends it."""
-STORES = ("/content", "/whole", "/changeset")
+STORES = ("/content", "/whole", "/changeset", "/changesets")
 """The targets of uploads that change nothing where they are sent a second time."""
 NO_BOOKMARK = "none"
 NO_ID = "0" * 64
@@ -79,6 +80,14 @@ class Landed:
     old: str
 
 
+@dataclass
+class Known:
+    """What was found out about a server, for all connections to it."""
+
+    takes_lists: bool = True
+    """Whether it takes several changesets in one request; an older one says that it doesn't."""
+
+
 @dataclass(frozen=True)
 class Page:
     """Entries of the update log, and how many there are in all."""
@@ -103,6 +112,9 @@ class Server:
         self.timeout = timeout
         self.caller = caller
         self.trust = trust
+        self.known = Known()
+        self.unsent: dict[str, Changeset] = {}
+        """Changesets that are made and are still to be stored, parents first."""
         try:
             self.connection = self.connected(parts.scheme, parts.hostname or "", parts.port)
         except ValueError as fault:
@@ -127,7 +139,9 @@ class Server:
 
     def another(self, timeout: float | None = None) -> Server:
         """A connection of its own to the same server."""
-        return Server(self.url, timeout or self.timeout, self.caller, self.trust)
+        made = Server(self.url, timeout or self.timeout, self.caller, self.trust)
+        made.known = self.known
+        return made
 
     def close(self) -> None:
         """Ends the connection; the next request makes a new one."""
@@ -311,6 +325,55 @@ class Server:
         """
         self.store(answers.CHANGESET, changeset.id, changeset.encoded, derives=changeset.is_merge)
 
+    def put_changesets(self, changesets: Sequence[Changeset]) -> None:
+        """Stores changesets, parents first, in as few requests as hold them.
+
+        A refusal tells the place (`at`) of the one that is refused; those before it are stored.
+        """
+        start = 0
+        for batch in batches(changesets):
+            with moved_on(start):
+                self.put_batch(batch)
+            start += len(batch)
+
+    def put_batch(self, batch: Sequence[Changeset]) -> None:
+        """Stores what one request holds; an older server is sent one after another."""
+        if len(batch) > 1 and self.known.takes_lists:
+            try:
+                self.put_list(batch)
+                return
+            except Refused as refusal:
+                self.go_on_without_lists(refusal)
+        for at, changeset in enumerate(batch):
+            with placed(at):
+                self.put_changeset(changeset)
+
+    def put_unsent(self) -> None:
+        """Stores the changesets that were kept back; what is refused is named."""
+        made = list(self.unsent.values())
+        try:
+            self.put_changesets(made)
+        except Refused as refusal:
+            if "at" in refusal.members:
+                refusal.about = f"changeset {made[refusal.members['at']].id}"
+            raise
+        self.unsent.clear()
+
+    def put_list(self, batch: Sequence[Changeset]) -> None:
+        """Stores changesets by one request, and compares the id that the server found for the
+        last."""
+        derives, data = any(one.is_merge for one in batch), encode_list(batch)
+        shape, last = answers.CHANGESET, batch[-1].id
+        found = self.ask_json("PUT", "/changesets", shape, data, derives=derives)["id"]
+        if found != last:
+            raise BadAnswer(f"{self.url} stored the changeset {last} under another id, {found}")
+
+    def go_on_without_lists(self, refusal: Refused) -> None:
+        """Keeps that the server takes no lists, if it said so; else it is a refusal like others."""
+        if refusal.code != "no-route":
+            raise refusal
+        self.known.takes_lists = False
+
     def store(
         self, shape: Shape[answers.Stored], id: str, data: bytes, *, derives: bool = False
     ) -> None:
@@ -336,7 +399,9 @@ class Server:
         out.seek(0)
 
     def changeset(self, id: str) -> Changeset:
-        """A stored changeset; its bytes are compared with its id."""
+        """A changeset that is stored, or still to be; its bytes are compared with its id."""
+        if id in self.unsent:
+            return self.unsent[id]
         data = self.ask("GET", f"/changeset/{id}")
         if digest(data) != id:
             raise BadAnswer(f"{self.url} sent other bytes than those of the changeset {id}")
@@ -365,7 +430,32 @@ class Server:
 
     def land(self, name: str, draft: str) -> Landed:
         """Lands a draft on a bookmark."""
-        answer = self.ask_allowed("POST", f"/land/{part(name)}/{draft}", answers.LANDED)
+        return self.landed(f"/land/{part(name)}/{draft}")
+
+    def land_stack(self, name: str, changesets: Sequence[Changeset]) -> Landed:
+        """Stores changesets, parents first, and lands the last on a bookmark, by one request where
+        that holds them. A refusal tells the place (`at`) of what is refused, the landing behind
+        them; what stands before it is stored."""
+        *earlier, last = batches(changesets)
+        start = sum(map(len, earlier))
+        self.put_changesets(changesets[:start])
+        with moved_on(start):
+            return self.land_batch(name, last)
+
+    def land_batch(self, name: str, batch: Sequence[Changeset]) -> Landed:
+        """Stores and lands what one request holds; an older server is asked one after another."""
+        if self.known.takes_lists and fits(batch):
+            try:
+                return self.landed(f"/stack/{part(name)}", encode_list(batch))
+            except Refused as refusal:
+                self.go_on_without_lists(refusal)
+        self.put_batch(batch)
+        with placed(len(batch)):
+            return self.land(name, batch[-1].id)
+
+    def landed(self, target: str, body: bytes | None = None) -> Landed:
+        """What a landing answers."""
+        answer = self.ask_allowed("POST", target, answers.LANDED, body)
         return Landed(answer["head"], answer["ids"], answer["old"])
 
     def ask_allowed(
@@ -436,6 +526,27 @@ class Server:
         """A changeset and its ancestors that set a path or took it away, newest first."""
         target = f"/pathlog/{id}/{long_part(path)}"
         return self.ask_json("GET", target, answers.PATH_LOG, derives=True)["ids"]
+
+
+@contextmanager
+def placed(at: int) -> Iterator[None]:
+    """Has a refusal tell its place in a list, as it does where that went by one request."""
+    try:
+        yield
+    except Refused as refusal:
+        refusal.members.setdefault("at", at)
+        raise
+
+
+@contextmanager
+def moved_on(start: int) -> Iterator[None]:
+    """Has a refusal tell its place in a longer list, of which so many went before."""
+    try:
+        yield
+    except Refused as refusal:
+        if "at" in refusal.members:
+            refusal.members["at"] += start
+        raise
 
 
 def parts_of(url: str) -> SplitResult:

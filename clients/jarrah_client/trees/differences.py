@@ -7,6 +7,8 @@ from collections.abc import Callable, Iterator
 from ..formats.changesets import File
 from ..formats.nodes import Directory, Entries
 from ..formats.paths import joined, path_key
+from ..refusals import Refused
+from .changed import ChangedTree
 from .tree import FsnodeTree, Tree
 
 Difference = tuple[str, "File | None", "File | None"]
@@ -24,11 +26,30 @@ def differences(old: Tree, new: Tree, looks_into: Wants | None = None) -> list[D
     """
     if isinstance(old, FsnodeTree) and isinstance(new, FsnodeTree):
         found = by_nodes(old, new, looks_into or (lambda _: True))
+    elif isinstance(new, ChangedTree):
+        found = by_changes(old, new, looks_into)
     else:
         left, right = dict(old.files()), dict(new.files())
         paths = left.keys() | right.keys()
         found = ((path, left.get(path), right.get(path)) for path in paths)
     return sorted((one for one in found if one[1] != one[2]), key=lambda one: path_key(one[0]))
+
+
+def by_changes(old: Tree, new: ChangedTree, looks_into: Wants | None) -> Iterator[Difference]:
+    """The same of a tree that was made of another by a changeset."""
+    befores = {path: before for path, before, _ in differences(old, new.below, looks_into)}
+    for path in befores.keys() | new.touched():
+        yield path, befores.get(path) or found_at(old, path), found_at(new, path)
+
+
+def found_at(tree: Tree, path: str) -> File | None:
+    """The file at a path, or None."""
+    try:
+        return tree.file(path)
+    except Refused as refusal:
+        if refusal.code not in ("no-path", "not-a-file"):
+            raise
+        return None
 
 
 def by_nodes(old: FsnodeTree, new: FsnodeTree, looks_into: Wants) -> Iterator[Difference]:

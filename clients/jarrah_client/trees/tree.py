@@ -15,6 +15,7 @@ from ..net.pipeline import fsnodes
 from ..net.server import Server
 from ..refusals import Refused
 from ..terminal.progress import Progress
+from .changed import ChangedTree
 from .folded import Listing, folded, folded_history, folded_path_log, no_path, not_a_file, touches
 
 Told = TypeVar("Told")
@@ -139,7 +140,11 @@ def by_nodes_or_past(
 
 
 def tree_of(server: Server, id: str, *, fold: bool = False) -> Tree:
-    """The tree of a changeset: by fsnodes where the server has that route, else folded."""
+    """The tree of a changeset: by fsnodes where the server has that route, else folded. Of one that
+    isn't stored yet it is that of its parent, changed."""
+    made = server.unsent.get(id)
+    if made and made.parent and not fold:
+        return ChangedTree(tree_of(server, made.parent), made)
     return by_nodes_or_past(server, id, fold, lambda: fsnode_tree(server, id), folded)
 
 
@@ -161,8 +166,22 @@ def history_of(server: Server, id: str, path: str, *, fold: bool = False) -> lis
 
 def path_log_of(server: Server, id: str, path: str, *, fold: bool = False) -> list[str]:
     """The changesets that set a file or took it away, newest first, also before that."""
+    made = server.unsent.get(id)
+    if made and made.parent and not fold:
+        return made_log(server, made, made.parent, path)
     by_nodes = partial(server.path_log, id, path)
     return by_nodes_or_past(server, id, fold, by_nodes, lambda past: folded_path_log(past, path))
+
+
+def made_log(server: Server, made: Changeset, parent: str, path: str) -> list[str]:
+    """The same of a changeset that isn't stored yet."""
+    newest = [made.id] if touches(made, path) else []
+    try:
+        return newest + path_log_of(server, parent, path)
+    except Refused as refusal:
+        if refusal.code != "no-path" or not newest:
+            raise
+        return newest
 
 
 def followed_log(

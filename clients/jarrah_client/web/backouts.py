@@ -25,8 +25,9 @@ def backout(visit: Visit, question: Question, body: bytes) -> dict[str, Any]:
     wanted = Wanted(target, place, question.name)
     made = back_out(visit.server, visit.own_log(), wanted, words)
     if is_draft:
+        visit.server.put_changeset(made.changeset)
         return changeset_document(made.changeset) | made.told
-    return put_on(visit, question.name, made.changeset.id, allows) | made.told
+    return put_on(visit, question.name, made.changeset.id, allows, [made.changeset]) | made.told
 
 
 def place_of(question: Question) -> int | None:

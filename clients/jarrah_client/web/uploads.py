@@ -5,6 +5,7 @@ from __future__ import annotations
 import base64
 import binascii
 import json
+from collections.abc import Sequence
 from typing import Any
 
 from ..drafting import landing
@@ -58,9 +59,12 @@ def upload(visit: Visit, _: Question, body: bytes) -> dict[str, Any]:
     parent = visit.resolve(name) if name else None
     changes, contents = read_changes(visit, members.take("changes", list), parent)
     changeset = made(parent, words, changes)
-    store(visit, changeset, contents)
+    store_contents(visit, changeset, contents)
     answer = brief(changeset) | {"landed": None}
-    return answer | {"landed": put_on(visit, land, changeset.id, allows)} if land else answer
+    if land:
+        return answer | {"landed": put_on(visit, land, changeset.id, allows, [changeset])}
+    visit.server.put_changeset(changeset)
+    return answer
 
 
 def members_of(body: bytes, known: set[str]) -> Members:
@@ -83,11 +87,10 @@ def words_of(members: Members, message: str) -> Words:
     )
 
 
-def store(visit: Visit, changeset: Changeset, contents: dict[str, Source]) -> None:
-    """Uploads contents and a changeset, once it has a spelling."""
+def store_contents(visit: Visit, changeset: Changeset, contents: dict[str, Source]) -> None:
+    """Uploads the contents of a changeset, once it has a spelling, over the visit's connection."""
     _ = changeset.encoded
-    store_all(visit.server, contents.values(), quietly=True)
-    visit.server.put_changeset(changeset)
+    store_all(visit.server, contents.values(), quietly=True, connections=1)
 
 
 def read_changes(
@@ -144,11 +147,14 @@ def land(visit: Visit, question: Question, _: bytes) -> dict[str, Any]:
     return put_on(visit, question.name, visit.resolve(question.path), allows)
 
 
-def put_on(visit: Visit, bookmark: str, draft: str, allows_empty: bool) -> dict[str, Any]:
-    """The same by the draft's id, which a refusal names too."""
+def put_on(
+    visit: Visit, bookmark: str, draft: str, allows_empty: bool, new: Sequence[Changeset] = ()
+) -> dict[str, Any]:
+    """The same by the draft's id, which a refusal of the landing names too."""
     try:
-        landed = landing.land(visit.server, bookmark, draft, allows_empty=allows_empty)
+        landed = landing.land(visit.server, bookmark, draft, allows_empty=allows_empty, new=new)
     except Refused as refusal:
-        refusal.members.setdefault("draft", draft)
+        if not new or refusal.members.get("at") == len(new):
+            refusal.members.setdefault("draft", draft)
         raise
     return {"bookmark": bookmark, "head": landed.head, "ids": landed.ids, "old": landed.old}

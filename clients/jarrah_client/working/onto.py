@@ -6,13 +6,12 @@ from dataclasses import dataclass, field
 
 from ..formats.changesets import Changeset, CopySource, File
 from ..history.reads import file_at
-from ..net.contents import in_memory
+from ..net.contents import in_memory, store_all
 from ..net.server import Server
-from ..refusals import Refused
+from ..trees.changed import is_directory
 from ..trees.tree import Tree, tree_of
 from .merging import HERE, merge_file, moved_twice
 from .renamed import place_there
-from .stack import upload
 
 
 @dataclass
@@ -166,16 +165,14 @@ def taken_away(tree: Tree, path: str) -> list[str]:
     return found + [other for other, _ in below]
 
 
-def is_directory(tree: Tree, path: str) -> bool:
-    """Whether a directory is at a path."""
-    try:
-        tree.file(path)
-    except Refused as refusal:
-        return refusal.code == "not-a-file"
-    return False
-
-
-def store(server: Server, changeset: Changeset, onto: Onto) -> Changeset:
-    """Uploads a changeset of such changes, their new bytes first."""
-    upload(server, changeset, {id: in_memory(id, data) for id, data in onto.contents.items()})
+def hold(server: Server, changeset: Changeset, onto: Onto) -> Changeset:
+    """Uploads the new bytes of a changeset, which is stored later, together with others."""
+    store_contents(server, changeset, onto)
+    server.unsent[changeset.id] = changeset
     return changeset
+
+
+def store_contents(server: Server, changeset: Changeset, onto: Onto) -> None:
+    """Uploads the new bytes of a changeset's changes, once it has a spelling."""
+    _ = changeset.encoded
+    store_all(server, [in_memory(id, data) for id, data in onto.contents.items()])

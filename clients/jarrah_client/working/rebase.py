@@ -13,7 +13,7 @@ from ..terminal.output import title
 from ..text.diff import has_marks
 from . import disk, sides
 from .moves import move
-from .onto import Onto, put_draft_onto, store
+from .onto import Onto, hold, put_draft_onto
 from .scan import look_into, scan
 from .stack import amended, keep_all, need_bookmark, need_no_conflict, need_settled, take, upload
 from .state import EDIT, FOLD, PICK, Rebase, WorkingCopy
@@ -101,10 +101,10 @@ def placed(
         done.dropped.append(draft.id)
     elif word == FOLD and done.drafts:
         below = server.changeset(done.drafts.pop())
-        take_in(done, store(server, folded(server, below, draft, onto), onto))
+        take_in(done, hold(server, folded(server, below, draft, onto), onto))
     else:
         new = draft.changing(onto.changes, onto.copies, parents=(parent,), message=said)
-        take_in(done, store(server, new, onto))
+        take_in(done, hold(server, new, onto))
     return onto
 
 
@@ -121,7 +121,8 @@ def folded(server: Server, below: Changeset, draft: Changeset, onto: Onto) -> Ch
 
 
 def settle(copy: WorkingCopy, server: Server, done: Rebased) -> None:
-    """Brings the folder to what is done."""
+    """Has the new drafts stored, by one request, and brings the folder to what is done."""
+    server.put_unsent()
     moved = move(copy, server, done.drafts[-1] if done.drafts else done.head)
     state = copy.state
     state.root, state.drafts, state.rebase = done.head, list(done.drafts), None

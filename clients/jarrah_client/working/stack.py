@@ -2,7 +2,7 @@
 
 from __future__ import annotations
 
-from collections.abc import Iterable
+from collections.abc import Iterable, Sequence
 from dataclasses import dataclass, field
 
 from ..drafting import landing
@@ -11,7 +11,7 @@ from ..formats.paths import path_key
 from ..history.reads import file_at
 from ..net.contents import Source, store_all
 from ..net.server import Landed, Server, Trouble
-from ..refusals import Refused
+from ..refusals import Fault, Refused
 from ..terminal.output import counted, title
 from ..trees.tree import tree_of
 from .moves import Moved, move
@@ -89,9 +89,14 @@ def taken(copy: WorkingCopy, found: Scan) -> Taken:
 
 def upload(server: Server, changeset: Changeset, contents: dict[str, Source]) -> None:
     """Uploads the contents of a changeset, and then the changeset."""
+    upload_contents(server, changeset, contents)
+    server.put_changeset(changeset)
+
+
+def upload_contents(server: Server, changeset: Changeset, contents: dict[str, Source]) -> None:
+    """Uploads the contents of a changeset, once it has a spelling."""
     _ = changeset.encoded
     store_all(server, contents.values())
-    server.put_changeset(changeset)
 
 
 def made(
@@ -132,11 +137,43 @@ def commit(copy: WorkingCopy, server: Server, words: Words, found: Taken) -> Cha
     """Makes a draft of what is changed, onto the base."""
     changeset = made(copy.state.base, words, found.changes, found.copies)
     upload(server, changeset, found.contents)
-    copy.state.drafts.append(changeset.id)
-    know(copy, changeset)
-    keep_all(copy, found.changes)
+    keep_draft(copy, changeset)
     copy.save()
     return changeset
+
+
+def keep_draft(copy: WorkingCopy, changeset: Changeset) -> None:
+    """Has a new draft be the last."""
+    copy.state.drafts.append(changeset.id)
+    know(copy, changeset)
+    keep_all(copy, changeset.changes)
+
+
+def commit_and_land(
+    copy: WorkingCopy, server: Server, words: Words, found: Taken, allows_empty: bool
+) -> tuple[Landed, Moved]:
+    """Makes a draft of what is changed, and lands it with those below by one request.
+
+    Where that goes wrong the draft is kept as by a commit, if it is stored.
+    """
+    changeset = made(copy.state.base, words, found.changes, found.copies)
+    upload_contents(server, changeset, found.contents)
+    keep_draft(copy, changeset)
+    try:
+        return land(copy, server, allows_empty, [changeset])
+    except Fault as fault:
+        if not landing.refused_one(fault, [changeset]) and is_stored(server, changeset):
+            copy.save()
+        raise
+
+
+def is_stored(server: Server, changeset: Changeset) -> bool:
+    """Whether a changeset is stored, if need be now."""
+    try:
+        server.put_changeset(changeset)
+    except Fault:
+        return False
+    return True
 
 
 def know(copy: WorkingCopy, changeset: Changeset) -> None:
@@ -155,16 +192,17 @@ def keep_all(copy: WorkingCopy, changes: dict[str, File | None]) -> None:
 
 
 def land(
-    copy: WorkingCopy, server: Server, allows_empty: bool = False
+    copy: WorkingCopy, server: Server, allows_empty: bool = False, new: Sequence[Changeset] = ()
 ) -> tuple[Landed, Moved]:
-    """Lands the drafts on the bookmark, and brings the folder to the new head."""
+    """Lands the drafts on the bookmark, the last of which may be new to the server, and brings the
+    folder to the new head."""
     need_settled(copy)
     draft, name = copy.state.base, need_bookmark(copy)
     if not copy.state.drafts:
         raise Trouble(f"there are no drafts to land on {name}")
     try:
         on = copy.state.root
-        landed = landing.land(server, name, draft, allows_empty=allows_empty, on=on)
+        landed = landing.land(server, name, draft, allows_empty=allows_empty, on=on, new=new)
     except Refused as refusal:
         if refusal.code == "already-in":
             copy.state.root, copy.state.drafts = draft, []

@@ -12,10 +12,10 @@ from ..refusals import Refused
 from ..trees.differences import differences
 from ..trees.tree import tree_of
 from .moves import keep, move
-from .onto import put_onto, store
+from .onto import Onto, hold, put_onto
 from .rebase import Rebased, go_on, need_clean, placed, step_of, take_in
 from .scan import is_in
-from .stack import amended, need_bookmark, need_settled, take, upload
+from .stack import amended, need_bookmark, need_settled, take
 from .state import EDIT, FOLD, PICK, REWORD, WorkingCopy
 
 DROP = "drop"
@@ -80,6 +80,7 @@ def drop(copy: WorkingCopy, server: Server, gone: list[str], keeps: bool) -> Reb
         need_clean(copy)
         return go_on(copy, server, Rebased(copy.state.root, [], []), rest)
     done = replayed(server, Rebased(copy.state.root, [], []), rest)
+    server.put_unsent()
     stay(copy, server, done.drafts[-1] if done.drafts else done.head)
     copy.state.drafts = list(done.drafts)
     copy.state.titles |= done.titles
@@ -113,13 +114,14 @@ def split(
     below = old.changing(first, message=message)
     copies = {path: one for path, one in old.copies.items() if one.path not in gone}
     above = old.changing(second, copies, parents=(below.id,))
-    upload(server, below, {})
-    upload(server, above, {})
+    hold(server, below, Onto())
+    hold(server, above, Onto())
     at = drafts.index(id)
     done = Rebased(copy.state.root, drafts[:at], [])
     take_in(done, below)
     take_in(done, above)
     replayed(server, done, drafts[at + 1 :])
+    server.put_unsent()
     stay(copy, server, done.drafts[-1])
     copy.state.drafts = list(done.drafts)
     copy.state.titles |= done.titles
@@ -148,11 +150,12 @@ def amend_below(
     new = amended(server, old, onto.changes, found.copies, **words)
     if new == old:
         raise Trouble("nothing is changed")
-    store(server, new, onto)
+    hold(server, new, onto)
     at = drafts.index(id)
     done = Rebased(copy.state.root, drafts[:at], [])
     take_in(done, new)
     replayed(server, done, drafts[at + 1 :])
+    server.put_unsent()
     stay(copy, server, done.drafts[-1])
     copy.state.drafts = list(done.drafts)
     copy.state.titles |= done.titles

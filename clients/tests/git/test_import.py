@@ -230,7 +230,10 @@ class Whole(Case):
         )
         ran = jarrah(*words, server=narrow.url)
         self.assertEqual((ran.status, ran.complaint.count("\n")), (1, 1))
-        where = f"stopped at commit {self.line[50][:12]} (run again to go on)"
+        # What became of the others that were sent with the fifty isn't known: they are sent again.
+        done = len((self.folder / "marks").read_text().splitlines()) - 1
+        self.assertLessEqual(done, 50)
+        where = f"stopped at commit {self.line[done][:12]} (run again to go on)"
         self.assertTrue(
             ran.complaint.startswith(f"jarrah: {where}: {narrow.url} broke off"), ran.err
         )

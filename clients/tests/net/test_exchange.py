@@ -8,57 +8,25 @@ from __future__ import annotations
 
 import json
 import random
-import socket
 import time
 import unittest
 from dataclasses import replace
-from urllib.parse import urlsplit
 
-from jarrah_client.formats.changesets import Changeset, CopySource, File, digest
+from jarrah_client.formats.changesets import CopySource, File, digest
 
 from ..formats.test_encoding import ABC, COPIES_P, EMPTY, NIL, SETS_P, B, C, laid_out
-from ..harness import Case, fresh
+from ..harness import fresh
 from ..stand_in.repository import Repository
 from ..stand_in.spelling import Refusal
+from ..wire import Wire, landed
 
 NOTHING = "0" * 64
 CLOCKS_DIFFER = 60
 """Seconds by which a server's clock may differ from the test's."""
 
 
-class Exchange(Case):
-    """One connection at a time, with raw bytes."""
-
-    def session(self, sent: bytes, *, piece: int | None = None) -> bytes:
-        """All that the server writes to these bytes and their end."""
-        url = urlsplit(self.server)
-        with socket.create_connection((url.hostname, url.port), timeout=20) as link:
-            link.setsockopt(socket.IPPROTO_TCP, socket.TCP_NODELAY, 1)
-            for at in range(0, len(sent), piece or len(sent)):
-                link.sendall(sent[at : at + (piece or len(sent))])
-            link.shutdown(socket.SHUT_WR)
-            found = b""
-            while data := link.recv(65_536):
-                found += data
-        return found
-
-    def one(self, method: str, target: str, body: bytes | None = None) -> tuple[int, bytes]:
-        """The status and the body of one response."""
-        length = f"Content-Length: {len(body)}\r\n" if body is not None else ""
-        head = f"{method} {target} HTTP/1.1\r\n{length}\r\n".encode()
-        found = self.session(head + (body or b""))
-        first, _, rest = found.partition(b"\r\n\r\n")
-        return int(first.split()[1]), rest
-
-    def answers(self, method: str, target: str, body: bytes | None, status: int, text: str) -> None:
-        """Asserts a response's status and whole body."""
-        self.assertEqual(self.one(method, target, body), (status, text.encode()), target)
-
-    def store(self, changeset: Changeset) -> str:
-        """Stores a changeset by its spelling."""
-        text = f'{{"code":"changeset","id":"{changeset.id}"}}'
-        self.answers("PUT", "/changeset", changeset.encoded, 200, text)
-        return changeset.id
+class Exchange(Wire):
+    """Each route, and what else is answered."""
 
     def test_a_content(self):
         sent = b"PUT /content HTTP/1.1\r\nContent-Length: 3\r\n\r\nabc"
@@ -311,12 +279,6 @@ class Exchange(Case):
             b"GET /bookmark/%20 HTTP/1.1\r\nConnection: x, Close\r\n\r\n",
         ):
             self.assertEqual(self.session(sent + after).count(b"HTTP/1.1 400"), 1)
-
-
-def landed(ids: list[str], old: str) -> str:
-    """The body of a landing."""
-    listed = ",".join(f'"{id}"' for id in ids)
-    return f'{{"code":"landed","head":"{ids[-1]}","ids":[{listed}],"old":"{old}"}}'
 
 
 class Limits(unittest.TestCase):

@@ -15,7 +15,7 @@ from urllib.parse import unquote_to_bytes
 
 from .policy import NOBODY
 from .repository import Repository
-from .spelling import MOST, Refusal, is_name, name_place, path_place
+from .spelling import MOST, Refusal, is_name, listed, name_place, path_place
 
 MOST_HEAD = 16_384
 MOST_HEADERS = 64
@@ -42,10 +42,12 @@ ROUTES = [
     (r"/content/([^/]+)", "GET", "content"),
     (r"/changeset", "PUT", "put_changeset"),
     (r"/changeset/([^/]+)", "GET", "changeset"),
+    (r"/changesets", "PUT", "put_changesets"),
     (r"/copies/([^/]+)", "GET", "copies"),
     (r"/bookmark/([^/]+)/([^/]+)/([^/]+)", "PUT", "set_bookmark"),
     (r"/bookmark/([^/]+)", "GET", "head"),
     (r"/land/([^/]+)/([^/]+)", "POST", "land"),
+    (r"/stack/([^/]+)", "POST", "land_stack"),
     (r"/log/([^/]+)", "GET", "log"),
     (r"/fsnode/([^/]+)(?:/(.+))?", "GET", "fsnode"),
     (r"/unode/([^/]+)(?:/(.+))?", "GET", "unode"),
@@ -60,10 +62,13 @@ ROUTES = [
 LATER_ROUTES = ("fsnode", "unode", "history", "deleted", "path_log")
 """The routes of manifests."""
 
-BODIES = ("put_content", "put_changeset", "put_whole", "set_policy")
-STORES = tuple(pattern for pattern, method, call in ROUTES if call in BODIES)
+LIST_ROUTES = ("put_changesets", "land_stack")
+"""The routes that take a list of changesets, which an older server doesn't have."""
+SIZED = ("put_content", "put_changeset", "put_whole", "set_policy")
+BODIES = (*SIZED, *LIST_ROUTES)
+STORES = tuple(pattern for pattern, method, call in ROUTES if call in SIZED)
 """The targets of which a body's length has to be told."""
-BY_CALLERS = ("land", "set_bookmark", "set_policy")
+BY_CALLERS = ("land", "land_stack", "set_bookmark", "set_policy")
 BYTES = ("content", "changeset", "fsnode", "unode", "deleted", "policy")
 JSON, OCTETS = "application/json", "application/octet-stream"
 
@@ -169,6 +174,7 @@ PARAMETERS: dict[str, list[tuple[str, Callable]]] = {
     "set_bookmark": [("bad-name", name_of), ("bad-id", optional_id), ("bad-id", optional_id)],
     "head": [("bad-name", name_of)],
     "land": [("bad-name", name_of), ("bad-id", id_of)],
+    "land_stack": [("bad-name", name_of)],
     "log": [("bad-number", number_of)],
     "fsnode": [("bad-id", id_of), ("bad-path", path_of)],
     "unode": [("bad-id", id_of), ("bad-path", path_of)],
@@ -201,16 +207,22 @@ def body(code: str, members: dict) -> bytes:
     return json.dumps(document, separators=(",", ":"), ensure_ascii=False).encode()
 
 
+def told(refusal: Refusal) -> bytes:
+    """A refusal's body; its place in a list comes behind the other members."""
+    plain = body(refusal.code, refusal.members)
+    return plain if refusal.at is None else plain[:-1] + b',"at":%d}' % refusal.at
+
+
 class Service:
     """Answers requests of one repository, one at a time."""
 
-    def __init__(self, repository: Repository, has_manifests: bool):
+    def __init__(self, repository: Repository, lacks: tuple[str, ...] = ()):
         self.repository = repository
         self.turn = threading.Lock()
         self.routes = [
             (re.compile(pattern, re.DOTALL), method, call)
             for pattern, method, call in ROUTES
-            if has_manifests or call not in LATER_ROUTES
+            if call not in lacks
         ]
 
     def answer(self, head: Head, data: bytes) -> Answer:
@@ -219,7 +231,7 @@ class Service:
             return self.routed(head, data)
         except Refusal as refusal:
             allow = refusal.members.pop("allow", "")
-            return Answer(refusal.status, body(refusal.code, refusal.members), allow=allow)
+            return Answer(refusal.status, told(refusal), allow=allow)
 
     def routed(self, head: Head, data: bytes) -> Answer:
         if not head.target.startswith("/"):
@@ -251,6 +263,10 @@ class Service:
     def put_changeset(self, data: bytes) -> bytes:
         return body("changeset", {"id": self.repository.put_changeset(data)})
 
+    def put_changesets(self, data: bytes) -> bytes:
+        ids = self.repository.put_changesets(listed(data))
+        return body("changeset", {"id": ids[-1]})
+
     def changeset(self, id: str) -> bytes:
         return self.repository.changeset(id).data
 
@@ -276,6 +292,9 @@ class Service:
 
     def land(self, caller: str, name: str, id: str) -> bytes:
         return body("landed", self.repository.land(name, id, caller))
+
+    def land_stack(self, caller: str, name: str, data: bytes) -> bytes:
+        return body("landed", self.repository.land_stack(name, listed(data), caller))
 
     def log(self, start: int) -> bytes:
         page = self.repository.log(start)
@@ -378,6 +397,7 @@ class StandIn(ThreadingHTTPServer):
         capacity: int = 34_359_738_368,
         lanes: int | None = None,
         has_manifests: bool = True,
+        has_lists: bool = True,
         idle_seconds: float | None = None,
         version: int = 2,
         merges: bool = False,
@@ -385,7 +405,8 @@ class StandIn(ThreadingHTTPServer):
         super().__init__(("127.0.0.1", port), Session)
         self.idle_seconds = idle_seconds
         self.repository = Repository(capacity, version, merges)
-        self.service = Service(self.repository, has_manifests)
+        lacks = (() if has_manifests else LATER_ROUTES) + (() if has_lists else LIST_ROUTES)
+        self.service = Service(self.repository, lacks)
         self.lanes = threading.Semaphore(lanes) if lanes else nullcontext()
         self.url = f"http://127.0.0.1:{self.server_address[1]}"
 

@@ -3,6 +3,8 @@
 from __future__ import annotations
 
 import time
+from collections.abc import Iterator, Sequence
+from contextlib import contextmanager
 
 from .manifests import Manifests
 from .policy import NOBODY, Rule, read_policy, refuse_denied
@@ -101,6 +103,20 @@ class Repository:
             self.append(len(data), {"kind": "changeset", "id": record.id})
             self.changesets[record.id] = record
         return record.id
+
+    def put_changesets(self, spellings: Sequence[bytes]) -> list[str]:
+        """Stores changesets one after another, up to the first that is refused."""
+        ids: list[str] = []
+        for at, data in enumerate(spellings):
+            with placed(at):
+                ids.append(self.put_changeset(data))
+        return ids
+
+    def land_stack(self, name: str, spellings: Sequence[bytes], caller: str = NOBODY) -> dict:
+        """The same, and lands the last."""
+        ids = self.put_changesets(spellings)
+        with placed(len(ids)):
+            return self.land(name, ids[-1], caller)
 
     def refuse_unresolved(self, record: Record) -> None:
         """Refuses a merge that leaves its parents' trees against one another."""
@@ -226,6 +242,16 @@ class Repository:
 
     def log(self, start: int) -> dict:
         return {"entries": self.entries[start : start + PAGE], "total": len(self.entries)}
+
+
+@contextmanager
+def placed(at: int) -> Iterator[None]:
+    """Has a refusal tell its place in a list."""
+    try:
+        yield
+    except Refusal as refusal:
+        refusal.at = at
+        raise
 
 
 def touched(records: list[Record]) -> list[str]:

@@ -11,6 +11,7 @@ from hashlib import sha256
 MOST = 1_048_576
 MOST_SIZE = 67_108_864
 LAST_SECOND = 2**63 - 1
+MOST_LISTED = 100
 
 
 def digest(data: bytes) -> str:
@@ -25,6 +26,8 @@ class Refusal(Exception):
         self.status = status
         self.code = code
         self.members = members
+        self.at: int | None = None
+        """The place in a list of what was refused."""
 
 
 @dataclass(frozen=True)
@@ -128,6 +131,16 @@ class Reader:
     def number(self, count: int, least: int, most: int) -> int:
         piece = self.take(count, lambda p: least <= int.from_bytes(p, "big") <= most)
         return int.from_bytes(piece, "big")
+
+
+def listed(data: bytes) -> list[bytes]:
+    """The spellings of a list, each behind its length, or where it is at fault."""
+    reader, found = Reader(data), []
+    while not found or reader.at < len(data):
+        if len(found) == MOST_LISTED:
+            raise Refusal(422, "bad-encoding", place=reader.at)
+        found.append(reader.take(reader.number(4, 0, 2**32 - 1)))
+    return found
 
 
 def read_changeset(data: bytes) -> Record:
