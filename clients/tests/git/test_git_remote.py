@@ -7,10 +7,12 @@ import os
 import shutil
 import subprocess
 import unittest
+from collections.abc import Sequence
 from contextlib import redirect_stderr
 from itertools import product
 from unittest import mock
 
+from jarrah_client.formats.changesets import Changeset
 from jarrah_client.git import importing
 from jarrah_client.git_remote import landing
 from jarrah_client.git_remote.bodies import BadBody, body_of
@@ -145,20 +147,20 @@ class Landings(KeptCase):
     """Answers that no quick test gets through git's own client."""
 
     def test_an_answer_that_gets_lost(self):
-        ask, real = Server(self.server), Server.land
+        ask, real = Server(self.server), Server.land_stack
 
-        def lost(server: Server, name: str, draft: str):
-            real(server, name, draft)
+        def lost(server: Server, name: str, changesets: Sequence[Changeset]):
+            real(server, name, changesets)
             raise NotReached("the line was cut")
 
         commit = self.commit("a")
-        with mock.patch.object(Server, "land", lost):
+        with mock.patch.object(Server, "land_stack", lost):
             outcome = self.pushed(commit, ask)
         self.assertEqual(outcome.report[0], f"ok refs/for/{self.trunk}")
         self.assertIn(f"as {commit[:12]}", outcome.words)
         self.assertEqual(len(self.landings()), 2)
         with mock.patch.object(landing, "LOST_SECONDS", (0.0,)):
-            with mock.patch.object(Server, "land", side_effect=NotReached("nobody")):
+            with mock.patch.object(Server, "land_stack", side_effect=NotReached("nobody")):
                 outcome = self.pushed(self.commit("b"))
         self.assertRegex(outcome.report[0], "^ng .*answer was lost.*push again")
         self.assertEqual(len(self.landings()), 2)
@@ -184,7 +186,7 @@ class Landings(KeptCase):
         self.assertEqual(len(self.landings()), 1)
 
     def test_a_refusal_of_the_server(self):
-        faulty = mock.patch.object(Server, "put_changeset", side_effect=ValueError("odd"))
+        faulty = mock.patch.object(Server, "land_stack", side_effect=ValueError("odd"))
         with faulty:
             words = self.pushed(self.commit("a")).report[0]
         self.assertIn("the remote failed: ValueError: odd", words)
